@@ -1,0 +1,30 @@
+-- `trace::frame::distance_at` meets its contract.
+-- Assumes nothing.
+use Rattle.trace.specs.Reading.{distance}
+use borrow.Author.Needs.{needs}
+use Rattle.trace.proofs.frame.distance_at.Statement.{statement}
+use Rattle.trace.proofs.frame.distance_at.Tie as tie
+
+two-bytes-requires : tie.Need-two-bytes-requires
+two-bytes-requires c κs = search needs
+
+add-two-bytes : tie.Need-add-two-bytes
+add-two-bytes c = search needs
+
+two-bytes-requires-2 : tie.Need-two-bytes-requires-2
+two-bytes-requires-2 c κs = search needs
+
+mul-result : tie.Need-mul-result
+mul-result c = search needs
+
+add-result : tie.Need-add-result
+add-result c = search needs
+
+returns : tie.Need-returns
+unfolding distance
+returns c = cc
+
+pub distance-at-spec : {M : Type 1} → statement M
+distance-at-spec =
+    tie.close
+    (tie.spec two-bytes-requires add-two-bytes two-bytes-requires-2 mul-result add-result returns)

@@ -1,0 +1,13 @@
+-- `trace::marks::none` meets its contract.
+-- Assumes nothing.
+use mathlib.Core.Path.{refl}
+use Rattle.trace.specs.Marks.{noMarks}
+use Rattle.trace.proofs.marks.none.Statement.{statement}
+use Rattle.trace.proofs.marks.none.Tie as tie
+
+returns : tie.Need-returns
+unfolding noMarks
+returns c = refl
+
+pub none-spec : {M : Type 1} → statement M
+none-spec = tie.close (tie.spec returns)

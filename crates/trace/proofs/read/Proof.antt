@@ -1,0 +1,68 @@
+-- `trace::read` meets its contract.
+-- Assumes nothing.
+use Rattle.trace.proofs.Accepted.{framed, records-length}
+use Rattle.trace.proofs.Reading.{enum}
+use Rattle.trace.specs.Reading.{readReply, recordsReply, recordsIn}
+use Rattle.trace.specs.Paper.{paper}
+use Rattle.trace.specs.declared.Reading.the-variants.{Accepted, Refused}
+use Rattle.trace.specs.declared.Reading.{Reading}
+use denote.Enum.Declared.{tagOf, declared}
+use Prim.Native.Nat.{ℕ}
+use native.Mathlib.Omega.{arith}
+use mathlib.Core.Path.{_≡_, refl, sym, ap, _∙_}
+use mathlib.Core.List.{List}
+use denote.Ref.{now}
+use borrow.Author.Needs.{needs}
+use Rattle.trace.proofs.read.Statement.{statement}
+use Rattle.trace.proofs.read.Tie as tie
+
+-- a refusal goes through unchanged
+refused-same : (b : List ℕ) (f : Reading) → tagOf (declared enum) f ≡ 1 → paper f ≡ recordsReply b (paper f)
+unfolding recordsReply
+refused-same b (Accepted t) e = absurd (omega arith)
+refused-same b (Refused x) e = refl
+
+frame-requires : tie.Need-frame-requires
+frame-requires c κs = search needs
+
+enum-known-framed : tie.Need-enum-known-framed
+enum-known-framed c = search needs
+
+enum-told : tie.Need-enum-told
+enum-told c = search needs
+
+returns : tie.Need-returns
+unfolding readReply
+returns c =
+    let b = now (c .before .before .before .before .args .bytes) in
+    refused-same b (c .before .before .frame .result) (c .before .match .keys2) ∙ ap (recordsReply b) (c .before .before .frame .ensures)
+
+records-requires : tie.Need-records-requires
+records-requires c κs = search needs
+
+scan-requires : tie.Need-scan-requires
+unfolding recordsIn
+scan-requires c κs =
+    let b = now (c .before .before .before .before .before .before .args .bytes) in
+    let t = c .before .before .framed .given .0 .0 in
+    let fr = framed b (t .start) (t .records) (t .events) (sym (ap paper (c .before .before .framed .given .1)) ∙ c .before .before .before .before .frame .ensures) in
+    let ends = fr .ends in
+    (sym (records-length b (t .start) (t .records) (omega arith)) ∙ simp (c .records .ensures), fr .few)
+
+returns-2 : tie.Need-returns-2
+unfolding readReply recordsReply recordsIn
+returns-2 c =
+    let b = now (c .before .before .before .before .before .before .before .args .bytes) in
+    c .scan .ensures ∙ simp (c .before .records .ensures) (ap (recordsReply b) (sym (ap paper (c .before .before .before .framed .given .1)) ∙ c .before .before .before .before .before .frame .ensures))
+
+pub read-spec : {M : Type 1} → statement M
+read-spec =
+    tie.close
+    (tie.spec
+    frame-requires
+    enum-known-framed
+    enum-told
+    returns
+    records-requires
+    scan-requires
+    returns-2)

@@ -1,0 +1,8 @@
+pub mod Bytes
+pub mod Records
+pub mod Place
+pub mod Rule
+pub mod Reading
+pub mod Paper
+pub mod Encoding
+pub mod Marks
