@@ -5,3 +5,6 @@ pub mod Upward
 pub mod Marked
 pub mod Going
 pub mod Accepted
+pub mod Positions
+pub mod PlaceRule
+pub mod Blocks

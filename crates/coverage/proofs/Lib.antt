@@ -1,0 +1,15 @@
+pub mod Tests
+pub mod Lists
+pub mod Order
+pub mod Leads
+pub mod Steps
+pub mod Needed
+pub mod Some
+pub mod Entries
+pub mod Kept
+pub mod Short
+pub mod Pairs
+pub mod Bound
+pub mod Spelled
+pub mod Theorems
+pub mod Variants

@@ -1,0 +1,9 @@
+pub mod Below
+pub mod Setting
+pub mod Race
+pub mod Cover
+pub mod Arrangement
+pub mod Leading
+pub mod Neighbours
+pub mod Lists
+pub mod Demand

@@ -1,0 +1,94 @@
+-- The place rule, kind by kind.
+-- Assumes nothing.
+use Prim.Native.Nat.{ℕ, _<_, _≤_, zero-le}
+use mathlib.Core.Path.{_≡_, refl, sym, ap, _∙_}
+use mathlib.Core.Bool.{Bool, true, false, cond, _&&_, _||_}
+use mathlib.Core.Logic.{_≢_, _⊎_, inl, inr}
+use native.Mathlib.Omega.{arith}
+use native.Mathlib.Decide.{ℕ-discrete}
+use borrow.Author.Tests.{eq-eqb, ne-eqb, eqb-false, lt-ltb, le-ltb, le-leb, lt-leb}
+use lib.Dec.{leb, ltb, eqb}
+use Rattle.trace.specs.Place.{place}
+
+-- outside an event action: a begin leads inside, a join after a join
+pub data Outside (k next : ℕ) : Type 0 where
+  begins : k ≡ 1 → next ≡ 2 → Outside k next
+  joins : k ≡ 4 → next ≡ 1 → Outside k next
+
+-- inside one: an end leads out; a fork, a read and a write stay inside
+pub data Inside (k next : ℕ) : Type 0 where
+  ends : k ≡ 2 → next ≡ 0 → Inside k next
+  forks : k ≡ 3 → next ≡ 2 → Inside k next
+  reads : k ≡ 5 → next ≡ 2 → Inside k next
+  writes : k ≡ 6 → next ≡ 2 → Inside k next
+
+-- the six kinds, and no kind
+pub data KindOf (k : ℕ) : Type 0 where
+  begin : k ≡ 1 → KindOf k
+  end : k ≡ 2 → KindOf k
+  fork : k ≡ 3 → KindOf k
+  join : k ≡ 4 → KindOf k
+  read : k ≡ 5 → KindOf k
+  write : k ≡ 6 → KindOf k
+  none : (k ≡ 0) ⊎ (6 < k) → KindOf k
+
+above : (m k : ℕ) → m ≤ k → (k ≡ m → ⊥) → m < k
+above m k l n = omega arith
+
+pub kind-of : (k : ℕ) → KindOf k
+kind-of k = go (ℕ-discrete k 1) (ℕ-discrete k 2) (ℕ-discrete k 3) (ℕ-discrete k 4) (ℕ-discrete k 5) (ℕ-discrete k 6) (ℕ-discrete k 0)
+  where
+    go : Dec (k ≡ 1) → Dec (k ≡ 2) → Dec (k ≡ 3) → Dec (k ≡ 4) → Dec (k ≡ 5) → Dec (k ≡ 6) → Dec (k ≡ 0) → KindOf k
+    go (yes e) _ _ _ _ _ _ = begin e
+    go (no a) (yes e) _ _ _ _ _ = end e
+    go (no a) (no b) (yes e) _ _ _ _ = fork e
+    go (no a) (no b) (no c) (yes e) _ _ _ = join e
+    go (no a) (no b) (no c) (no d) (yes e) _ _ = read e
+    go (no a) (no b) (no c) (no d) (no f) (yes e) _ = write e
+    go (no a) (no b) (no c) (no d) (no f) (no g) (yes e) = none (inl e)
+    go (no a) (no b) (no c) (no d) (no f) (no g) (no h) = none (inr (above 6 k (above 5 k (above 4 k (above 3 k (above 2 k (above 1 k (above 0 k zero-le h) a) b) c) d) f) g))
+
+-- no kind is unknown to the table
+place-none : (s k : ℕ) → (k ≡ 0) ⊎ (6 < k) → place s k ≡ 3
+unfolding place
+place-none s k (inl e) = simp e
+place-none s k (inr h) = simp (le-leb 1 k (omega arith), lt-leb k 6 h)
+
+module _ (s k : ℕ) (known : eqb (place s k) 3 ≡ false) (placed : eqb (place s k) 4 ≡ false) where
+  not-unknown : place s k ≡ 3 → ⊥
+  not-unknown = eqb-false (place s k) 3 known
+
+  not-misplaced : place s k ≡ 4 → ⊥
+  not-misplaced = eqb-false (place s k) 4 placed
+
+  pub outside : s < 2 → Outside k (place s k)
+  unfolding place
+  outside h = go (kind-of k)
+    where
+      t : ltb s 2 ≡ true
+      t = lt-ltb s 2 h
+
+      go : KindOf k → Outside k (place s k)
+      go (begin e) = begins e (simp (e, t))
+      go (join e) = joins e (simp (e, t))
+      go (end e) = absurd (not-misplaced (simp (e, t)))
+      go (fork e) = absurd (not-misplaced (simp (e, t)))
+      go (read e) = absurd (not-misplaced (simp (e, t)))
+      go (write e) = absurd (not-misplaced (simp (e, t)))
+      go (none e) = absurd (not-unknown (place-none s k e))
+
+  pub inside : 2 ≤ s → Inside k (place s k)
+  unfolding place
+  inside h = go (kind-of k)
+    where
+      t : ltb s 2 ≡ false
+      t = le-ltb s 2 h
+
+      go : KindOf k → Inside k (place s k)
+      go (begin e) = absurd (not-misplaced (simp (e, t)))
+      go (join e) = absurd (not-misplaced (simp (e, t)))
+      go (end e) = ends e (simp (e, t))
+      go (fork e) = forks e (simp (e, t))
+      go (read e) = reads e (simp (e, t))
+      go (write e) = writes e (simp (e, t))
+      go (none e) = absurd (not-unknown (place-none s k e))
