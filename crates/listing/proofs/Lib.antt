@@ -1,0 +1,4 @@
+pub mod Decimal
+pub mod Examples
+pub mod Text
+pub mod Store

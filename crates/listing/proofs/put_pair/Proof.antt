@@ -1,0 +1,90 @@
+-- `listing::put_pair` meets its contract.
+-- Assumes nothing.
+use native.Mathlib.Omega.{arith}
+use Rattle.listing.proofs.Text.{pair-text, pair-length}
+use Rattle.listing.proofs.Store.{both, printed, no-space}
+use borrow.Author.Needs.{needs}
+use Rattle.listing.proofs.put_pair.Statement.{statement}
+use Rattle.listing.proofs.put_pair.Tie as tie
+
+width-requires : tie.Need-width-requires
+width-requires c κs = search needs
+
+add-len : tie.Need-add-len
+add-len c = search needs
+
+width-requires-2 : tie.Need-width-requires-2
+width-requires-2 c κs = search needs
+
+add-len-2 : tie.Need-add-len-2
+add-len-2 c = search needs
+
+width-requires-3 : tie.Need-width-requires-3
+width-requires-3 c κs = search needs
+
+add-len-3 : tie.Need-add-len-3
+add-len-3 c = search needs
+
+mark-width-requires : tie.Need-mark-width-requires
+mark-width-requires c κs = search needs
+
+add-len-4 : tie.Need-add-len-4
+add-len-4 c = search needs
+
+room-requires : tie.Need-room-requires
+room-requires c κs = search needs
+
+returns : tie.Need-returns
+returns c = no-space _ _ _ (rw pair-length (omega arith))
+
+put-number-requires : tie.Need-put-number-requires
+put-number-requires c κs = search needs
+
+put-number-requires-2 : tie.Need-put-number-requires-2
+put-number-requires-2 c κs = search needs
+
+put-number-requires-3 : tie.Need-put-number-requires-3
+put-number-requires-3 c κs = search needs
+
+put-shape-requires : tie.Need-put-shape-requires
+put-shape-requires c κs = search needs
+
+put-mark-requires : tie.Need-put-mark-requires
+put-mark-requires c κs = search needs
+
+same-length : tie.Need-same-length
+same-length c = search needs
+
+returns-2 : tie.Need-returns-2
+returns-2 c =
+    let mark = c .before .before in
+    let shape = mark .before .before .before .before in
+    let cell = shape .before .before .before .before in
+    let second = cell .before .before .before .before in
+    let first = second .before .before .before .before in
+    printed _
+    (pair-text _ _ _ _ _)
+    (both (first .put-number .ensures) (both (second .put-number2 .ensures) (both (cell .put-number3 .ensures) (both (shape .put-shape .ensures) (mark .put-mark .ensures)))))
+    (omega (arith, first .before))
+
+pub put-pair-spec : {M : Type 1} → statement M
+put-pair-spec =
+    tie.close
+    (tie.spec
+    width-requires
+    add-len
+    width-requires-2
+    add-len-2
+    width-requires-3
+    add-len-3
+    mark-width-requires
+    add-len-4
+    room-requires
+    returns
+    put-number-requires
+    put-number-requires-2
+    put-number-requires-3
+    put-shape-requires
+    put-mark-requires
+    same-length
+    returns-2)

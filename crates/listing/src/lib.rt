@@ -1,0 +1,170 @@
+// The printed lines of the trace program: each is written into lent bytes at a position, where it fits.
+ghost use mathlib.Core.Path.{_≡_};
+ghost use mathlib.Core.List.{[], _∷_, _++_};
+ghost use Prim.Native.Nat.{_+_, _-_, _≤_};
+ghost use lib.ListN.{length};
+ghost use Rattle.listing.specs.Lines.{decimal, shapeWord, markWord, headerLine, pairLine, refusedLine, Printed};
+ghost use Rattle.listing.specs.Pieces.{Width, Written};
+
+// How many digits n has.
+fn width(n: usize) -> usize
+    ensures { λ r. ⌜ Width n r ⌝ }
+{
+    let mut digits = 1;
+    let mut rest = n;
+    while 10 <= rest {
+        rest = rest / 10;
+        digits += 1;
+    }
+    digits
+}
+
+// How many bytes a space has from at on.
+fn room(space: usize, at: usize) -> usize
+    ensures { λ r. ⌜ r ≡ space - at ⌝ }
+{
+    if space < at {
+        return 0;
+    }
+    space - at
+}
+
+// Writes the bytes of word.
+fn put_word(out: &mut [u8], at: usize, word: &[u8]) -> usize
+    requires { ⌜ at + length (now word) ≤ length (now out) ⌝ }
+    ensures { λ r. ⌜ Written (now (out .entry)) at (now (word .entry)) (length (now (word .entry))) (now (out .exit)) r ⌝ }
+{
+    let mut i = 0;
+    while i < word.len() {
+        out[at + i] = word[i];
+        i += 1;
+    }
+    at + i
+}
+
+// Writes the digits of n, last digit first.
+fn put_digits(out: &mut [u8], at: usize, n: usize) -> usize
+    requires { ⌜ at + length (decimal n) ≤ length (now out) ⌝ }
+    ensures { λ r. ⌜ Written (now (out .entry)) at (decimal n) (length (decimal n)) (now (out .exit)) r ⌝ }
+{
+    let after = at + width(n);
+    let mut i = after - 1;
+    let mut rest = n;
+    while 10 <= rest {
+        out[i] = 48 + (rest % 10) as u8;
+        i -= 1;
+        rest = rest / 10;
+    }
+    out[i] = 48 + rest as u8;
+    after
+}
+
+// Writes the digits of n, and the byte that ends the field.
+fn put_number(out: &mut [u8], at: usize, n: usize, end: u8) -> usize
+    requires { ⌜ at + length (decimal n) + 1 ≤ length (now out) ⌝ }
+    ensures { λ r. ⌜ Written (now (out .entry)) at (decimal n ++ end ∷ []) (length (decimal n) + 1) (now (out .exit)) r ⌝ }
+{
+    let last = put_digits(out, at, n);
+    out[last] = end;
+    last + 1
+}
+
+// Writes a word, the digits of n, and the byte that ends the field.
+fn put_named(out: &mut [u8], at: usize, name: &[u8], n: usize, end: u8) -> usize
+    requires { ⌜ at + length (now name) + length (decimal n) + 1 ≤ length (now out) ⌝ }
+    ensures { λ r. ⌜ Written (now (out .entry)) at (now (name .entry) ++ (decimal n ++ end ∷ [])) (length (now (name .entry)) + (length (decimal n) + 1)) (now (out .exit)) r ⌝ }
+{
+    let at_number = put_word(out, at, name);
+    put_number(out, at_number, n, end)
+}
+
+// Writes the shape of a pair, and a space.
+fn put_shape(out: &mut [u8], at: usize, shape: u16) -> usize
+    requires { ⌜ at + 3 ≤ length (now out) ⌝ }
+    ensures { λ r. ⌜ Written (now (out .entry)) at (shapeWord shape ++ 32 ∷ []) 3 (now (out .exit)) r ⌝ }
+{
+    if shape == 1 {
+        return put_word(out, at, b"ww ");
+    }
+    if shape == 2 {
+        return put_word(out, at, b"wr ");
+    }
+    put_word(out, at, b"rw ")
+}
+
+// The length of a mark's word.
+fn mark_width(mark: u16) -> usize
+    ensures { λ r. ⌜ (r ≡ length (markWord mark)) × (r ≤ 7) ⌝ }
+{
+    if mark == 1 { 4 } else { 7 }
+}
+
+// Writes the mark of a pair, and the line feed.
+fn put_mark(out: &mut [u8], at: usize, mark: u16) -> usize
+    requires { ⌜ at + length (markWord mark) + 1 ≤ length (now out) ⌝ }
+    ensures { λ r. ⌜ Written (now (out .entry)) at (markWord mark ++ 10 ∷ []) (length (markWord mark) + 1) (now (out .exit)) r ⌝ }
+{
+    if mark == 1 {
+        return put_word(out, at, b"open\n");
+    }
+    put_word(out, at, b"covered\n")
+}
+
+// Prints the header line at at, where it fits. Gives the position after it, or at where it doesn't fit.
+pub fn put_header(
+    out: &mut [u8],
+    at: usize,
+    events: usize,
+    records: usize,
+    chains: usize,
+    pairs: usize,
+) -> usize
+    ensures { λ r. ⌜ Printed (now (out .entry)) at (headerLine events records chains pairs) (now (out .exit)) r ⌝ }
+{
+    let len = 32 + width(events) + width(records) + width(chains) + width(pairs);
+    if room(out.len(), at) < len {
+        return at;
+    }
+    let at_records = put_named(out, at, b"events ", events, b' ');
+    let at_chains = put_named(out, at_records, b"records ", records, b' ');
+    let at_pairs = put_named(out, at_chains, b"chains ", chains, b' ');
+    put_named(out, at_pairs, b"pairs ", pairs, b'\n')
+}
+
+// Prints a pair's line at at, where it fits. Gives the position after it, or at where it doesn't fit.
+pub fn put_pair(
+    out: &mut [u8],
+    at: usize,
+    first: u16,
+    second: u16,
+    cell: u16,
+    shape: u16,
+    mark: u16,
+) -> usize
+    ensures { λ r. ⌜ Printed (now (out .entry)) at (pairLine first second cell shape mark) (now (out .exit)) r ⌝ }
+{
+    let a = first as usize;
+    let b = second as usize;
+    let c = cell as usize;
+    let len = 7 + width(a) + width(b) + width(c) + mark_width(mark);
+    if room(out.len(), at) < len {
+        return at;
+    }
+    let at_second = put_number(out, at, a, b' ');
+    let at_cell = put_number(out, at_second, b, b' ');
+    let at_shape = put_number(out, at_cell, c, b' ');
+    let at_mark = put_shape(out, at_shape, shape);
+    put_mark(out, at_mark, mark)
+}
+
+// Prints a refusal's line at at, where it fits. Gives the position after it, or at where it doesn't fit.
+pub fn put_refusal(out: &mut [u8], at: usize, number: usize, place: usize) -> usize
+    ensures { λ r. ⌜ Printed (now (out .entry)) at (refusedLine number place) (now (out .exit)) r ⌝ }
+{
+    let len = 10 + width(number) + width(place);
+    if room(out.len(), at) < len {
+        return at;
+    }
+    let at_place = put_named(out, at, b"refused ", number, b' ');
+    put_number(out, at_place, place, b'\n')
+}
