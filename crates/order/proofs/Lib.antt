@@ -1,0 +1,16 @@
+pub mod Tests
+pub mod AlongLaws
+pub mod OrderLaws
+pub mod CountLaws
+pub mod ChainLaws
+pub mod ClockLaws
+pub mod RowLaws
+pub mod ScheduleLaws
+pub mod FillLaws
+pub mod FlatLaws
+pub mod TrackLaws
+pub mod MarkLaws
+pub mod Theorems
+pub mod Examples
+pub mod TraceOrder
+pub mod TraceLaws

@@ -1,0 +1,1 @@
+// Happens-before, chains and clocks: the definitions and their laws.
