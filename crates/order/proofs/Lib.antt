@@ -21,3 +21,4 @@ pub mod Examples
 pub mod TraceOrder
 pub mod TraceLaws
 pub mod RankLaws
+pub mod PassLaws

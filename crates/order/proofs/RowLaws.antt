@@ -12,12 +12,12 @@ use Rattle.order.specs.Links.{Links}
 use Rattle.order.specs.Clocks.{table, flat, chainOf, entry, clocksOf, compare, compareIn}
 use Rattle.order.proofs.Tests.{decide-eq, decide-lt}
 
-table-length : (n : ℕ) (f : ℕ → ℕ) → length (table n f) ≡ n
+pub table-length : (n : ℕ) (f : ℕ → ℕ) → length (table n f) ≡ n
 unfolding table
 table-length zero f = refl
 table-length (suc n) f = length-append (table n f) (f n ∷ []) ∙ omega (arith, table-length n f)
 
-table-at : (n : ℕ) (f : ℕ → ℕ) (i : ℕ) → i < n → getD (table n f) i 0 ≡ f i
+pub table-at : (n : ℕ) (f : ℕ → ℕ) (i : ℕ) → i < n → getD (table n f) i 0 ≡ f i
 unfolding table
 table-at zero f i h = absurd (omega arith)
 table-at (suc n) f i h = go (decide-eq i n) (table-at n f i)

@@ -389,3 +389,29 @@ module _ {tr : List Record} (a : Acceptable tr) where
 
   pub decides : (t u : ℕ) → T (happensBefore tr t u) ↔ HappensBefore tr t u
   decides t u = (before-happens t u, happens-before t u)
+
+  -- the later end of a link begins in the trace
+  pub link-target : (i p u : ℕ) → i < length tr → opAt tr i ≡ link p u → u < begins (opAt tr) (length tr)
+  link-target i p u h e =
+      let n = op-named i p u h e in
+      let b = some-rank (n .to-event) u (n .to-rank) in
+      let c = counted-passes tr (b .position) (length tr) (b .inside) (begins-at b) in
+      omega (arith, begins-rank b, n .to-rank, ops-begins (length tr) (omega arith))
+
+  -- only a begin begins
+  pub op-kind : (i u : ℕ) → opAt tr i ≡ begin u → at tr i .kind ≡ 1
+  op-kind i u e = go (said i)
+    where
+      link-begins : (x y : ℕ) → linkOf x y ≡ begin u → ⊥
+      link-begins zero y q = let z : _≡_ {A = ℕ} 0 1 = cc in omega arith
+      link-begins (suc x) zero q = let z : _≡_ {A = ℕ} 0 1 = cc in omega arith
+      link-begins (suc x) (suc y) q = let z : _≡_ {A = ℕ} 0 1 = cc in omega arith
+
+      other-begins : (o : Op) → o ≡ other → o ≡ begin u → ⊥
+      other-begins o p q = let z : _≡_ {A = ℕ} 0 1 = cc in omega arith
+
+      go : Said i → at tr i .kind ≡ 1
+      go (begins-it k) = k
+      go (forks-it k) = absurd (link-begins (rank tr (at tr i .first)) (rank tr (at tr i .second)) (sym (op-fork i k) ∙ e))
+      go (joins-it k) = absurd (link-begins (rank tr (at tr i .second)) (rank tr (at tr i .first)) (sym (op-join i k) ∙ e))
+      go (nothing x y z) = absurd (other-begins (opAt tr i) (op-other i x y z) e)

@@ -1,5 +1,6 @@
 // Happens-before, chains, vector clocks and the order question.
 mod clear;
+mod fill;
 mod merge;
 pub mod ranks;
 

@@ -1,0 +1,100 @@
+// All rows in one pass over the records: at a link the earlier row is merged into the later one, and at a begin the chain is read off the merged row.
+use crate::Ordering;
+use crate::merge;
+use crate::ranks;
+use trace::access;
+ghost use mathlib.Core.Path.{_≡_};
+ghost use Prim.Native.Nat.{_≤_};
+ghost use lib.ListN.{getD};
+ghost use Rattle.trace.specs.Bytes.{decode};
+ghost use Rattle.trace.specs.Records.{at};
+ghost use Rattle.order.specs.HappensBefore.{opOf};
+ghost use Rattle.order.specs.PassEnds.{Ready, Passes};
+ghost use Rattle.order.specs.Pass.{Rows, beginRow, turnRows, RoomToBegin, Room, Are};
+
+// Row u begins: the chains taken after it, or more than the width where none is left for it.
+fn begin_row(
+    clocks: &mut [u16],
+    width: usize,
+    u: usize,
+    sizes: &mut [u16],
+    of: &mut [u16],
+    chains: usize,
+) -> usize
+    requires { ⌜ (width ≤ 1024) × RoomToBegin width u (record { clocks = now clocks; sizes = now sizes; of = now of; chains = chains }) ⌝ }
+    ensures { λ r. ⌜ Are (beginRow width u (record { clocks = now (clocks .entry); sizes = now (sizes .entry); of = now (of .entry); chains = chains })) (now (clocks .exit)) (now (sizes .exit)) (now (of .exit)) r ⌝ }
+{
+    let c = merge::choose(clocks, width, u, sizes, chains);
+    if width <= c {
+        return width + 1;
+    }
+    merge::add_one(clocks, width, u, c);
+    sizes[c] += 1;
+    of[u] = c as u16;
+    if chains <= c {
+        return c + 1;
+    }
+    chains
+}
+
+// The record at position i.
+fn turn(
+    recs: &[u8],
+    ranks: &[u16],
+    i: usize,
+    clocks: &mut [u16],
+    width: usize,
+    sizes: &mut [u16],
+    of: &mut [u16],
+    chains: usize,
+) -> usize
+    requires { ⌜ (width ≤ 1024) × Room width (opOf (λ e. getD (now ranks) e 0) (at (decode (now recs)) i)) (record { clocks = now clocks; sizes = now sizes; of = now of; chains = chains }) ⌝ }
+    ensures { λ r. ⌜ Are (turnRows width (opOf (λ e. getD (now (ranks .entry)) e 0) (at (decode (now (recs .entry))) i)) (record { clocks = now (clocks .entry); sizes = now (sizes .entry); of = now (of .entry); chains = chains })) (now (clocks .exit)) (now (sizes .exit)) (now (of .exit)) r ⌝ }
+{
+    let said = ranks::ordering_at(recs, ranks, i);
+    match said {
+        Ordering::Link(p, u) => {
+            merge::merge_row(clocks, width, p as usize, u as usize);
+            chains
+        }
+        Ordering::Begin(u) => begin_row(clocks, width, u as usize, sizes, of, chains),
+        Ordering::Nothing => chains,
+    }
+}
+
+// How far the pass came: the chains taken, and the position of the begin that needs one more than the width has, or the number of records.
+pub(crate) struct Passed {
+    pub chains: usize,
+    pub position: usize,
+}
+
+fn pass(
+    recs: &[u8],
+    ranks: &[u16],
+    clocks: &mut [u16],
+    width: usize,
+    sizes: &mut [u16],
+    of: &mut [u16],
+) -> Passed
+    requires { ⌜ Ready (decode (now recs)) width (now ranks) (now clocks) (now sizes) (now of) ⌝ }
+    ensures { λ r. ⌜ Passes (decode (now (recs .entry))) width (now (clocks .entry)) (now (clocks .exit)) (now (of .exit)) (r .chains) (r .position) ⌝ }
+{
+    let n = access::count(recs);
+    let mut chains = 0;
+    let mut i = 0;
+    while i < n {
+        let next = turn(recs, ranks, i, clocks, width, sizes, of, chains);
+        if width < next {
+            return Passed {
+                chains: chains,
+                position: i,
+            };
+        }
+        chains = next;
+        i += 1;
+    }
+    Passed {
+        chains: chains,
+        position: i,
+    }
+}
