@@ -22,3 +22,6 @@ pub mod TraceOrder
 pub mod TraceLaws
 pub mod RankLaws
 pub mod PassLaws
+pub mod SpaceLaws
+pub mod FillEnds
+pub mod EntryLaws

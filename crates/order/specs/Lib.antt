@@ -9,3 +9,4 @@ pub mod Ranks
 pub mod Pass
 pub mod Fill
 pub mod PassEnds
+pub mod Paper

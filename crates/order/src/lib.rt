@@ -1,12 +1,47 @@
 // Happens-before, chains, vector clocks and the order question.
 mod clear;
-mod fill;
 mod merge;
 pub mod ranks;
+mod rows;
+
+use trace::Reading;
+use trace::Refusal;
+use trace::access;
+ghost use Rattle.order.specs.Paper.{Fills, FillsChains};
 
 // What a record says of links and begins, between rows.
 pub enum Ordering {
     Link(u16, u16),
     Begin(u16),
     Nothing,
+}
+
+// What filling finds: the number of chains used, or why it is refused.
+pub enum Filling {
+    Filled(usize),
+    Refused(Refusal),
+}
+
+// Filling with the chain of each row beside the answer.
+pub struct Filled {
+    pub answer: Filling,
+    pub of: [u16; 1024],
+}
+
+// Fills the lent clocks with the clock rows of the trace, and gives the chain of each row.
+pub fn fill_chains(bytes: &[u8], width: usize, clocks: &mut [u16]) -> Filled
+    ensures { λ r. ⌜ FillsChains (now (bytes .entry)) width (now (clocks .entry)) (now (clocks .exit)) (r .answer) (r .of) ⌝ }
+{
+    let reading = trace::read(bytes);
+    let Reading::Accepted(t) = reading else {
+        return rows::refused(trace::refusal_of(reading));
+    };
+    rows::fill_trace(access::records(bytes, t), t.events, width, clocks)
+}
+
+// Fills the lent clocks with the clock rows of the trace.
+pub fn fill(bytes: &[u8], width: usize, clocks: &mut [u16]) -> Filling
+    ensures { λ r. ⌜ Fills (now (bytes .entry)) width (now (clocks .entry)) (now (clocks .exit)) r ⌝ }
+{
+    fill_chains(bytes, width, clocks).answer
 }

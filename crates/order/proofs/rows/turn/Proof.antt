@@ -1,4 +1,4 @@
--- `order::fill::turn` meets its contract.
+-- `order::rows::turn` meets its contract.
 -- Assumes nothing.
 use Rattle.order.proofs.Ordering.{enum}
 use Rattle.order.specs.Schedule.{other}
@@ -10,8 +10,8 @@ use Rattle.order.specs.Pass.{turnRows}
 use Rattle.order.specs.Ranks.{says}
 use mathlib.Core.Path.{_≡_, refl, sym, ap, _∙_}
 use borrow.Author.Needs.{needs}
-use Rattle.order.proofs.fill.turn.Statement.{statement}
-use Rattle.order.proofs.fill.turn.Tie as tie
+use Rattle.order.proofs.rows.turn.Statement.{statement}
+use Rattle.order.proofs.rows.turn.Tie as tie
 
 nothing-said : (o : Ordering) → tagOf (declared enum) o ≡ 2 → says o ≡ other
 nothing-said (Link p u) e = absurd (omega arith)

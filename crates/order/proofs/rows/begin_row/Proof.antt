@@ -1,12 +1,12 @@
--- `order::fill::begin_row` meets its contract.
+-- `order::rows::begin_row` meets its contract.
 -- Assumes nothing.
 use Rattle.order.specs.Pass.{enterRow}
 use borrow.Author.Tests.{le-leb, lt-leb}
 use native.Mathlib.Omega.{arith}
 use mathlib.Core.Path.{refl}
 use borrow.Author.Needs.{needs}
-use Rattle.order.proofs.fill.begin_row.Statement.{statement}
-use Rattle.order.proofs.fill.begin_row.Tie as tie
+use Rattle.order.proofs.rows.begin_row.Statement.{statement}
+use Rattle.order.proofs.rows.begin_row.Tie as tie
 
 choose-requires : tie.Need-choose-requires
 choose-requires c κs = search needs

@@ -1,7 +1,12 @@
 // All rows in one pass over the records: at a link the earlier row is merged into the later one, and at a begin the chain is read off the merged row.
+use crate::Filled;
+use crate::Filling;
 use crate::Ordering;
+use crate::clear::clear;
 use crate::merge;
 use crate::ranks;
+use trace::Operation;
+use trace::Refusal;
 use trace::access;
 ghost use mathlib.Core.Path.{_≡_};
 ghost use Prim.Native.Nat.{_≤_};
@@ -9,6 +14,9 @@ ghost use lib.ListN.{getD};
 ghost use Rattle.trace.specs.Bytes.{decode};
 ghost use Rattle.trace.specs.Records.{at};
 ghost use Rattle.order.specs.HappensBefore.{opOf};
+ghost use Rattle.trace.specs.Reading.{Acceptable};
+ghost use Rattle.order.specs.Fill.{eventsIn, noChains, spaceFor};
+ghost use Rattle.order.specs.Paper.{FillsTrace};
 ghost use Rattle.order.specs.PassEnds.{Ready, Passes};
 ghost use Rattle.order.specs.Pass.{Rows, beginRow, turnRows, RoomToBegin, Room, Are};
 
@@ -96,5 +104,64 @@ fn pass(
     Passed {
         chains: chains,
         position: i,
+    }
+}
+
+fn no_chains() -> [u16; 1024]
+    ensures { λ r. ⌜ r ≡ noChains ⌝ }
+{
+    [0; 1024]
+}
+
+pub(crate) fn refused(why: Refusal) -> Filled
+    ensures { λ r. ⌜ (r .answer ≡ Filling.Refused why) × (r .of ≡ noChains) ⌝ }
+{
+    Filled {
+        answer: Filling::Refused(why),
+        of: no_chains(),
+    }
+}
+
+fn has_space(width: usize, events: usize, space: usize) -> bool
+    requires { ⌜ events ≤ 1024 ⌝ }
+    ensures { λ r. ⌜ r ≡ spaceFor width events space ⌝ }
+{
+    if width < 1 {
+        return false;
+    }
+    if 1024 < width {
+        return false;
+    }
+    events * width <= space
+}
+
+// The rows of an accepted trace.
+pub(crate) fn fill_trace(recs: &[u8], events: usize, width: usize, clocks: &mut [u16]) -> Filled
+    requires { ⌜ Acceptable (decode (now recs)) × (events ≡ eventsIn (decode (now recs))) ⌝ }
+    ensures { λ r. ⌜ FillsTrace (decode (now (recs .entry))) events width (now (clocks .entry)) (now (clocks .exit)) (r .answer) (r .of) ⌝ }
+{
+    if !has_space(width, events, clocks.len()) {
+        return refused(Refusal {
+            number: trace::CLOCK_SPACE,
+            place: Operation(0),
+        });
+    }
+    let rows = events * width;
+    let all = ranks::ranks(recs);
+    let mut sizes = no_chains();
+    let mut of = no_chains();
+    clear(clocks, rows);
+    let passed = pass(recs, &all, clocks, width, &mut sizes, &mut of);
+    let position = passed.position;
+    if position < access::count(recs) {
+        clear(clocks, rows);
+        return refused(Refusal {
+            number: trace::CHAINS,
+            place: Operation((position + 1) as u16),
+        });
+    }
+    Filled {
+        answer: Filling::Filled(passed.chains),
+        of: of,
     }
 }

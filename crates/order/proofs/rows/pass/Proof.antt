@@ -1,4 +1,4 @@
--- `order::fill::pass` meets its contract.
+-- `order::rows::pass` meets its contract.
 -- Assumes nothing.
 use Rattle.order.proofs.PassLaws.{Going, going-start, going-room, going-next, going-stop, going-end}
 use Rattle.trace.specs.Bytes.{decode}
@@ -8,8 +8,8 @@ use native.Mathlib.Omega.{arith}
 use mathlib.Core.Path.{_≡_, refl, _∙_}
 use Prim.Native.Nat.{_-_, _≤_, _<_}
 use denote.Ref.{now}
-use Rattle.order.proofs.fill.pass.Statement.{statement}
-use Rattle.order.proofs.fill.pass.Tie as tie
+use Rattle.order.proofs.rows.pass.Statement.{statement}
+use Rattle.order.proofs.rows.pass.Tie as tie
 
 abbrev Inv-loop : tie.InvT-loop
 Inv-loop recs ranks clocks₀ width sizes₀ of₀ n chains₀ i₀ clocks sizes of chains i = Going (decode recs) width ranks clocks₀ clocks sizes of chains i × (length sizes ≡ length sizes₀) × (length of ≡ length of₀)

@@ -1,0 +1,45 @@
+-- At the entry of a public function: what a reading says of the records that are handed on.
+-- Assumes nothing.
+use Prim.Native.Nat.{ℕ}
+use mathlib.Core.Path.{_≡_, refl, sym, ap, _∙_, subst}
+use mathlib.Core.List.{List}
+use lib.ListN.{length}
+use Rattle.trace.specs.declared.Record.{Record}
+use Rattle.trace.specs.declared.Reading.{Reading}
+use Rattle.trace.specs.Bytes.{decode}
+use Rattle.trace.specs.Records.{past, begins}
+use Rattle.trace.specs.Reading.{Reply, refused, accepted, part, recordsIn, readReply, Acceptable}
+use Rattle.trace.specs.Paper.{paper, refusalIn}
+use Rattle.trace.proofs.Accepted.{accepts}
+use Rattle.trace.proofs.Upward.{upward}
+use Rattle.trace.proofs.Reading.{enum}
+use denote.Enum.Declared.{tagOf, declared}
+use Rattle.order.specs.declared.Filling.{Filling}
+use Rattle.order.specs.Fill.{eventsIn, fillRead, fillReply, clocksAfterRead, clocksAfter, chainsAfterRead, chainsAfter}
+use Rattle.order.specs.Paper.{FillsTrace, FillsChains}
+
+pub refused-reading : (b : List ℕ) (r : Reading) → paper r ≡ readReply b → tagOf (declared enum) r ≡ 1 → readReply b ≡ refused (refusalIn r .number) (refusalIn r .place .0)
+refused-reading b r e t = sym e ∙ sym (upward r t)
+
+module _ (b : List ℕ) (s n m : ℕ) (e : accepted s n m ≡ readReply b) (recs : List ℕ) (r : recs ≡ part b s n) where
+  pub records-are : decode recs ≡ recordsIn b s n
+  unfolding recordsIn
+  records-are = ap decode r
+
+  pub read-acceptable : Acceptable (decode recs)
+  read-acceptable = rw records-are (accepts b s n m e .acceptable)
+
+  pub read-events : m ≡ eventsIn (decode recs)
+  unfolding eventsIn
+  read-events = let p = accepts b s n m e in rw (records-are, p .counts) (sym (p .begun))
+
+  pub read-count : length (decode recs) ≡ n
+  read-count = rw records-are (accepts b s n m e .counts)
+
+  -- filling the records is filling the trace
+  pub fills-read : (width : ℕ) (cs cs′ : List ℕ) (r : Filling) (of : List ℕ) → FillsTrace (decode recs) m width cs cs′ r of → FillsChains b width cs cs′ r of
+  unfolding fillReply fillRead clocksAfter clocksAfterRead chainsAfter chainsAfterRead
+  fills-read width cs cs′ r of f = record {
+    fills = record { answer = rw (← e, ← records-are) (f .answer); clocks-after = rw (← e, ← records-are) (f .clocks-after) };
+    chains-after = rw (← e, ← records-are) (f .chains-after);
+  }

@@ -1,0 +1,76 @@
+-- How filling an accepted trace ends, from how the pass ended.
+-- Assumes nothing.
+use Prim.Native.Nat.{ℕ, _+_, _*_, _≤_, _<_}
+use mathlib.Core.Path.{_≡_, refl, sym, ap, _∙_, subst}
+use mathlib.Core.Bool.{true}
+use mathlib.Core.List.{List, _++_}
+use mathlib.Core.Logic.{_≢_}
+use native.Mathlib.Omega.{arith}
+use native.Mathlib.Decide.{ℕ-discrete}
+use borrow.Author.Tests.{eq-eqb, ne-eqb}
+use lib.ListN.{length, drop, replicate}
+use Rattle.trace.specs.declared.Record.{Record}
+use Rattle.trace.specs.Reading.{Acceptable}
+use Rattle.order.specs.Ranks.{ranksOf}
+use Rattle.order.specs.Fill.{eventsIn, beginPosition, shortRow, chainsUsed, chainTable, traceClocks, noChains, FillReply, refused, filled, demand, spaceFor, fillTrace, clocksAfterTrace, chainsAfterReply}
+use Rattle.order.specs.PassEnds.{Ready, Whole, Short, Passes}
+use Rattle.order.proofs.SpaceLaws.{cleared, cleared-drop, cleared-length, has-room}
+
+module _ (tr : List Record) (a : Acceptable tr) (events width : ℕ) (ee : events ≡ eventsIn tr) (cs cs₁ : List ℕ)
+    (space : spaceFor width events (length cs) ≡ true) (c₁ : cs₁ ≡ replicate (events * width) 0 ++ drop (events * width) cs) where
+  fits : events * width ≤ length cs
+  fits = has-room width events (length cs) space .fits
+
+  pub ready : (ranks sizes of : List ℕ) → ranks ≡ ranksOf tr → sizes ≡ noChains → of ≡ noChains → Ready tr width ranks cs₁ sizes of
+  ready ranks sizes of r s o = record {
+    acceptable = a;
+    ranks-are = r;
+    narrow = has-room width events (length cs) space .narrow;
+    room = rw (← ee) (omega (arith, cleared-length (events * width) cs cs₁ fits c₁, fits));
+    clear = rw (← ee) (cleared (events * width) cs cs₁ fits c₁);
+    sizes-clear = s;
+    of-clear = o;
+  }
+
+  module _ (cs₂ of : List ℕ) (chains position : ℕ) (p : Passes tr width cs₁ cs₂ of chains position) where
+    rest-of : drop (events * width) cs₂ ≡ drop (events * width) cs
+    rest-of = rw (← ee) at (p .rest) ∙ cleared-drop (events * width) cs cs₁ fits c₁
+
+    not-short : length tr ≤ position → Dec (shortRow tr width ≡ eventsIn tr) → shortRow tr width ≡ eventsIn tr
+    not-short h (yes e) = e
+    not-short h (no n) = absurd (omega (arith, p .short n .inside))
+
+    not-whole : position < length tr → shortRow tr width ≢ eventsIn tr
+    not-whole h e = omega (arith, p .whole e .to-end)
+
+    -- 23
+    module _ (h : position < length tr) where
+      none : shortRow tr width ≢ events
+      none e = not-whole h (e ∙ ee)
+
+      pub short-reply : fillTrace tr events width (length cs) ≡ refused 23 (position + 1)
+      unfolding fillTrace demand
+      short-reply = rw (space, ne-eqb (shortRow tr width) events none, ← p .short (not-whole h) .place)
+
+      pub short-clocks : (cs₃ : List ℕ) → cs₃ ≡ replicate (events * width) 0 ++ drop (events * width) cs₂ → cs₃ ≡ clocksAfterTrace tr events width cs
+      unfolding clocksAfterTrace
+      short-clocks cs₃ e = rw (space, ne-eqb (shortRow tr width) events none) (e ∙ ap (λ r. replicate (events * width) 0 ++ r) rest-of)
+
+    -- the rows are filled
+    module _ (h : length tr ≤ position) where
+      enough : shortRow tr width ≡ eventsIn tr
+      enough = not-short h (ℕ-discrete (shortRow tr width) (eventsIn tr))
+
+      pub whole-reply : fillTrace tr events width (length cs) ≡ filled chains
+      unfolding fillTrace demand
+      whole-reply = rw (space, eq-eqb (shortRow tr width) events (enough ∙ sym ee), ← p .whole enough .chains-are)
+
+      pub whole-clocks : cs₂ ≡ clocksAfterTrace tr events width cs
+      unfolding clocksAfterTrace
+      whole-clocks =
+          rw (space, eq-eqb (shortRow tr width) events (enough ∙ sym ee))
+          (p .whole enough .clocks-are ∙ rw (← ee) (ap (λ r. traceClocks tr width ++ r) (cleared-drop (events * width) cs cs₁ fits c₁)))
+
+      pub whole-chains : of ≡ chainsAfterReply tr (fillTrace tr events width (length cs))
+      unfolding chainsAfterReply
+      whole-chains = rw whole-reply (p .whole enough .of-are)

@@ -1,0 +1,29 @@
+-- Document 01's numbers and values for each case of the answers, and the promises of the public functions. Assumes nothing.
+use Prim.Native.Nat.{ℕ}
+use mathlib.Core.Path.{_≡_}
+use mathlib.Core.List.{List}
+use lib.ListN.{length}
+use Rattle.trace.specs.declared.Record.{Record}
+use Rattle.order.specs.declared.Filling.{Filling}
+use Rattle.order.specs.declared.Filling.the-variants.{Filled, Refused}
+use Rattle.order.specs.Fill.{FillReply, refused, filled, fillTrace, fillReply, clocksAfterTrace, clocksAfter, chainsAfterReply, chainsAfter}
+
+abbrev pub fillPaper : Filling → FillReply
+fillPaper (Filled k) = filled k
+fillPaper (Refused f) = refused (f .number) (f .place .0)
+
+-- filling: the answer and the lent clocks
+pub record Fills (b : List ℕ) (width : ℕ) (clocks clocks′ : List ℕ) (r : Filling) : Type 0 where
+  pub answer : fillPaper r ≡ fillReply b width (length clocks)
+  pub clocks-after : clocks′ ≡ clocksAfter b width clocks
+
+-- and with them the chain of each row
+pub record FillsChains (b : List ℕ) (width : ℕ) (clocks clocks′ : List ℕ) (r : Filling) (of : List ℕ) : Type 0 where
+  pub fills : Fills b width clocks clocks′ r
+  pub chains-after : of ≡ chainsAfter b width (length clocks)
+
+-- the same of an accepted trace's records
+pub record FillsTrace (tr : List Record) (events width : ℕ) (clocks clocks′ : List ℕ) (r : Filling) (of : List ℕ) : Type 0 where
+  pub answer : fillPaper r ≡ fillTrace tr events width (length clocks)
+  pub clocks-after : clocks′ ≡ clocksAfterTrace tr events width clocks
+  pub chains-after : of ≡ chainsAfterReply tr (fillTrace tr events width (length clocks))
