@@ -21,7 +21,9 @@ pub mod Examples
 pub mod TraceOrder
 pub mod TraceLaws
 pub mod RankLaws
+pub mod SaidLaws
 pub mod PassLaws
+pub mod MemberLaws
 pub mod SpaceLaws
 pub mod FillEnds
 pub mod EntryLaws

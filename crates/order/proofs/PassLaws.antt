@@ -53,21 +53,21 @@ module _ {tr : List Record} (a : Acceptable tr) (w : ℕ) (rest : List ℕ) wher
   abbrev n : ℕ
   n = length tr
 
-  abbrev l : Links
+  abbrev pub l : Links
   l = traceLinks tr
 
-  abbrev m : ℕ
+  abbrev pub m : ℕ
   m = begins (opAt tr) (length tr)
 
   pub events-are : m ≡ eventsIn tr
   unfolding eventsIn
   events-are = ops-begins a n (omega arith)
 
-  few : m ≤ 1024
+  pub few : m ≤ 1024
   few = omega (arith, few-events a, ops-begins a n (omega arith))
 
   -- the chains of the first k rows
-  abbrev chains-of : ℕ → List ℕ
+  abbrev pub chains-of : ℕ → List ℕ
   chains-of k = table k (chainOf l) ++ replicate (1024 - k) 0
 
   pub record Passing (i : ℕ) (s : Rows) : Type 0 where
@@ -80,7 +80,7 @@ module _ {tr : List Record} (a : Acceptable tr) (w : ℕ) (rest : List ℕ) wher
   clocks-room : {i : ℕ} {s : Rows} → Passing i s → m * w ≤ length (s .clocks)
   clocks-room {i} {s} p = omega (arith, ap length (p .tracks .clocks-are), length-append (flat w m (after op i .rows)) rest, flat-length w m (after op i .rows))
 
-  begun-below : (i u : ℕ) → i < n → op i ≡ begin u → (u ≡ begins op i) × (u < m)
+  pub begun-below : (i u : ℕ) → i < n → op i ≡ begin u → (u ≡ begins op i) × (u < m)
   begun-below i u h e =
       let b = begin-next op n (ops-ordered a) i u h e in
       (b, omega (arith, begins-suc op i (begin u) e, begins-mono op (suc i) n h))
@@ -117,7 +117,7 @@ module _ {tr : List Record} (a : Acceptable tr) (w : ℕ) (rest : List ℕ) wher
       go other e = tt
 
   -- one row more in the list of chains
-  chains-more : (k : ℕ) → k < 1024 → set (chains-of k) k (chainOf l k) ≡ chains-of (suc k)
+  pub chains-more : (k : ℕ) → k < 1024 → set (chains-of k) k (chainOf l k) ≡ chains-of (suc k)
   unfolding table
   chains-more k h =
       let e : 1024 - k ≡ suc (1024 - suc k) = omega arith in

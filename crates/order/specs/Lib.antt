@@ -10,3 +10,4 @@ pub mod Pass
 pub mod Fill
 pub mod PassEnds
 pub mod Paper
+pub mod ChainPass

@@ -1,4 +1,5 @@
 // Happens-before, chains, vector clocks and the order question.
+mod chains;
 mod clear;
 mod merge;
 pub mod ranks;

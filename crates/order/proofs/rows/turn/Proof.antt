@@ -1,22 +1,12 @@
 -- `order::rows::turn` meets its contract.
 -- Assumes nothing.
-use Rattle.order.proofs.Ordering.{enum}
-use Rattle.order.specs.Schedule.{other}
-use Rattle.order.specs.declared.Ordering.the-variants.{Link, Begin, Nothing}
-use Rattle.order.specs.declared.Ordering.{Ordering}
-use denote.Enum.Declared.{tagOf, declared}
-use native.Mathlib.Omega.{arith}
+use Rattle.order.proofs.SaidLaws.{nothing-said}
 use Rattle.order.specs.Pass.{turnRows}
 use Rattle.order.specs.Ranks.{says}
-use mathlib.Core.Path.{_≡_, refl, sym, ap, _∙_}
+use mathlib.Core.Path.{refl, sym, ap, _∙_}
 use borrow.Author.Needs.{needs}
 use Rattle.order.proofs.rows.turn.Statement.{statement}
 use Rattle.order.proofs.rows.turn.Tie as tie
-
-nothing-said : (o : Ordering) → tagOf (declared enum) o ≡ 2 → says o ≡ other
-nothing-said (Link p u) e = absurd (omega arith)
-nothing-said (Begin u) e = absurd (omega arith)
-nothing-said Nothing e = refl
 
 ordering-at-requires : tie.Need-ordering-at-requires
 ordering-at-requires c κs = search needs
