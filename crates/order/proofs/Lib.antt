@@ -26,4 +26,5 @@ pub mod PassLaws
 pub mod MemberLaws
 pub mod SpaceLaws
 pub mod FillEnds
+pub mod AskLaws
 pub mod EntryLaws

@@ -1,10 +1,11 @@
 -- Zeros at the front of a list, and the test for room.
 -- Assumes nothing.
-use Prim.Native.Nat.{ℕ, _+_, _*_, _-_, _≤_}
+use Prim.Native.Nat.{ℕ, _+_, _*_, _-_, _≤_, _<_}
 use mathlib.Core.Path.{_≡_, refl, sym, ap, _∙_}
 use mathlib.Core.Bool.{Bool, true, false, _&&_, and-eq-true-iff}
 use mathlib.Core.List.{List, _++_}
 use native.Mathlib.Omega.{arith}
+use native.Mathlib.Nat.{mul-le-mul-right, le-of-lt}
 use borrow.Author.Tests.{leb-true}
 use lib.Dec.{leb}
 use lib.ListN.{length, drop, replicate, length-append, length-replicate, length-drop}
@@ -32,3 +33,9 @@ has-room width events space h =
     let p = and-eq-true-iff (leb 1 width && leb width 1024) (leb (events * width) space) .0 h in
     let q = and-eq-true-iff (leb 1 width) (leb width 1024) .0 (p .0) in
     record { some = leb-true 1 width (q .0); narrow = leb-true width 1024 (q .1); fits = leb-true (events * width) space (p .1) }
+
+-- a place in clocks, by 16-bit numbers, fits a machine word
+pub place-fits : (t w c : ℕ) → t < 65536 → w < 65536 → c < 65536 → t * w + c < 18446744073709551616
+place-fits t w c h k l =
+    let p = mul-le-mul-right w (le-of-lt h) in
+    omega arith

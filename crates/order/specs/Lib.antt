@@ -11,3 +11,4 @@ pub mod Fill
 pub mod PassEnds
 pub mod Paper
 pub mod ChainPass
+pub mod Question

@@ -107,7 +107,7 @@ fn pass(
     }
 }
 
-fn no_chains() -> [u16; 1024]
+pub(crate) fn no_chains() -> [u16; 1024]
     ensures { λ r. ⌜ r ≡ noChains ⌝ }
 {
     [0; 1024]
@@ -122,7 +122,7 @@ pub(crate) fn refused(why: Refusal) -> Filled
     }
 }
 
-fn has_space(width: usize, events: usize, space: usize) -> bool
+pub(crate) fn has_space(width: usize, events: usize, space: usize) -> bool
     requires { ⌜ events ≤ 1024 ⌝ }
     ensures { λ r. ⌜ r ≡ spaceFor width events space ⌝ }
 {
