@@ -27,4 +27,5 @@ pub mod MemberLaws
 pub mod SpaceLaws
 pub mod FillEnds
 pub mod AskLaws
+pub mod OrderTheorem
 pub mod EntryLaws

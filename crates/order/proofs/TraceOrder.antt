@@ -330,7 +330,7 @@ module _ {tr : List Record} (a : Acceptable tr) where
   linked-named p u m = let r = linked-exact (opAt tr) (length tr) p u .0 m in op-named (r .0) p u (r .1) (r .2)
 
   -- happens-before by event number is happens-before by rank
-  up : {t u : ℕ} (p : ℕ) → rank tr t ≡ suc p → HappensBefore tr t u → (q : ℕ) × (rank tr u ≡ suc q) × (traceLinks tr ⊢ p ≼ q)
+  pub up : {t u : ℕ} (p : ℕ) → rank tr t ≡ suc p → HappensBefore tr t u → (q : ℕ) × (rank tr u ≡ suc q) × (traceLinks tr ⊢ p ≼ q)
   up p r (same e) = (p, rw e at r, links.same refl)
   up {t} {u} p r (step {p = m} h k) =
       let f = up p r h in
@@ -338,7 +338,7 @@ module _ {tr : List Record} (a : Acceptable tr) where
       let e : f .0 ≡ g .from = suc-inj (sym (f .1) ∙ g .from-rank) in
       (g .to, g .to-rank, links.step (rw e at (f .2)) (g .linked))
 
-  down : {p q : ℕ} (t u : ℕ) → rank tr t ≡ suc p → rank tr u ≡ suc q → traceLinks tr ⊢ p ≼ q → HappensBefore tr t u
+  pub down : {p q : ℕ} (t u : ℕ) → rank tr t ≡ suc p → rank tr u ≡ suc q → traceLinks tr ⊢ p ≼ q → HappensBefore tr t u
   down {p} {q} t u r s (links.same e) = same (rank-one t u q (r ∙ ap suc e) s)
   down {p} {q} t u r s (links.step {p = m} h k) =
       let n = linked-named m q k in

@@ -1,10 +1,11 @@
 -- The order question. "The order question takes trace, width and clocks, and compares t's entry at t's chain in both rows. t's chain is taken from the trace. It
 -- gives that comparison for any clock contents". Assumes nothing.
-use Prim.Native.Nat.{ℕ, zero, suc, _-_}
+use Prim.Native.Nat.{ℕ, _+_, _-_}
 use mathlib.Core.Path.{_≡_}
 use mathlib.Core.Bool.{Bool, true, false, not, _&&_}
 use mathlib.Core.List.{List}
-use lib.Dec.{eqb}
+use mathlib.Core.Logic.{_↔_}
+use lib.Dec.{T, eqb}
 use lib.ListN.{length}
 use Rattle.trace.specs.declared.Record.{Record}
 use Rattle.trace.specs.Reading as reading
@@ -12,9 +13,8 @@ use Rattle.trace.specs.Reading.{Reply, recordsIn, readReply}
 use Rattle.order.specs.declared.Answer.{Answer}
 use Rattle.order.specs.declared.Answer.the-variants.{Yes, No, Refused}
 use Rattle.order.specs.Clocks.{chainOf, compareIn}
-use Rattle.order.specs.HappensBefore.{rank, traceLinks}
+use Rattle.order.specs.HappensBefore.{HappensBefore, rank, traceLinks}
 use Rattle.order.specs.Fill.{beginPosition, shortRow, spaceFor}
-use Prim.Native.Nat.{_+_}
 
 -- a refusal's number and place, or the comparison
 pub data OrderReply : Type 0 where
@@ -52,3 +52,9 @@ orderRead b (reading.accepted start n m) width clocks t u = orderTrace (recordsI
 
 unfoldable pub orderReply : List ℕ → ℕ → List ℕ → ℕ → ℕ → OrderReply
 orderReply b width clocks t u = orderRead b (readReply b) width clocks t u
+
+-- "over clocks that filling left, it says yes exactly when t ≼ u"
+pub record YesExactly (tr : List Record) (b : List ℕ) (width : ℕ) (clocks : List ℕ) (t u : ℕ) : Type 0 where
+  pub says : Bool
+  pub reply : orderReply b width clocks t u ≡ answered says
+  pub exactly : T says ↔ HappensBefore tr t u
