@@ -1,0 +1,1 @@
+// Races of a trace: the event actions that lead to an access.
