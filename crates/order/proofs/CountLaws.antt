@@ -1,8 +1,8 @@
 -- The first number that passes a test, and how many pass. Assumes nothing.
-use Prim.Native.Nat.{ℕ, zero, suc, _+_, _≤_, _<_}
+use Prim.Native.Nat.{ℕ, zero, suc, _+_, _-_, _≤_, _<_}
 use mathlib.Core.Path.{_≡_, refl, sym, ap, subst}
 use mathlib.Core.Logic.{_⊎_, inl, inr, _↔_, Iff·rfl}
-use mathlib.Core.Bool.{Bool, cond}
+use mathlib.Core.Bool.{Bool, true, false, cond}
 use native.Mathlib.Omega.{arith}
 use lib.Dec.{T}
 use Rattle.order.specs.Chains.{firstFrom, first, count}
@@ -62,6 +62,23 @@ unfolding firstFrom
 firstFrom-local q r i zero e = refl
 firstFrom-local q r i (suc k) e =
     rw (e i (omega arith) (omega arith)) (ap (cond (r i) i) (firstFrom-local q r (suc i) k (λ j a b. e j (omega arith) (omega arith))))
+
+-- a search as a loop makes it, from i up to n
+module _ (q : ℕ → Bool) (i n : ℕ) where
+  pub first-hit : i < n → q i ≡ true → firstFrom q i (n - i) ≡ i
+  unfolding firstFrom
+  first-hit h e = let k : n - i ≡ suc (n - suc i) = omega arith in rw (k, e)
+
+  pub first-miss : i < n → q i ≡ false → firstFrom q i (n - i) ≡ firstFrom q (i + 1) (n - (i + 1))
+  unfolding firstFrom
+  first-miss h e =
+      let k : n - i ≡ suc (n - suc i) = omega arith in
+      let j : i + 1 ≡ suc i = omega arith in
+      rw (k, e, j)
+
+  pub first-over : n ≤ i → firstFrom q i (n - i) ≡ i
+  unfolding firstFrom
+  first-over h = let k : n - i ≡ 0 = omega arith in rw k
 
 -- counting
 

@@ -184,7 +184,8 @@ module _ (l : Links) (fw : Forward l) (op : ℕ → Op) (n : ℕ) (w : Ordered o
       each : (p : ℕ) → p ∈ linked op i u → entry l p c ≤ begins op i
       each p m =
           let r = linked-exact op i p u .0 m in
-          omega (arith, entry-le l fw p c, link-between op n w (r .0) p u (omega (arith, r .1)) (r .2) .0, begins-mono op (r .0) i (omega (arith, r .1)))
+          let b = link-between op n w (r .0) p u (omega (arith, r .1)) (r .2) in
+          omega (arith, entry-le l fw p c, b .0, begins-mono op (r .0) i (omega (arith, r .1)))
 
   pub rows-le : (i : ℕ) → i ≤ n → (u c : ℕ) → after op i .rows u c ≤ begins op i
   rows-le i h u c = rows-le-at i h u c (decide-lt u (begins op i))

@@ -1,12 +1,12 @@
 -- Merging and adding in flat clocks is what the pass does to the rows. Assumes nothing.
-use Prim.Native.Nat.{ℕ, zero, suc, _+_, _*_, _≤_, _<_, max}
+use Prim.Native.Nat.{ℕ, zero, suc, _+_, _*_, _-_, _≤_, _<_, max}
 use mathlib.Core.Path.{_≡_, refl, sym, _∙_, ap, ap₂}
 use mathlib.Core.Logic.{_≢_, _⊎_, inl, inr}
 use mathlib.Core.Bool.{cond, _&&_, and-false}
 use mathlib.Core.List.{List, _++_}
 use native.Mathlib.Omega.{arith}
 use lib.Dec.{eqb}
-use lib.ListN.{length, getD, set, List·getD-append}
+use lib.ListN.{length, getD, set, length-set, List·getD-append}
 use lib.Seq.{set-append-left}
 use borrow.Author.Tests.{eq-eqb, ne-eqb}
 use Rattle.order.specs.Links.{Links, Forward}
@@ -29,6 +29,23 @@ edit-row r p u c v d n = rw (ne-eqb v u n)
 
 edit-column : (r : ℕ → ℕ → ℕ) (p u c v d : ℕ) → d ≢ c → edit r p u c v d ≡ r v d
 edit-column r p u c v d n = rw (ne-eqb d c n, and-false (eqb v u))
+
+-- merging as a loop makes it, from entry c up to the width
+module _ (w p u c : ℕ) (cs : List ℕ) where
+  pub merge-length : length (mergeAt w p u c cs) ≡ length cs
+  unfolding mergeAt
+  merge-length = length-set cs (u * w + c) (max (getD cs (u * w + c) 0) (getD cs (p * w + c) 0))
+
+  pub merge-next : c < w → mergeFrom w p u c (w - c) cs ≡ mergeFrom w p u (c + 1) (w - (c + 1)) (mergeAt w p u c cs)
+  unfolding mergeFrom
+  merge-next h =
+      let k : w - c ≡ suc (w - suc c) = omega arith in
+      let j : c + 1 ≡ suc c = omega arith in
+      rw (k, j)
+
+  pub merge-over : w ≤ c → mergeFrom w p u c (w - c) cs ≡ cs
+  unfolding mergeFrom
+  merge-over h = let k : w - c ≡ 0 = omega arith in rw k
 
 module _ (w m : ℕ) (rest : List ℕ) where
   pub flat-read : (r : ℕ → ℕ → ℕ) (u c : ℕ) → u < m → c < w → getD (flat w m r ++ rest) (u * w + c) 0 ≡ r u c

@@ -1,16 +1,23 @@
+-- Laws of tests, searches and counts; the recursion along links
 pub mod Tests
-pub mod AlongLaws
-pub mod OrderLaws
 pub mod CountLaws
+pub mod AlongLaws
+-- Happens-before; chains; the clock theorem; flat clocks; what is said of them all
+pub mod OrderLaws
 pub mod ChainLaws
 pub mod ClockLaws
 pub mod RowLaws
+pub mod Theorems
+-- The records: links and begins; the pass that fills the rows, with functions and with lists; marks, with functions and with lists
 pub mod ScheduleLaws
 pub mod FillLaws
 pub mod FlatLaws
 pub mod TrackLaws
+pub mod PartLaws
 pub mod MarkLaws
-pub mod Theorems
+pub mod MarkListLaws
 pub mod Examples
+-- Traces: their links, ranks and order
 pub mod TraceOrder
 pub mod TraceLaws
+pub mod RankLaws

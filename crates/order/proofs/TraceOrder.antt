@@ -26,7 +26,7 @@ use Rattle.order.proofs.ScheduleLaws.{begins-zero, begins-suc, linked-e
 use Rattle.order.specs.HappensBefore.{Begins, Link, fork, join, HappensBefore, same, step, rankIn, rank, linkOf, pickOp, opOf, opAt, traceLinks, leqRanks, happensBefore}
 
 module _ (tr : List Record) where
-  abbrev counted : ℕ → ℕ
+  abbrev pub counted : ℕ → ℕ
   counted i = records.begins (past tr i)
 
   -- the begins among the first i records: one more at a begin, and never fewer
@@ -34,7 +34,7 @@ module _ (tr : List Record) where
   unfolding records.begins past
   counted-begin i k = rw (eq-eqb (at tr i .kind) 1 k)
 
-  counted-zero : counted 0 ≡ 0
+  pub counted-zero : counted 0 ≡ 0
   unfolding records.begins past
   counted-zero = refl
 
@@ -60,11 +60,11 @@ module _ (tr : List Record) where
   counted-passes i j l k = omega (arith, counted-begin i k, counted-more (suc i) j l)
 
   -- the rank among the first i records, of an event that begins once among them
-  rank-here : (e i : ℕ) → at tr i .kind ≡ 1 → at tr i .first ≡ e → rankIn e (past tr (suc i)) ≡ counted i + 1
+  pub rank-here : (e i : ℕ) → at tr i .kind ≡ 1 → at tr i .first ≡ e → rankIn e (past tr (suc i)) ≡ counted i + 1
   unfolding rankIn past
   rank-here e i k q = rw (eq-eqb (at tr i .kind) 1 k, eq-eqb (at tr i .first) e q)
 
-  rank-before : (e i : ℕ) → ((at tr i .kind ≡ 1) × (at tr i .first ≡ e) → ⊥) → rankIn e (past tr (suc i)) ≡ rankIn e (past tr i)
+  pub rank-before : (e i : ℕ) → ((at tr i .kind ≡ 1) × (at tr i .first ≡ e) → ⊥) → rankIn e (past tr (suc i)) ≡ rankIn e (past tr i)
   unfolding rankIn past
   rank-before e i n = go (ℕ-discrete (at tr i .kind) 1) (ℕ-discrete (at tr i .first) e)
     where

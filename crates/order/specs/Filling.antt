@@ -1,7 +1,7 @@
 -- How all rows are filled in one pass over the records: at a link the earlier row is merged into the later one; at a begin the chain is
 -- read off the merged row. `FillLaws` proves that this gives the rows of `Clocks`. Definitions alone. Assumes nothing.
 use Prim.Native.Nat.{ℕ, zero, suc, _+_, _*_, max}
-use mathlib.Core.Bool.{cond, _&&_}
+use mathlib.Core.Bool.{Bool, cond, _&&_}
 use mathlib.Core.List.{List}
 use lib.Dec.{eqb}
 use lib.ListN.{getD, set}
@@ -65,5 +65,8 @@ mergeRow width p u cs = mergeFrom width p u 0 width cs
 unfoldable pub tick : ℕ → ℕ → ℕ → List ℕ → List ℕ
 tick width u c cs = set cs (u * width + c) (getD cs (u * width + c) 0 + 1)
 
+abbrev pub fullIn : ℕ → ℕ → List ℕ → List ℕ → ℕ → Bool
+fullIn width u cs sizes c = eqb (getD cs (u * width + c) 0) (getD sizes c 0)
+
 unfoldable pub chooseIn : ℕ → ℕ → List ℕ → List ℕ → ℕ → ℕ
-chooseIn width u cs sizes chains = first (λ c. eqb (getD cs (u * width + c) 0) (getD sizes c 0)) chains
+chooseIn width u cs sizes chains = first (fullIn width u cs sizes) chains

@@ -5,3 +5,4 @@ pub mod Schedule
 pub mod Filling
 pub mod Marking
 pub mod HappensBefore
+pub mod Ranks

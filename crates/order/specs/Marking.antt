@@ -1,8 +1,10 @@
 -- How what happens before u is found without clocks: u is marked, and in one pass down the records a link whose later end is marked
 -- marks its earlier end. `MarkLaws` proves that this gives happens-before. Definitions alone. Assumes nothing.
 use Prim.Native.Nat.{ℕ, zero, suc}
-use mathlib.Core.Bool.{Bool, _&&_, _||_}
+use mathlib.Core.Bool.{Bool, cond, _&&_, _||_}
+use mathlib.Core.List.{List}
 use lib.Dec.{eqb}
+use lib.ListN.{getD, set, replicate}
 use Rattle.order.specs.Schedule.{Op, link, begin, other}
 
 unfoldable pub markBy : Op → (ℕ → Bool) → ℕ → Bool
@@ -17,3 +19,22 @@ marksDown op (suc i) m = marksDown op i (markBy (op i) m)
 
 abbrev pub marks : (ℕ → Op) → ℕ → ℕ → ℕ → Bool
 marks op i u = marksDown op i (eqb u)
+
+-- The same with the marks in a list, 1 for a mark; `marksIn` starts from k entries, of which u's is marked.
+abbrev pub marked : List ℕ → ℕ → Bool
+marked ms t = eqb (getD ms t 0) 1
+
+unfoldable pub markIn : Op → List ℕ → List ℕ
+markIn (link p v) ms = cond (marked ms v) (set ms p 1) ms
+markIn (begin v) ms = ms
+markIn other ms = ms
+
+unfoldable pub marksDownIn : (ℕ → Op) → ℕ → List ℕ → List ℕ
+marksDownIn op zero ms = ms
+marksDownIn op (suc i) ms = marksDownIn op i (markIn (op i) ms)
+
+unfoldable pub noMarks : ℕ → List ℕ
+noMarks k = replicate k 0
+
+abbrev pub marksIn : (ℕ → Op) → ℕ → ℕ → ℕ → List ℕ
+marksIn op i u k = marksDownIn op i (set (noMarks k) u 1)

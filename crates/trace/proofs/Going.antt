@@ -59,7 +59,7 @@ going-start tr start m = record {
   comes = refl;
 }
 
-in-range : (x : ℕ) → numbered x ≡ true → x < 1025
+pub in-range : (x : ℕ) → numbered x ≡ true → x < 1025
 unfolding numbered
 in-range x h = let p = leb-true x 1024 (and-eq-true-iff (leb 1 x) (leb x 1024) .0 h .1) in omega arith
 
