@@ -1,1 +1,4 @@
 pub mod Instance
+pub mod NoteLaws
+pub mod LeadingLaws
+pub mod PassLaws
