@@ -5,6 +5,7 @@ use mathlib.Core.Logic.{_≢_, _⊎_, inl, inr, _↔_}
 use mathlib.Core.Bool.{Bool, true, false, cond}
 use mathlib.Core.List.{List}
 use native.Mathlib.Omega.{arith}
+use native.Mathlib.Numerals.{add-one}
 use lib.Dec.{T}
 use lib.ListN.{length}
 use Rattle.trace.specs.declared.Record.{Record}
@@ -14,7 +15,7 @@ use Rattle.trace.specs.Marks.{isMarked, withMark}
 use Rattle.trace.proofs.Blocks.{contiguous}
 use Rattle.trace.proofs.Marked.{marked-same, marked-other, marked-size}
 use Rattle.coverage.proofs.Tests.{decide-eq}
-use Rattle.races.specs.LeadingPass.{markIf, Starts, Second, Notes}
+use Rattle.races.specs.LeadingPass.{markIf, leadsOn, Starts, Second, Notes, Led}
 
 module _ (tr : List Record) (test : Record → Bool) where
   pub second-more : (c lo i : ℕ) → Second tr test c lo i → Second tr test c lo (suc i)
@@ -86,6 +87,53 @@ module _ (tr : List Record) (test : Record → Bool) where
         go : (x : Bool) → test (at tr i) ≡ x → Notes tr test lo (suc i) m (markIf x m′ (at tr i .second))
         go true e = noted (subst T (sym e) tt)
         go false e = passed-by (λ h. subst T e h)
+
+  -- as the code makes it
+  pub notes-next : (lo i : ℕ) → lo ≤ i → (m m′ m″ : List ℕ) → Notes tr test lo i m m′ → (r : Record) → r ≡ at tr i → (x : Bool) → x ≡ test r → m″ ≡ markIf x m′ (r .second) → Notes tr test lo (i + 1) m m″
+  notes-next lo i l m m′ m″ n r e x q p = rw (p, q, e, add-one) (notes-more lo i l m m′ n)
+
+-- No record before i leads on, looked for upwards.
+module _ (tr : List Record) (ranks work accessed written named : List ℕ) (lo : ℕ) where
+  abbrev LedTo : ℕ → Type 0
+  LedTo i = Led tr ranks work accessed written named lo i
+
+  pub led-none : isMarked named (eventOf (at tr lo)) ≡ false → LedTo lo → ⊥
+  led-none e (inl h) = subst T e h
+  led-none e (inr (j, l, k, h)) = omega arith
+
+  pub led-next : (i : ℕ) → leadsOn ranks work accessed written (at tr i) ≡ false → (LedTo i → ⊥) → LedTo (i + 1) → ⊥
+  led-next i e n (inl h) = n (inl h)
+  led-next i e n (inr (j, l, k, h)) = go (decide-eq j i)
+    where
+      go : (j ≡ i) ⊎ (j ≢ i) → ⊥
+      go (inl q) = subst T e (rw q at h)
+      go (inr d) = n (inr (j, l, omega arith, h))
+
+  pub led-all : (hi i : ℕ) → hi ≤ i → (LedTo i → ⊥) → LedTo hi → ⊥
+  led-all hi i m n (inl h) = n (inl h)
+  led-all hi i m n (inr (j, l, k, h)) = n (inr (j, l, omega arith, h))
+
+-- Where an event action starts, looked for downwards: records lo to i are of one event action.
+module _ (tr : List Record) (i : ℕ) where
+  pub record One (lo : ℕ) : Type 0 where
+    pub low : lo ≤ i
+    pub same : (x : ℕ) → lo ≤ x → x ≤ i → eventOf (at tr x) ≡ eventOf (at tr i)
+
+  pub one-start : One i
+  one-start = record { low = omega arith; same = λ x l k. let e : x ≡ i = omega arith in rw e }
+
+  pub one-more : (lo : ℕ) → 0 < lo → eventOf (at tr (lo - 1)) ≡ eventOf (at tr i) → One lo → One (lo - 1)
+  one-more lo h e o = let m = o .low in record { low = omega arith; same = λ x l k. go x l k (decide-eq x (lo - 1)) }
+    where
+      go : (x : ℕ) → lo - 1 ≤ x → x ≤ i → (x ≡ lo - 1) ⊎ (x ≢ lo - 1) → eventOf (at tr x) ≡ eventOf (at tr i)
+      go x l k (inl q) = rw q e
+      go x l k (inr n) = o .same x (omega arith) k
+
+  pub one-parted : (lo : ℕ) → 0 < lo → eventOf (at tr (lo - 1)) ≢ eventOf (at tr i) → One lo → Starts tr lo i
+  one-parted lo h n o = record { low = o .low; same = o .same; parted = λ y q. let e : lo - 1 ≡ y = omega arith in rw e at n }
+
+  pub one-first : (lo : ℕ) → lo ≤ 0 → One lo → Starts tr lo i
+  one-first lo h o = record { low = o .low; same = o .same; parted = λ y q. absurd (omega arith) }
 
 -- From the start of an event action on no record is of an event action before.
 module _ {tr : List Record} (a : Acceptable tr) where

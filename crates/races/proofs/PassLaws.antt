@@ -19,17 +19,18 @@ use Rattle.trace.proofs.Marked.{marked-size}
 use Rattle.order.specs.HappensBefore.{rank}
 use Rattle.order.specs.Ranks.{ranksOf}
 use Rattle.order.proofs.TraceOrder.{counted, counted-zero, counted-begin, counted-other, ranked, begins-rank, record-begins, rank-one}
+use Rattle.order.proofs.RankLaws.{ranks-are}
 use Rattle.coverage.specs.Leading.{leads, coveredb}
 use Rattle.coverage.proofs.Tests.{both, and, decide-eq, same}
 use Rattle.coverage.proofs.Leads.{leads-self, leads-ahead}
 use Rattle.races.specs.Traces.{isAccess, settingOf}
-use Rattle.races.specs.Leading.{mark, marksIn, leadingMarks}
-use Rattle.races.specs.LeadingPass.{markedEvent, Starts, Second, Notes, Led, Kept, Seen, Marked, Passed}
+use Rattle.races.specs.Leading.{mark, rows, marksIn, leadingMarks, Ready}
+use Rattle.races.specs.LeadingPass.{markedEvent, Starts, Second, Notes, Led, Kept, Seen, Marked, Passed, PassesOn}
 use Rattle.races.proofs.Instance.{laws}
 use Rattle.races.proofs.NoteLaws.{starts-parted}
 use Rattle.races.proofs.LeadingLaws.{mark-on, mark-off, mark-test, marked-begun, ev, inside, Leading, row-low, row-apart, own, from-lo, beyond, lo-inside, led-leads, leads-led}
 
-none-long : length noMarks ≡ 1025
+pub none-long : length noMarks ≡ 1025
 unfolding noMarks
 none-long = length-replicate {A = ℕ} 1025 0
 
@@ -272,6 +273,54 @@ module _ {tr : List Record} (a : Acceptable tr) (b : ℕ) (access : T (isAccess 
       front : take events work ≡ marksIn test (past tr (length tr))
       front = ext-getD 0 (take events work) (marksIn test (past tr (length tr))) (size ∙ sym (marks-long tr test (length tr)))
           (λ r l. let k : r < events = omega (arith, size) in getD-take events work r 0 k ∙ byte r k (row-mark tr test (length tr) r k))
+
+-- One event action more, as the code passes it: r says whether it is led.
+module _ {tr : List Record} (a : Acceptable tr) (ranks : List ℕ) (are : ranks ≡ ranksOf tr) (work accessed written named : List ℕ) (r : Bool) where
+  pub passes-by : (lo hi : ℕ) → lo < hi → Starts tr lo (hi - 1) → T r ↔ Led tr ranks work accessed written named lo hi → r ≡ false → PassesOn tr hi lo work accessed written named work accessed written named
+  passes-by lo zero l s d e b entry access room p = absurd (omega arith)
+  passes-by lo (suc i) l s d e b entry access room p =
+      let q : suc i - 1 ≡ i = omega arith in
+      pass-by a b access lo i (rw q at s) entry work accessed written named room p (λ h. subst T e (d .1 (rw are h)))
+
+  pub passes-led : (lo hi : ℕ) → lo < hi → Starts tr lo (hi - 1) → T r ↔ Led tr ranks work accessed written named lo hi → r ≡ true → (work′ accessed′ written′ named′ : List ℕ) → work′ ≡ withMark work (getD ranks (ev tr lo) 0 - 1) → Notes tr isAccess lo hi accessed accessed′ → Notes tr isWrite lo hi written written′ → Notes tr isJoin lo hi named named′ → PassesOn tr hi lo work accessed written named work′ accessed′ written′ named′
+  passes-led lo zero l s d e work′ accessed′ written′ named′ m x y z b entry access room p = absurd (omega arith)
+  passes-led lo (suc i) l s d e work′ accessed′ written′ named′ m x y z b entry access room p =
+      let q : suc i - 1 ≡ i = omega arith in
+      rw (m, are, ranks-are a (ev tr lo)) (pass-led a b access lo i (rw q at s) entry work accessed written named room p (rw are at (d .0 (subst T (sym e) tt))) accessed′ written′ named′ x y z)
+
+-- The start and the end, as the code makes them: `first` is the work space once the event action of b is marked.
+module _ {tr : List Record} {ranks : List ℕ} {b : ℕ} {entry first : List ℕ} (w : Ready tr ranks b entry) (marked : first ≡ withMark entry (getD ranks (ev tr b) 0 - 1)) where
+  ranks-row : getD ranks (ev tr b) 0 - 1 ≡ rank tr (ev tr b) - 1
+  ranks-row = rw (w .ranked) (ap (λ (n : ℕ). n - 1) (ranks-are (w .acceptable) (ev tr b)))
+
+  pub first-long : length first ≡ length entry
+  first-long = ap length marked ∙ marked-size entry _
+
+  pub starts-pass : (lo : ℕ) → Starts tr lo b → (accessed written named : List ℕ) → Notes tr isAccess lo b noMarks accessed → Notes tr isWrite lo b noMarks written → Notes tr isJoin lo b noMarks named → Passed tr b lo first first accessed written named
+  starts-pass lo s accessed written named x y z =
+      let p = pass-start (w .acceptable) b (w .access) lo s entry accessed written named (w .room) zero-at x y z in
+      record {
+        low = p .low;
+        parted = p .parted;
+        accesses = p .accesses;
+        writes = p .writes;
+        waits = p .waits;
+        marks = record { size = refl; rest = refl; byte = rw (marked, ranks-row) (p .marks .byte) };
+      }
+    where
+      zero-at : (r : ℕ) → r < rows tr → getD entry r 0 ≡ 0
+      zero-at r l = sym (getD-take (rows tr) entry r 0 l) ∙ rw (w .clear) (getD-replicate {A = ℕ} (rows tr) r 0 0 l)
+
+  pub ends-pass : (hi : ℕ) → hi ≤ 0 → (work accessed written named : List ℕ) → Passed tr b hi first work accessed written named → work ≡ leadingMarks tr b ++ drop (rows tr) entry
+  unfolding withMark
+  ends-pass hi l work accessed written named p =
+      let e : hi ≡ 0 = omega arith in
+      let z = first-long in
+      let k = row-low (w .acceptable) b (inside (w .acceptable) b (w .access)) in
+      let r = ranks-row in
+      let m = w .room in
+      pass-end (w .acceptable) b (w .access) first work accessed written named (omega arith) (rw e at p)
+      ∙ ap (λ (v : List ℕ). leadingMarks tr b ++ v) (ap (drop (rows tr)) marked ∙ drop-set-lt (rows tr) entry (getD ranks (ev tr b) 0 - 1) 1 (omega arith))
 
 -- The marks, read: of a race (x, b) whether it is covered.
 module _ {tr : List Record} (a : Acceptable tr) (b : ℕ) (rest : List ℕ) where

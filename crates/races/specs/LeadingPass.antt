@@ -8,12 +8,12 @@ use mathlib.Core.List.{List}
 use lib.Dec.{T, leb, eqb}
 use lib.ListN.{length, getD, drop}
 use Rattle.trace.specs.declared.Record.{Record}
-use Rattle.trace.specs.Records.{at, past, begins, isFork, isJoin, isRead, isWrite, eventOf}
+use Rattle.trace.specs.Records.{at, isFork, isJoin, isRead, isWrite, eventOf}
 use Rattle.trace.specs.Marks.{isMarked, withMark}
 use Rattle.order.specs.HappensBefore.{rank}
 use Rattle.coverage.specs.Leading.{leads}
 use Rattle.races.specs.Traces.{isAccess, settingOf}
-use Rattle.races.specs.Leading.{mark}
+use Rattle.races.specs.Leading.{mark, rows}
 
 -- the number is marked where the test says so
 abbrev pub markIf : Bool → List ℕ → ℕ → List ℕ
@@ -68,7 +68,7 @@ module _ (tr : List Record) (b : ℕ) where
   -- an event action that leads to b is marked once it is passed; nothing else is written over the entry values
   pub record Marked (hi : ℕ) (entry work : List ℕ) : Type 0 where
     pub size : length work ≡ length entry
-    pub rest : drop (begins (past tr (length tr))) work ≡ drop (begins (past tr (length tr))) entry
+    pub rest : drop (rows tr) work ≡ drop (rows tr) entry
     pub byte : (x : ℕ) → x < length tr → getD work (rank tr (eventOf (at tr x)) - 1) 0 ≡ mark (leb hi x && leads (settingOf tr) b (eventOf (at tr x)))
 
   pub record Passed (hi : ℕ) (entry work accessed written named : List ℕ) : Type 0 where
@@ -78,3 +78,8 @@ module _ (tr : List Record) (b : ℕ) where
     pub writes : Seen isWrite hi written
     pub waits : Seen isJoin hi named
     pub marks : Marked hi entry work
+
+-- From the event actions passed from hi on to those from lo on, whatever b is and whatever the entry values were.
+abbrev pub PassesOn : List Record → ℕ → ℕ → List ℕ → List ℕ → List ℕ → List ℕ → List ℕ → List ℕ → List ℕ → List ℕ → Type 0
+PassesOn tr hi lo work accessed written named work′ accessed′ written′ named′ =
+    (b : ℕ) (entry : List ℕ) → T (isAccess (at tr b)) → rows tr ≤ length entry → Passed tr b hi entry work accessed written named → Passed tr b lo entry work′ accessed′ written′ named′
