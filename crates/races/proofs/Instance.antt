@@ -1,10 +1,8 @@
 -- An acceptable trace is a setting with its laws. Assumes nothing.
 use Prim.Native.Nat.{ℕ, _<_, _≤_}
-use mathlib.Core.Path.{_≡_, refl, sym, ap, _∙_, subst}
+use mathlib.Core.Path.{_≡_, subst}
 use mathlib.Core.Logic.{_⊎_, inl, inr}
-use mathlib.Core.Bool.{Bool, true, false, _||_}
 use mathlib.Core.List.{List}
-use native.Mathlib.Omega.{arith}
 use lib.Dec.{T, eqb→eq}
 use lib.ListN.{length, List·getD-eq-default}
 use Rattle.trace.specs.declared.Record.{Record}
@@ -14,10 +12,10 @@ use Rattle.trace.proofs.Positions.{lt-or-ge}
 use Rattle.trace.proofs.Blocks as blocks
 use Rattle.order.specs.HappensBefore.{Link}
 use Rattle.order.proofs.TraceLaws as order
-use Rattle.coverage.specs.Setting.{Setting, Laws}
+use Rattle.coverage.specs.Setting.{Laws}
 use Rattle.coverage.proofs.Tests.{either}
 use Rattle.coverage.proofs.Steps.{Links, GoOn}
-use Rattle.races.specs.Traces.{isAccess, cellsOf, settingOf}
+use Rattle.races.specs.Traces.{isAccess, settingOf}
 
 module _ {tr : List Record} (a : Acceptable tr) where
   pub laws : Laws (settingOf tr)

@@ -1,21 +1,20 @@
 -- The pass finds the event actions that lead to b. Assumes nothing.
-use Prim.Native.Nat.{ℕ, zero, suc, _+_, _-_, _≤_, _<_}
-use mathlib.Core.Path.{_≡_, refl, sym, ap, _∙_, subst}
-use mathlib.Core.Logic.{_≢_, _⊎_, inl, inr, _↔_}
+use Prim.Native.Nat.{ℕ, suc, _-_, _≤_, _<_}
+use mathlib.Core.Path.{_≡_, refl, sym, _∙_, subst}
+use mathlib.Core.Logic.{_≢_, _⊎_, inl, inr}
 use mathlib.Core.Bool.{Bool, true, false, cond, _&&_, _||_}
 use mathlib.Core.List.{List}
 use native.Mathlib.Omega.{arith}
-use borrow.Author.Tests.{le-ltb, eqb-true, eq-eqb, ne-eqb}
-use lib.Dec.{T, leb, eqb, eqb→eq, leb→le, le→leb}
-use lib.ListN.{length, getD, drop, length-replicate, getD-replicate}
-use lib.Seq.{getD-set-same, getD-set-other, drop-set-lt}
+use borrow.Author.Tests.{le-ltb, eqb-true, ne-eqb}
+use lib.Dec.{T, leb, eqb, eqb→eq, le→leb}
+use lib.ListN.{length}
 use Rattle.trace.specs.declared.Record.{Record}
-use Rattle.trace.specs.Records.{at, past, begins, isFork, isJoin, isRead, isWrite, eventOf}
+use Rattle.trace.specs.Records.{at, past, begins, isFork, isRead, isWrite, eventOf}
 use Rattle.trace.specs.Reading.{Acceptable}
-use Rattle.trace.specs.Marks.{noMarks, isMarked, withMark}
+use Rattle.trace.specs.Marks.{isMarked}
 use Rattle.trace.proofs.Positions.{lt-or-ge}
 use Rattle.trace.proofs.Blocks.{passes-at, join-before-begin, body-after-begin}
-use Rattle.trace.proofs.Marked.{formed, marked-size}
+use Rattle.trace.proofs.Marked.{formed}
 use Rattle.trace.proofs.Going.{in-range}
 use Rattle.order.specs.HappensBefore.{Begins, Link, fork, join, rank}
 use Rattle.order.specs.Ranks.{ranksOf}
@@ -26,10 +25,10 @@ use Rattle.coverage.specs.Leading.{leads}
 use Rattle.coverage.specs.Neighbours.{conflicts}
 use Rattle.coverage.proofs.Tests.{both, and, either, or-left, or-right, decide-eq, eq→eqb, same}
 use Rattle.coverage.proofs.Steps.{Onward, leads-closed, leads-onward}
-use Rattle.coverage.proofs.Leads.{leads-self, leads-ahead}
+use Rattle.coverage.proofs.Leads.{leads-ahead}
 use Rattle.races.specs.Traces.{isAccess, cellsOf, settingOf}
 use Rattle.races.specs.Leading.{mark}
-use Rattle.races.specs.LeadingPass.{markedEvent, leadsOn, Starts, Second, Notes, Led, Kept, Seen, Marked, Passed}
+use Rattle.races.specs.LeadingPass.{markedEvent, leadsOn, Starts, Led, Kept, Marked, Passed}
 use Rattle.races.proofs.Instance.{laws, links, access-kind, access-inside}
 use Rattle.races.proofs.NoteLaws.{starts-parted}
 

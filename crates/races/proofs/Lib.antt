@@ -2,3 +2,4 @@ pub mod Instance
 pub mod NoteLaws
 pub mod LeadingLaws
 pub mod PassLaws
+pub mod WorkLaws

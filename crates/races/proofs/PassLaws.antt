@@ -2,16 +2,16 @@
 use Prim.Native.Nat.{ℕ, zero, suc, _+_, _-_, _≤_, _<_}
 use mathlib.Core.Path.{_≡_, refl, sym, ap, ap₂, _∙_, subst}
 use mathlib.Core.Logic.{_≢_, _⊎_, inl, inr, _↔_}
-use mathlib.Core.Bool.{Bool, true, false, cond, _&&_, _||_}
+use mathlib.Core.Bool.{Bool, true, false, _&&_}
 use mathlib.Core.List.{List, [], _∷_, _++_}
 use native.Mathlib.Omega.{arith}
 use native.Mathlib.Decide.{ℕ-discrete}
 use borrow.Author.Tests.{eq-eqb, ne-eqb}
 use lib.Dec.{T, leb, eqb, leb→le, le→leb, leb·zero}
-use lib.ListN.{length, getD, take, drop, length-append, length-replicate, getD-replicate, replicate, length-drop, List·getD-append, take-append-drop}
+use lib.ListN.{length, getD, take, drop, length-append, length-replicate, getD-replicate, List·getD-append, take-append-drop}
 use lib.Seq.{getD-set-same, getD-set-other, drop-set-lt, getD-append-seam, ext-getD, getD-take, length-take-le}
 use Rattle.trace.specs.declared.Record.{Record}
-use Rattle.trace.specs.Records.{at, past, begins, isJoin, isBegin, isWrite, eventOf}
+use Rattle.trace.specs.Records.{at, past, begins, isJoin, isWrite, eventOf}
 use Rattle.trace.specs.Reading.{Acceptable}
 use Rattle.trace.specs.Marks.{noMarks, isMarked, withMark}
 use Rattle.trace.proofs.Positions.{lt-or-ge}
