@@ -131,13 +131,13 @@ module _ {tr : List Record} (a : Acceptable tr) where
   unfolding markedEvent
   marked-begins work e h = rank-begins a e (λ z. rw (ranks-are a e, z) at h)
 
+-- leads to b
+abbrev pub Leading : List Record → ℕ → ℕ → Type 0
+Leading tr b u = T (leads (settingOf tr) b u)
+
 module _ {tr : List Record} (a : Acceptable tr) (b : ℕ) (access : T (isAccess (at tr b))) where
   pub inside : b < length tr
   inside = access-inside tr b access
-
-  -- leads to b
-  abbrev pub Leading : ℕ → Type 0
-  Leading u = T (leads (settingOf tr) b u)
 
   -- the joins of the event action of b stand before b
   joins-early : (i : ℕ) → i < length tr → at tr i .kind ≡ 4 → ev tr i ≡ ev tr b → i < b
@@ -158,7 +158,7 @@ module _ {tr : List Record} (a : Acceptable tr) (b : ℕ) (access : T (isAccess 
   tells-mark hi entry work m x h = rw (m .byte x h) (mark-test (leb hi x && leads (settingOf tr) b (ev tr x)))
 
   -- One event action: records lo to i, where those after it are passed.
-  module _ (lo i : ℕ) (s : Starts tr lo i) (entry work accessed written named : List ℕ) (p : Passed tr b (suc i) entry work accessed written named) where
+  module _ {lo i : ℕ} (s : Starts tr lo i) {entry work accessed written named : List ℕ} (p : Passed tr b (suc i) entry work accessed written named) where
     pub lo-inside : lo < length tr
     lo-inside = omega (arith, inside, s .low, p .low)
 
@@ -190,22 +190,22 @@ module _ {tr : List Record} (a : Acceptable tr) (b : ℕ) (access : T (isAccess 
         go (inl k) = absurd (n (own x l k))
         go (inr k) = k
 
-    closed : ((v : ℕ) × Link tr (ev tr lo) v × Leading v) ⊎ ((c d : ℕ) × (ev tr c ≡ ev tr lo) × (c < d) × (d < b) × T (conflicts (cellsOf tr) c d) × Leading (ev tr d)) → Leading (ev tr lo)
+    closed : ((v : ℕ) × Link tr (ev tr lo) v × Leading tr b v) ⊎ ((c d : ℕ) × (ev tr c ≡ ev tr lo) × (c < d) × (d < b) × T (conflicts (cellsOf tr) c d) × Leading tr b (ev tr d)) → Leading tr b (ev tr lo)
     closed h = leads-closed (settingOf tr) (laws a) (Link tr) (links a) b inside (ev tr lo) h
 
     -- what is decided leads to b
-    marked-leads : (v : ℕ) → Begins tr v → T (markedEvent (ranksOf tr) work v) → Leading v
+    marked-leads : (v : ℕ) → Begins tr v → T (markedEvent (ranksOf tr) work v) → Leading tr b v
     marked-leads v g h =
         let q = subst T (marked-begun a work v g) h in
         let r = subst (λ (e : ℕ). T (isMarked work (rank tr e - 1))) (sym (g .of-event)) q in
-        subst Leading (g .of-event) (both (leb (suc i) (g .position)) _ (subst T (tells-mark (suc i) entry work (p .marks) (g .position) (g .inside)) r) .1)
+        subst (Leading tr b) (g .of-event) (both (leb (suc i) (g .position)) _ (subst T (tells-mark (suc i) entry work (p .marks) (g .position) (g .inside)) r) .1)
 
-    raced : (j : ℕ) → lo ≤ j → j < suc i → (test : Record → Bool) → (k : Kept tr b test (at tr j .second) (suc i)) → T (isAccess (at tr j)) → T (isAccess (at tr (k .found .position))) → T (isWrite (at tr j)) ⊎ T (isWrite (at tr (k .found .position))) → Leading (ev tr lo)
+    raced : (j : ℕ) → lo ≤ j → j < suc i → (test : Record → Bool) → (k : Kept tr b test (at tr j .second) (suc i)) → T (isAccess (at tr j)) → T (isAccess (at tr (k .found .position))) → T (isWrite (at tr j)) ⊎ T (isWrite (at tr (k .found .position))) → Leading tr b (ev tr lo)
     raced j l m test k h h′ w =
         let d = k .found .position in
         closed (inr (j, d, own j l m, omega (arith, k .found .from), k .found .below, conflict tr j d h h′ (sym (k .found .second)) w, k .leading))
 
-    pub led-leads : Led tr (ranksOf tr) work accessed written named lo (suc i) → Leading (ev tr lo)
+    pub led-leads : Led tr (ranksOf tr) work accessed written named lo (suc i) → Leading tr b (ev tr lo)
     led-leads (inl h) =
         let k = p .waits .tells (ev tr lo) (first-low a lo lo-inside) .0 h in
         let d = k .found .position in
@@ -215,7 +215,7 @@ module _ {tr : List Record} (a : Acceptable tr) (b : ℕ) (access : T (isAccess 
         j-inside : j < length tr
         j-inside = omega (arith, inside, p .low)
 
-        go : (T (isFork (at tr j)) × T (markedEvent (ranksOf tr) work (at tr j .second))) ⊎ ((T (isWrite (at tr j)) × T (isMarked accessed (at tr j .second))) ⊎ (T (isRead (at tr j)) × T (isMarked written (at tr j .second)))) → Leading (ev tr lo)
+        go : (T (isFork (at tr j)) × T (markedEvent (ranksOf tr) work (at tr j .second))) ⊎ ((T (isWrite (at tr j)) × T (isMarked accessed (at tr j .second))) ⊎ (T (isRead (at tr j)) × T (isMarked written (at tr j .second)))) → Leading tr b (ev tr lo)
         go (inl (k, q)) =
             let g = marked-begins a work (at tr j .second) q in
             closed (inl (at tr j .second, fork j j-inside k (own j l m) refl g, marked-leads (at tr j .second) g q))
@@ -233,7 +233,7 @@ module _ {tr : List Record} (a : Acceptable tr) (b : ℕ) (access : T (isAccess 
     later : (y : ℕ) → lo < y → ev tr y ≢ ev tr lo → suc i ≤ y
     later y l n = beyond y (omega arith) n
 
-    linked-led : (v : ℕ) → Link tr (ev tr lo) v → Leading v → Led tr (ranksOf tr) work accessed written named lo (suc i)
+    linked-led : (v : ℕ) → Link tr (ev tr lo) v → Leading tr b v → Led tr (ranksOf tr) work accessed written named lo (suc i)
     linked-led v l h = go l
       where
         after : (y : ℕ) → y < length tr → ev tr y ≡ v → suc i ≤ y
@@ -241,11 +241,11 @@ module _ {tr : List Record} (a : Acceptable tr) (b : ℕ) (access : T (isAccess 
 
         early : (j : ℕ) → j < length tr → at tr j .kind ≡ 4 → ev tr j ≡ v → (v ≡ ev tr b) ⊎ (v ≢ ev tr b) → j < b
         early j k q e (inl z) = joins-early j k q (e ∙ z)
-        early j k q e (inr n) = leads-ahead (settingOf tr) (laws a) b j inside k (λ z. n (sym e ∙ z)) (subst Leading (sym e) h)
+        early j k q e (inr n) = leads-ahead (settingOf tr) (laws a) b j inside k (λ z. n (sym e ∙ z)) (subst (Leading tr b) (sym e) h)
 
         go : Link tr (ev tr lo) v → Led tr (ranksOf tr) work accessed written named lo (suc i)
         go (fork j k q e f g) =
-            let r = and (leb (suc i) (g .position)) (leads (settingOf tr) b (ev tr (g .position))) (le→leb (suc i) (g .position) (after (g .position) (g .inside) (g .of-event))) (subst Leading (sym (g .of-event)) h) in
+            let r = and (leb (suc i) (g .position)) (leads (settingOf tr) b (ev tr (g .position))) (le→leb (suc i) (g .position) (after (g .position) (g .inside) (g .of-event))) (subst (Leading tr b) (sym (g .of-event)) h) in
             let m = subst T (sym (tells-mark (suc i) entry work (p .marks) (g .position) (g .inside))) r in
             let n = subst (λ (u : ℕ). T (isMarked work (rank tr u - 1))) (g .of-event) m in
             let o = subst (λ (u : ℕ). T (markedEvent (ranksOf tr) work u)) (sym f) (subst T (sym (marked-begun a work v g)) n) in
@@ -254,10 +254,10 @@ module _ {tr : List Record} (a : Acceptable tr) (b : ℕ) (access : T (isAccess 
             inl (p .waits .tells (ev tr lo) (first-low a lo lo-inside) .1
             (record {
               found = record { position = j; from = after j k f; below = early j k (eqb→eq (at tr j .kind) 4 q) f (decide-eq v (ev tr b)); passes = q; second = e };
-              leading = subst Leading (sym f) h;
+              leading = subst (Leading tr b) (sym f) h;
             }))
 
-    raced-led : (c d : ℕ) → ev tr c ≡ ev tr lo → c < d → d < b → T (conflicts (cellsOf tr) c d) → ev tr lo ≢ ev tr d → Leading (ev tr d) → Led tr (ranksOf tr) work accessed written named lo (suc i)
+    raced-led : (c d : ℕ) → ev tr c ≡ ev tr lo → c < d → d < b → T (conflicts (cellsOf tr) c d) → ev tr lo ≢ ev tr d → Leading tr b (ev tr d) → Led tr (ranksOf tr) work accessed written named lo (suc i)
     raced-led c d e l m f n h = go (access-kind (at tr c) (x .first)) (x .one)
       where
         x : Conflict tr c d
@@ -277,9 +277,9 @@ module _ {tr : List Record} (a : Acceptable tr) (b : ℕ) (access : T (isAccess 
         go (inl k) (inl w) = by-write (eqb→eq (at tr c .kind) 6 w)
         go (inl k) (inr w) = inr (c, from-lo c c-inside e, to-i c c-inside e, on-read (ranksOf tr) work accessed written (at tr c) k (p .writes .tells (at tr c .second) (second-low a c c-inside (omega arith)) .1 (kept isWrite w)))
 
-    pub leads-led : Leading (ev tr lo) → Led tr (ranksOf tr) work accessed written named lo (suc i)
+    pub leads-led : Leading tr b (ev tr lo) → Led tr (ranksOf tr) work accessed written named lo (suc i)
     leads-led h = go (leads-onward (settingOf tr) (laws a) (Link tr) (links a) b inside (ev tr lo) apart-from-b h)
       where
-        go : Onward (settingOf tr) (Link tr) b Leading (ev tr lo) → Led tr (ranksOf tr) work accessed written named lo (suc i)
+        go : Onward (settingOf tr) (Link tr) b (Leading tr b) (ev tr lo) → Led tr (ranksOf tr) work accessed written named lo (suc i)
         go (inl (v, l, k)) = linked-led v l k
         go (inr (c, d, e, l, m, f, n, k)) = raced-led c d e l m f n k

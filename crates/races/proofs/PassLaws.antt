@@ -97,10 +97,10 @@ module _ {tr : List Record} (a : Acceptable tr) (b : ℕ) (access : T (isAccess 
   abbrev passed : ℕ → ℕ → Bool
   passed hi x = leb hi x && leads (settingOf tr) b (ev tr x)
 
-  to-passed : (hi x : ℕ) → hi ≤ x → Leading a b access (ev tr x) → T (passed hi x)
+  to-passed : (hi x : ℕ) → hi ≤ x → Leading tr b (ev tr x) → T (passed hi x)
   to-passed hi x l h = and (leb hi x) (leads (settingOf tr) b (ev tr x)) (le→leb hi x l) h
 
-  of-passed : (hi x : ℕ) → T (passed hi x) → (hi ≤ x) × Leading a b access (ev tr x)
+  of-passed : (hi x : ℕ) → T (passed hi x) → (hi ≤ x) × Leading tr b (ev tr x)
   of-passed hi x h = let p = both (leb hi x) (leads (settingOf tr) b (ev tr x)) h in (leb→le hi x (p .0), p .1)
 
   -- one row more
@@ -123,12 +123,12 @@ module _ {tr : List Record} (a : Acceptable tr) (b : ℕ) (access : T (isAccess 
         go x k (inr n) = getD-set-other work row (rank tr (ev tr x) - 1) 1 0 (row-apart a x u k h n) ∙ g x k n
 
   -- After one event action more: records lo to i.
-  module _ (lo i : ℕ) (s : Starts tr lo i) (entry work accessed written named : List ℕ) (room : events ≤ length entry) (p : Passed tr b (suc i) entry work accessed written named) where
+  module _ {lo i : ℕ} (s : Starts tr lo i) {entry work accessed written named : List ℕ} (room : events ≤ length entry) (p : Passed tr b (suc i) entry work accessed written named) where
     abbrev one : (x : ℕ) → lo ≤ x → x < suc i → ev tr x ≡ ev tr lo
-    one = own a b access lo i s entry work accessed written named p
+    one = own a b access s p
 
     abbrev on : (x : ℕ) → lo ≤ x → ev tr x ≢ ev tr lo → suc i ≤ x
-    on = beyond a b access lo i s entry work accessed written named p
+    on = beyond a b access s p
 
     wider : (test : Record → Bool) (c : ℕ) → Kept tr b test c (suc i) → Kept tr b test c lo
     wider test c k =
@@ -137,43 +137,43 @@ module _ {tr : List Record} (a : Acceptable tr) (b : ℕ) (access : T (isAccess 
         let m = s .low in
         record { found = record { position = f .position; from = omega arith; below = f .below; passes = f .passes; second = f .second }; leading = k .leading }
 
-    split : (test : Record → Bool) (c : ℕ) → Kept tr b test c lo → Kept tr b test c (suc i) ⊎ (Second tr test c lo (suc i) × Leading a b access (ev tr lo))
+    split : (test : Record → Bool) (c : ℕ) → Kept tr b test c lo → Kept tr b test c (suc i) ⊎ (Second tr test c lo (suc i) × Leading tr b (ev tr lo))
     split test c k = go (lt-or-ge (k .found .position) (suc i))
       where
-        go : (k .found .position < suc i) ⊎ (suc i ≤ k .found .position) → Kept tr b test c (suc i) ⊎ (Second tr test c lo (suc i) × Leading a b access (ev tr lo))
+        go : (k .found .position < suc i) ⊎ (suc i ≤ k .found .position) → Kept tr b test c (suc i) ⊎ (Second tr test c lo (suc i) × Leading tr b (ev tr lo))
         go (inl l) =
             let f = k .found in
-            inr (record { position = f .position; from = f .from; below = l; passes = f .passes; second = f .second }, subst (Leading a b access) (one (f .position) (f .from) l) (k .leading))
+            inr (record { position = f .position; from = f .from; below = l; passes = f .passes; second = f .second }, subst (Leading tr b) (one (f .position) (f .from) l) (k .leading))
         go (inr l) =
             let f = k .found in
             inl (record { found = record { position = f .position; from = l; below = f .below; passes = f .passes; second = f .second }; leading = k .leading })
 
-    kept-here : (test : Record → Bool) (c : ℕ) → Leading a b access (ev tr lo) → Second tr test c lo (suc i) → Kept tr b test c lo
+    kept-here : (test : Record → Bool) (c : ℕ) → Leading tr b (ev tr lo) → Second tr test c lo (suc i) → Kept tr b test c lo
     kept-here test c h f =
         let l = f .below in
         let m = p .low in
-        record { found = record { position = f .position; from = f .from; below = omega arith; passes = f .passes; second = f .second }; leading = subst (Leading a b access) (sym (one (f .position) (f .from) l)) h }
+        record { found = record { position = f .position; from = f .from; below = omega arith; passes = f .passes; second = f .second }; leading = subst (Leading tr b) (sym (one (f .position) (f .from) l)) h }
 
-    seen-more : (test : Record → Bool) (m m′ : List ℕ) → Leading a b access (ev tr lo) → Seen tr b test (suc i) m → Notes tr test lo (suc i) m m′ → Seen tr b test lo m′
+    seen-more : (test : Record → Bool) (m m′ : List ℕ) → Leading tr b (ev tr lo) → Seen tr b test (suc i) m → Notes tr test lo (suc i) m m′ → Seen tr b test lo m′
     seen-more test m m′ h q n = record { size = n .size ∙ q .size; tells = λ c l. let z = q .size in (λ k. there c l (n .tells c (omega arith) .0 k), λ k. n .tells c (omega arith) .1 (back c l (split test c k))) }
       where
         there : (c : ℕ) → c < 1025 → T (isMarked m c) ⊎ Second tr test c lo (suc i) → Kept tr b test c lo
         there c l (inl k) = wider test c (q .tells c l .0 k)
         there c l (inr f) = kept-here test c h f
 
-        back : (c : ℕ) → c < 1025 → Kept tr b test c (suc i) ⊎ (Second tr test c lo (suc i) × Leading a b access (ev tr lo)) → T (isMarked m c) ⊎ Second tr test c lo (suc i)
+        back : (c : ℕ) → c < 1025 → Kept tr b test c (suc i) ⊎ (Second tr test c lo (suc i) × Leading tr b (ev tr lo)) → T (isMarked m c) ⊎ Second tr test c lo (suc i)
         back c l (inl k) = inl (q .tells c l .1 k)
         back c l (inr f) = inr (f .0)
 
-    seen-still : (test : Record → Bool) (m : List ℕ) → (Leading a b access (ev tr lo) → ⊥) → Seen tr b test (suc i) m → Seen tr b test lo m
+    seen-still : (test : Record → Bool) (m : List ℕ) → (Leading tr b (ev tr lo) → ⊥) → Seen tr b test (suc i) m → Seen tr b test lo m
     seen-still test m n q = record { size = q .size; tells = λ c l. (λ k. wider test c (q .tells c l .0 k), λ k. q .tells c l .1 (back c (split test c k))) }
       where
-        back : (c : ℕ) → Kept tr b test c (suc i) ⊎ (Second tr test c lo (suc i) × Leading a b access (ev tr lo)) → Kept tr b test c (suc i)
+        back : (c : ℕ) → Kept tr b test c (suc i) ⊎ (Second tr test c lo (suc i) × Leading tr b (ev tr lo)) → Kept tr b test c (suc i)
         back c (inl k) = k
         back c (inr f) = absurd (n (f .1))
 
     -- of another event action, passed is passed
-    passed-same : (x : ℕ) → (Leading a b access (ev tr x) → ev tr x ≢ ev tr lo) → passed (suc i) x ≡ passed lo x
+    passed-same : (x : ℕ) → (Leading tr b (ev tr x) → ev tr x ≢ ev tr lo) → passed (suc i) x ≡ passed lo x
     passed-same x n =
         same (passed (suc i) x) (passed lo x)
         (λ h. let q = of-passed (suc i) x h in let l = s .low in to-passed lo x (omega (arith, q .0)) (q .1))
@@ -184,7 +184,7 @@ module _ {tr : List Record} (a : Acceptable tr) (b : ℕ) (access : T (isAccess 
 
     pub pass-led : Led tr (ranksOf tr) work accessed written named lo (suc i) → (accessed′ written′ named′ : List ℕ) → Notes tr isAccess lo (suc i) accessed accessed′ → Notes tr isWrite lo (suc i) written written′ → Notes tr isJoin lo (suc i) named named′ → Passed tr b lo entry (withMark work (rank tr (ev tr lo) - 1)) accessed′ written′ named′
     pass-led d accessed′ written′ named′ x y z =
-        let h = led-leads a b access lo i s entry work accessed written named p d in
+        let h = led-leads a b access s p d in
         record {
           low = omega (arith, s .low, p .low);
           parted = parted-lo;
@@ -192,21 +192,21 @@ module _ {tr : List Record} (a : Acceptable tr) (b : ℕ) (access : T (isAccess 
           writes = seen-more isWrite written written′ h (p .writes) y;
           waits = seen-more isJoin named named′ h (p .waits) z;
           marks =
-              marked-more lo lo entry work room (lo-inside a b access lo i s entry work accessed written named p) (p .marks .size) (p .marks .rest)
-              (λ x k e. to-passed lo x (from-lo a b access lo i s entry work accessed written named p x k e) (subst (Leading a b access) (sym e) h))
+              marked-more lo lo entry work room (lo-inside a b access s p) (p .marks .size) (p .marks .rest)
+              (λ x k e. to-passed lo x (from-lo a b access s p x k e) (subst (Leading tr b) (sym e) h))
               (λ x k n. p .marks .byte x k ∙ ap mark (passed-same x (λ _. n)));
         }
 
     pub pass-by : (Led tr (ranksOf tr) work accessed written named lo (suc i) → ⊥) → Passed tr b lo entry work accessed written named
     pass-by d =
-        let n : Leading a b access (ev tr lo) → ⊥ = λ h. d (leads-led a b access lo i s entry work accessed written named p h) in
+        let n : Leading tr b (ev tr lo) → ⊥ = λ h. d (leads-led a b access s p h) in
         record {
           low = omega (arith, s .low, p .low);
           parted = parted-lo;
           accesses = seen-still isAccess accessed n (p .accesses);
           writes = seen-still isWrite written n (p .writes);
           waits = seen-still isJoin named n (p .waits);
-          marks = record { size = p .marks .size; rest = p .marks .rest; byte = λ x k. p .marks .byte x k ∙ ap mark (passed-same x (λ h e. n (subst (Leading a b access) e h))) };
+          marks = record { size = p .marks .size; rest = p .marks .rest; byte = λ x k. p .marks .byte x k ∙ ap mark (passed-same x (λ h e. n (subst (Leading tr b) e h))) };
         }
 
   -- At the start: the event action of b is marked, and its records before b are noted.
@@ -221,7 +221,7 @@ module _ {tr : List Record} (a : Acceptable tr) (b : ℕ) (access : T (isAccess 
         there c l (inl h) = absurd (none-marked c l h)
         there c l (inr f) =
             let k = f .below in
-            record { found = f; leading = subst (Leading a b access) (sym (s .same (f .position) (f .from) (omega arith))) (leads-self (settingOf tr) (laws a) b) }
+            record { found = f; leading = subst (Leading tr b) (sym (s .same (f .position) (f .from) (omega arith))) (leads-self (settingOf tr) (laws a) b) }
 
     parted-start : (x y : ℕ) → x < lo → lo ≤ y → y < length tr → ev tr x ≢ ev tr y
     parted-start = starts-parted a lo b (inside a b access) s
@@ -249,7 +249,7 @@ module _ {tr : List Record} (a : Acceptable tr) (b : ℕ) (access : T (isAccess 
       waits = seen-start isJoin named z;
       marks =
           marked-more lo b entry entry room (inside a b access) refl refl
-          (λ x k e. to-passed lo x (own-later x e) (subst (Leading a b access) (sym e) (leads-self (settingOf tr) (laws a) b)))
+          (λ x k e. to-passed lo x (own-later x e) (subst (Leading tr b) (sym e) (leads-self (settingOf tr) (laws a) b)))
           (λ x k n. zeros (rank tr (ev tr x) - 1) (row-low a x k) ∙ sym (mark-off (passed lo x) (none-later x k n)));
     }
 
@@ -280,13 +280,13 @@ module _ {tr : List Record} (a : Acceptable tr) (ranks : List ℕ) (are : ranks 
   passes-by lo zero l s d e b entry access room p = absurd (omega arith)
   passes-by lo (suc i) l s d e b entry access room p =
       let q : suc i - 1 ≡ i = omega arith in
-      pass-by a b access lo i (rw q at s) entry work accessed written named room p (λ h. subst T e (d .1 (rw are h)))
+      pass-by a b access (rw q at s) room p (λ h. subst T e (d .1 (rw are h)))
 
   pub passes-led : (lo hi : ℕ) → lo < hi → Starts tr lo (hi - 1) → T r ↔ Led tr ranks work accessed written named lo hi → r ≡ true → (work′ accessed′ written′ named′ : List ℕ) → work′ ≡ withMark work (getD ranks (ev tr lo) 0 - 1) → Notes tr isAccess lo hi accessed accessed′ → Notes tr isWrite lo hi written written′ → Notes tr isJoin lo hi named named′ → PassesOn tr hi lo work accessed written named work′ accessed′ written′ named′
   passes-led lo zero l s d e work′ accessed′ written′ named′ m x y z b entry access room p = absurd (omega arith)
   passes-led lo (suc i) l s d e work′ accessed′ written′ named′ m x y z b entry access room p =
       let q : suc i - 1 ≡ i = omega arith in
-      rw (m, are, ranks-are a (ev tr lo)) (pass-led a b access lo i (rw q at s) entry work accessed written named room p (rw are at (d .0 (subst T (sym e) tt))) accessed′ written′ named′ x y z)
+      rw (m, are, ranks-are a (ev tr lo)) (pass-led a b access (rw q at s) room p (rw are at (d .0 (subst T (sym e) tt))) accessed′ written′ named′ x y z)
 
 -- The start and the end, as the code makes them: `first` is the work space once the event action of b is marked.
 module _ {tr : List Record} {ranks : List ℕ} {b : ℕ} {entry first : List ℕ} (w : Ready tr ranks b entry) (marked : first ≡ withMark entry (getD ranks (ev tr b) 0 - 1)) where

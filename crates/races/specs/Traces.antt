@@ -8,11 +8,11 @@ use Rattle.order.specs.HappensBefore.{happensBefore}
 use Rattle.coverage.specs.Setting.{Setting}
 use Rattle.coverage.specs.Neighbours.{Cells, conflicts}
 
--- The source: "read(v) and write(v)" access a variable.
+-- a read or a write. The source: "both operations access the same variable, at least one is a write"
 abbrev pub isAccess : Record → Bool
 isAccess r = isRead r || isWrite r
 
--- "5 read: open event, cell. 6 write: open event, cell."
+-- The second of a read or write is its cell: "| 5 | read | open event | cell |", "| 6 | write | open event | cell |"
 abbrev pub cellsOf : List Record → Cells
 cellsOf tr = record { cell = λ i. at tr i .second; isAccess = λ i. isAccess (at tr i); isWrite = λ i. isWrite (at tr i) }
 
