@@ -3,3 +3,4 @@ pub mod NoteLaws
 pub mod LeadingLaws
 pub mod PassLaws
 pub mod WorkLaws
+pub mod Examples
