@@ -1,0 +1,6 @@
+pub mod Instance
+pub mod NoteLaws
+pub mod LeadingLaws
+pub mod PassLaws
+pub mod WorkLaws
+pub mod Examples

@@ -1,0 +1,51 @@
+-- The work space between calls, and what its marks say of a race. Assumes nothing.
+use Prim.Native.Nat.{ℕ, _+_, _-_, _≤_}
+use mathlib.Core.Path.{_≡_, ap, subst, sym}
+use mathlib.Core.Logic.{_↔_}
+use mathlib.Core.List.{List, _++_}
+use native.Mathlib.Omega.{arith}
+use lib.Dec.{T}
+use lib.ListN.{length, take, drop, replicate, length-append, length-drop, length-replicate}
+use lib.Seq.{take-at, drop-at}
+use Rattle.trace.specs.declared.Record.{Record}
+use Rattle.trace.specs.Records.{at, eventOf}
+use Rattle.trace.specs.Reading.{Acceptable}
+use Rattle.order.specs.Ranks.{ranksOf}
+use Rattle.coverage.specs.Race.{Race}
+use Rattle.coverage.specs.Cover.{Covered}
+use Rattle.coverage.specs.Leading.{leads}
+use Rattle.coverage.proofs.Theorems.{covered-iff}
+use Rattle.races.specs.Traces.{settingOf}
+use Rattle.races.specs.Leading.{rows, leadingMarks}
+use Rattle.races.specs.LeadingPass.{markedEvent}
+use Rattle.races.proofs.Instance.{laws}
+use Rattle.races.proofs.PassLaws.{marks-long, marked-covered}
+
+module _ (tr : List Record) (b : ℕ) where
+  -- a mark for each row
+  pub leading-long : length (leadingMarks tr b) ≡ rows tr
+  unfolding leadingMarks
+  leading-long = marks-long tr (leads (settingOf tr) b) (length tr)
+
+  -- once the marks are taken away again the space is as it was, but for its zeros
+  pub cleared : (entry : List ℕ) → replicate (rows tr) 0 ++ drop (rows tr) (leadingMarks tr b ++ drop (rows tr) entry) ≡ replicate (rows tr) 0 ++ drop (rows tr) entry
+  cleared entry = ap (λ (rest : List ℕ). replicate (rows tr) 0 ++ rest) (drop-at (leadingMarks tr b) (drop (rows tr) entry) (rows tr) leading-long)
+
+  pub marked-room : (entry : List ℕ) → rows tr ≤ length entry → length (leadingMarks tr b ++ drop (rows tr) entry) ≡ length entry
+  marked-room entry h = simp (length-append, length-drop) (omega (arith, leading-long))
+
+-- zeros at the front
+pub zeros-front : (m : ℕ) (rest : List ℕ) → take m (replicate m 0 ++ rest) ≡ replicate m 0
+zeros-front m rest = take-at (replicate m 0) rest m (length-replicate {A = ℕ} m 0)
+
+pub zeros-room : (m : ℕ) (entry : List ℕ) → m ≤ length entry → length (replicate m 0 ++ drop m entry) ≡ length entry
+zeros-room m entry h = simp (length-append, length-drop) (omega (arith, length-replicate {A = ℕ} m 0))
+
+-- Of a race (x, b), the mark of the event action of x says whether it is covered.
+pub marked-iff : {tr : List Record} (a : Acceptable tr) (x b : ℕ) (rest : List ℕ) → Race (settingOf tr) x b → T (markedEvent (ranksOf tr) (leadingMarks tr b ++ rest) (eventOf (at tr x))) ↔ Covered (settingOf tr) x b
+marked-iff {tr} a x b rest r =
+    let l = r .first in
+    let k = r .inside in
+    let e = marked-covered a b rest x (omega arith) in
+    let w = covered-iff (settingOf tr) (laws a) x b r in
+    (λ h. w .0 (subst T e h), λ c. subst T (sym e) (w .1 c))

@@ -1,0 +1,85 @@
+-- How the event actions that lead to b are found: one pass over the event actions, from that of b down to the first. `LeadingLaws` proves that
+-- this gives `leads`. Definitions alone. Assumes nothing.
+use Prim.Native.Nat.{ℕ, suc, _-_, _≤_, _<_}
+use mathlib.Core.Path.{_≡_}
+use mathlib.Core.Logic.{_≢_, _⊎_, _↔_}
+use mathlib.Core.Bool.{Bool, false, cond, _&&_}
+use mathlib.Core.List.{List}
+use lib.Dec.{T, leb, eqb}
+use lib.ListN.{length, getD, drop}
+use Rattle.trace.specs.declared.Record.{Record}
+use Rattle.trace.specs.Records.{at, isFork, isJoin, isRead, isWrite, eventOf}
+use Rattle.trace.specs.Marks.{isMarked, withMark}
+use Rattle.order.specs.HappensBefore.{rank}
+use Rattle.coverage.specs.Leading.{leads}
+use Rattle.races.specs.Traces.{isAccess, settingOf}
+use Rattle.races.specs.Leading.{mark, rows}
+
+-- the number is marked where the test says so
+abbrev pub markIf : Bool → List ℕ → ℕ → List ℕ
+markIf test m c = cond test (withMark m c) m
+
+-- is the event action of e marked, where a mark stands at its rank less 1?
+unfoldable pub markedEvent : List ℕ → List ℕ → ℕ → Bool
+markedEvent ranks work e = cond (eqb (getD ranks e 0) 0) false (isMarked work (getD ranks e 0 - 1))
+
+-- does the record lead on: start a marked event, write a cell that is accessed after it, or read one that is written after it?
+unfoldable pub leadsOn : List ℕ → List ℕ → List ℕ → List ℕ → Record → Bool
+leadsOn ranks work accessed written r =
+    cond (isFork r) (markedEvent ranks work (r .second))
+    (cond (isWrite r) (isMarked accessed (r .second))
+    (cond (isRead r) (isMarked written (r .second)) false))
+
+module _ (tr : List Record) where
+  -- records lo to i are of one event action, and the one before lo is not
+  pub record Starts (lo i : ℕ) : Type 0 where
+    pub low : lo ≤ i
+    pub same : (x : ℕ) → lo ≤ x → x ≤ i → eventOf (at tr x) ≡ eventOf (at tr i)
+    pub parted : (y : ℕ) → suc y ≡ lo → eventOf (at tr y) ≢ eventOf (at tr i)
+
+  -- a record from lo on, before hi, passes the test and has c for its second
+  pub record Second (test : Record → Bool) (c lo hi : ℕ) : Type 0 where
+    pub position : ℕ
+    pub from : lo ≤ position
+    pub below : position < hi
+    pub passes : T (test (at tr position))
+    pub second : at tr position .second ≡ c
+
+  -- the seconds of such records are marked besides
+  pub record Notes (test : Record → Bool) (lo hi : ℕ) (m m′ : List ℕ) : Type 0 where
+    pub size : length m′ ≡ length m
+    pub tells : (c : ℕ) → c < length m → T (isMarked m′ c) ↔ (T (isMarked m c) ⊎ Second test c lo hi)
+
+  -- the event action of the records from lo on, before hi, is waited for, or one of them leads on
+  abbrev pub Led : List ℕ → List ℕ → List ℕ → List ℕ → List ℕ → ℕ → ℕ → Type 0
+  Led ranks work accessed written named lo hi = T (isMarked named (eventOf (at tr lo))) ⊎ ((i : ℕ) × (lo ≤ i) × (i < hi) × T (leadsOn ranks work accessed written (at tr i)))
+
+-- When the event actions from record hi on are passed:
+module _ (tr : List Record) (b : ℕ) where
+  -- a record before b of an event action that leads to b passes the test and has c for its second
+  pub record Kept (test : Record → Bool) (c hi : ℕ) : Type 0 where
+    pub found : Second tr test c hi b
+    pub leading : T (leads (settingOf tr) b (eventOf (at tr (found .position))))
+
+  pub record Seen (test : Record → Bool) (hi : ℕ) (m : List ℕ) : Type 0 where
+    pub size : length m ≡ 1025
+    pub tells : (c : ℕ) → c < 1025 → T (isMarked m c) ↔ Kept test c hi
+
+  -- an event action that leads to b is marked once it is passed; nothing else is written over the entry values
+  pub record Marked (hi : ℕ) (entry work : List ℕ) : Type 0 where
+    pub size : length work ≡ length entry
+    pub rest : drop (rows tr) work ≡ drop (rows tr) entry
+    pub byte : (x : ℕ) → x < length tr → getD work (rank tr (eventOf (at tr x)) - 1) 0 ≡ mark (leb hi x && leads (settingOf tr) b (eventOf (at tr x)))
+
+  pub record Passed (hi : ℕ) (entry work accessed written named : List ℕ) : Type 0 where
+    pub low : hi ≤ b
+    pub parted : (x y : ℕ) → x < hi → hi ≤ y → y < length tr → eventOf (at tr x) ≢ eventOf (at tr y)
+    pub accesses : Seen isAccess hi accessed
+    pub writes : Seen isWrite hi written
+    pub waits : Seen isJoin hi named
+    pub marks : Marked hi entry work
+
+-- From the event actions passed from hi on to those from lo on, whatever b is and whatever the entry values were.
+abbrev pub PassesOn : List Record → ℕ → ℕ → List ℕ → List ℕ → List ℕ → List ℕ → List ℕ → List ℕ → List ℕ → List ℕ → Type 0
+PassesOn tr hi lo work accessed written named work′ accessed′ written′ named′ =
+    (b : ℕ) (entry : List ℕ) → T (isAccess (at tr b)) → rows tr ≤ length entry → Passed tr b hi entry work accessed written named → Passed tr b lo entry work′ accessed′ written′ named′

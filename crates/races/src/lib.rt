@@ -1,0 +1,3 @@
+// Races of a trace: the event actions that lead to an access.
+mod leading;
+mod workspace;
