@@ -4,3 +4,4 @@ pub mod LeadingLaws
 pub mod PassLaws
 pub mod WorkLaws
 pub mod Examples
+pub mod FilledLaws

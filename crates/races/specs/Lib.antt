@@ -1,3 +1,4 @@
 pub mod Traces
 pub mod Leading
 pub mod LeadingPass
+pub mod Filled

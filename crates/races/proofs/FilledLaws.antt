@@ -1,0 +1,75 @@
+-- Filled clocks answer for the records of a trace.
+-- Assumes nothing.
+use Prim.Native.Nat.{ℕ, zero, suc, _+_, _-_, _≤_, _<_}
+use mathlib.Core.Path.{_≡_, refl, sym, ap, _∙_, subst}
+use mathlib.Core.Bool.{Bool, true, false, not, cond, _&&_}
+use mathlib.Core.List.{List, _++_}
+use mathlib.Core.Logic.{_≢_}
+use native.Mathlib.Omega.{arith}
+use borrow.Author.Tests.{eq-eqb, ne-eqb, lt-ltb}
+use lib.Dec.{T, ltb, eqb}
+use lib.ListN.{length, getD, replicate, length-append, length-replicate}
+use Rattle.trace.specs.declared.Record.{Record}
+use Rattle.trace.specs.Records.{at, eventOf}
+use Rattle.order.specs.Clocks.{table, chainOf, compareIn}
+use Rattle.order.specs.HappensBefore.{rank, traceLinks, happensBefore}
+use Rattle.order.specs.Fill.{eventsIn, chainTable}
+use Rattle.order.specs.Question.{compared}
+use Rattle.order.proofs.RankLaws.{ranks-are}
+use Rattle.order.proofs.RowLaws.{table-length}
+use Rattle.order.proofs.TraceOrder.{record-begins, begins-rank}
+use Rattle.order.proofs.AskLaws.{rank-row, events-few, chain-at}
+use Rattle.order.proofs.OrderTheorem.{compared-before}
+use Rattle.coverage.specs.Race.{before, raceb}
+use Rattle.coverage.specs.Neighbours.{conflicts}
+use Rattle.races.specs.Traces.{cellsOf, settingOf, conflict}
+use Rattle.races.specs.Filled.{Filled}
+
+module _ {tr : List Record} {ranks of : List ℕ} {width : ℕ} {clocks : List ℕ} (f : Filled tr ranks of width clocks) where
+  abbrev ev : ℕ → ℕ
+  ev x = eventOf (at tr x)
+
+  module _ (x : ℕ) (h : x < length tr) where
+    pub has-rank : rank tr (ev x) ≢ 0
+    has-rank z = omega (arith, begins-rank (f .acceptable) (record-begins (f .acceptable) x h), z)
+
+    pub rank-is : getD ranks (ev x) 0 ≡ rank tr (ev x)
+    rank-is = ap (λ m. getD m (ev x) 0) (f .ranks-are) ∙ ranks-are (f .acceptable) (ev x)
+
+    pub rank-some : getD ranks (ev x) 0 ≢ 0
+    rank-some z = has-rank (sym rank-is ∙ z)
+
+    pub row-inside : rank tr (ev x) - 1 < eventsIn tr
+    row-inside = rank-row (f .acceptable) (ev x) has-rank
+
+  pub of-length : length of ≡ 1024
+  unfolding chainTable
+  of-length = omega (arith, ap length (f .of-are), length-append (table (eventsIn tr) (chainOf (traceLinks tr))) (replicate (1024 - eventsIn tr) 0), table-length (eventsIn tr) (chainOf (traceLinks tr)), length-replicate {A = ℕ} (1024 - eventsIn tr) 0, events-few (f .acceptable))
+
+  pub row-room : (x : ℕ) → x < length tr → getD ranks (ev x) 0 - 1 < length of
+  row-room x h = omega (arith, rank-is x h, row-inside x h, events-few (f .acceptable), of-length)
+
+  pub before-is : (a b : ℕ) → a < length tr → b < length tr
+      → compareIn clocks width (getD of (getD ranks (ev a) 0 - 1) 0) (getD ranks (ev a) 0 - 1) (getD ranks (ev b) 0 - 1) ≡ happensBefore tr (ev a) (ev b)
+  unfolding compared
+  before-is a b h k =
+      let c : getD of (rank tr (ev a) - 1) 0 ≡ chainOf (traceLinks tr) (rank tr (ev a) - 1) = ap (λ o. getD o (rank tr (ev a) - 1) 0) (f .of-are) ∙ chain-at (f .acceptable) (rank tr (ev a) - 1) (row-inside a h) in
+      rw (rank-is a h, rank-is b k, c, f .clocks-are) (compared-before (f .acceptable) width (f .enough) (f .rest) (ev a) (ev b) (has-rank a h) (has-rank b k))
+
+-- a race, by its parts
+pub conflict-is : (tr : List Record) (a b : ℕ) → conflict (at tr a) (at tr b) ≡ conflicts (cellsOf tr) a b
+unfolding conflict conflicts
+conflict-is tr a b = refl
+
+module _ (tr : List Record) (a b : ℕ) (l : a < b) (h : b < length tr) where
+  pub no-conflict : conflict (at tr a) (at tr b) ≡ false → raceb (settingOf tr) a b ≡ false
+  unfolding raceb
+  no-conflict c = rw (lt-ltb a b l, lt-ltb b (length tr) h, ← conflict-is tr a b, c)
+
+  pub same-event : conflict (at tr a) (at tr b) ≡ true → eventOf (at tr a) ≡ eventOf (at tr b) → raceb (settingOf tr) a b ≡ false
+  unfolding raceb before
+  same-event c e = rw (lt-ltb a b l, lt-ltb b (length tr) h, ← conflict-is tr a b, c, eq-eqb _ _ e)
+
+  pub other-event : conflict (at tr a) (at tr b) ≡ true → eventOf (at tr a) ≢ eventOf (at tr b) → raceb (settingOf tr) a b ≡ not (happensBefore tr (eventOf (at tr a)) (eventOf (at tr b)))
+  unfolding raceb before
+  other-event c n = rw (lt-ltb a b l, lt-ltb b (length tr) h, ← conflict-is tr a b, c, ne-eqb _ _ n)

@@ -1,0 +1,18 @@
+-- What is at hand once the clocks of an accepted trace are filled. Assumes nothing.
+use Prim.Native.Nat.{ℕ, _≤_}
+use mathlib.Core.Path.{_≡_}
+use mathlib.Core.List.{List, _++_}
+use Rattle.trace.specs.declared.Record.{Record}
+use Rattle.trace.specs.Reading.{Acceptable}
+use Rattle.order.specs.Ranks.{ranksOf}
+use Rattle.order.specs.Fill.{eventsIn, shortRow, chainTable, traceClocks}
+
+-- Ranks by event number, the chain of each row, and clocks at a width that suffices, with anything after them.
+pub record Filled (tr : List Record) (ranks of : List ℕ) (width : ℕ) (clocks : List ℕ) : Type 0 where
+  pub acceptable : Acceptable tr
+  pub ranks-are : ranks ≡ ranksOf tr
+  pub of-are : of ≡ chainTable tr
+  pub narrow : width ≤ 1024
+  pub enough : shortRow tr width ≡ eventsIn tr
+  pub rest : List ℕ
+  pub clocks-are : clocks ≡ traceClocks tr width ++ rest

@@ -1,0 +1,75 @@
+// Which accesses race, by the clocks.
+use crate::leading::is_access;
+use order::question::compare;
+use order::ranks::rank_of;
+use trace::Record;
+use trace::access;
+ghost use mathlib.Core.Path.{_≡_};
+ghost use Prim.Native.Nat.{_<_};
+ghost use lib.ListN.{length};
+ghost use Rattle.trace.specs.Bytes.{decode};
+ghost use Rattle.trace.specs.Records.{at, eventOf};
+ghost use Rattle.order.specs.HappensBefore.{happensBefore};
+ghost use Rattle.coverage.specs.Race.{raceb};
+ghost use Rattle.races.specs.Traces.{settingOf, conflict};
+ghost use Rattle.races.specs.Filled.{Filled};
+
+// Both access, the same cell, and one of them writes.
+pub(crate) fn is_conflict(a: Record, b: Record) -> bool
+    ensures { λ r. ⌜ r ≡ conflict a b ⌝ }
+{
+    if !is_access(a) {
+        return false;
+    }
+    if !is_access(b) {
+        return false;
+    }
+    if a.second != b.second {
+        return false;
+    }
+    if a.kind == 6 {
+        return true;
+    }
+    b.kind == 6
+}
+
+// Whether the event action of record a happens before that of record b.
+pub(crate) fn is_before(
+    recs: &[u8],
+    ranks: &[u16],
+    of: &[u16],
+    width: usize,
+    clocks: &[u16],
+    a: usize,
+    b: usize,
+) -> bool
+    requires { ⌜ Filled (decode (now recs)) (now ranks) (now of) width (now clocks) × (a < length (decode (now recs))) × (b < length (decode (now recs))) ⌝ }
+    ensures { λ r. ⌜ r ≡ happensBefore (decode (now (recs .entry))) (eventOf (at (decode (now (recs .entry))) a)) (eventOf (at (decode (now (recs .entry))) b)) ⌝ }
+{
+    let first = rank_of(ranks, access::first_at(recs, a));
+    let second = rank_of(ranks, access::first_at(recs, b));
+    let row = (first - 1) as usize;
+    compare(clocks, width as u16, of[row], first - 1, second - 1)
+}
+
+// Whether records a and b are a race, where a stands before b.
+pub(crate) fn is_race(
+    recs: &[u8],
+    ranks: &[u16],
+    of: &[u16],
+    width: usize,
+    clocks: &[u16],
+    a: usize,
+    b: usize,
+) -> bool
+    requires { ⌜ Filled (decode (now recs)) (now ranks) (now of) width (now clocks) × (a < b) × (b < length (decode (now recs))) ⌝ }
+    ensures { λ r. ⌜ r ≡ raceb (settingOf (decode (now (recs .entry)))) a b ⌝ }
+{
+    if !is_conflict(access::record_at(recs, a), access::record_at(recs, b)) {
+        return false;
+    }
+    if access::first_at(recs, a) == access::first_at(recs, b) {
+        return false;
+    }
+    !is_before(recs, ranks, of, width, clocks, a, b)
+}
