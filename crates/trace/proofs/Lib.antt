@@ -8,3 +8,4 @@ pub mod Accepted
 pub mod Positions
 pub mod PlaceRule
 pub mod Blocks
+pub mod Cases
