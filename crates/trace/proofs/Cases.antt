@@ -66,6 +66,7 @@ cases =
     ∷ reads (rec 1 1 0 ∷ rec 7 1 1 ∷ []) 10 1 (refused 4 2)
     ∷ reads (rec 1 1 0 ∷ rec 5 1 1025 ∷ []) 10 1 (refused 5 2)
     ∷ reads (rec 2 1 0 ∷ []) 5 0 (refused 6 1)
+    ∷ reads (rec 1 1 0 ∷ rec 1 1 0 ∷ []) 10 2 (refused 6 2)
     ∷ reads (rec 1 1 0 ∷ rec 3 1 1 ∷ []) 10 1 (refused 7 2)
     ∷ reads (rec 4 1 2 ∷ []) 5 0 (refused 8 1)
     ∷ reads (rec 1 1 0 ∷ []) 5 1 (refused 9 1)
