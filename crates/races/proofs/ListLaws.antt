@@ -209,3 +209,19 @@ module _ (tr : List Record) where
   pub below-none : (short : Bool) → pairsBelow tr short 0 ≡ []
   unfolding pairsBelow
   below-none short = refl
+
+  -- one first access more
+  upto-mono : (m d : ℕ) (p : ℕ → Bool) → length (upto m p) ≤ length (upto (m + d) p)
+  upto-mono m zero p = let e : m + 0 ≡ m = omega arith in rw e (omega arith)
+  upto-mono m (suc d) p = let e : m + suc d ≡ suc (m + d) = omega arith in rw e (go (decide (p (m + d))) (upto-mono m d p))
+    where
+      go : T (p (m + d)) ⊎ (T (p (m + d)) → ⊥) → length (upto m p) ≤ length (upto (m + d) p) → length (upto m p) ≤ length (upto (suc (m + d)) p)
+      go (inl h) l = omega (arith, ap length (upto-yes (m + d) p h), length-append (upto (m + d) p) ((m + d) ∷ []))
+      go (inr h) l = omega (arith, ap length (upto-no (m + d) p h))
+
+  pub firsts-grow : (from b a m : ℕ) → a < m → from ≤ a → race a b ≡ true → length (firsts tr from b a) + 1 ≤ length (firsts tr from b m)
+  unfolding firsts
+  firsts-grow from b a m l h e =
+      let more = upto-mono (a + 1) (m - (a + 1)) (test from b) in
+      let q : a + 1 + (m - (a + 1)) ≡ m = omega arith in
+      omega (arith, ap length (firsts-yes from b a h e), length-append (upto a (test from b)) (a ∷ []), rw q at more)

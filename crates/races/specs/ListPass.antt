@@ -9,6 +9,8 @@ use lib.ListN.{length, drop, replicate, take}
 use lib.Seq.{sets}
 use Rattle.trace.specs.declared.Record.{Record}
 use Rattle.trace.specs.Records.{at, isWrite}
+use Rattle.trace.specs.Reading.{Acceptable}
+use Rattle.order.specs.Ranks.{ranksOf}
 use Rattle.coverage.specs.Below.{upto}
 use Rattle.coverage.specs.Race.{raceb}
 use Rattle.races.specs.Traces.{settingOf}
@@ -38,6 +40,28 @@ module _ (tr : List Record) where
   unfoldable pub pairsBelow : Bool → ℕ → List (ℕ × ℕ)
   pairsBelow short zero = []
   pairsBelow short (suc b) = pairsBelow short b ++ withSecond b (firsts (fromOf short b) b b)
+
+-- the event actions that lead to b are marked
+pub record Marks (tr : List Record) (ranks work : List ℕ) (b : ℕ) : Type 0 where
+  pub acceptable : Acceptable tr
+  pub ranks-are : ranks ≡ ranksOf tr
+  pub inside : b < length tr
+  pub work-is : work ≡ leadingMarks tr b ++ drop (rows tr) work
+
+-- what one pair of records asks for, and what becomes of entry k
+pub record OneRoom (tr : List Record) (ranks of : List ℕ) (width : ℕ) (clocks work : List ℕ) (a b k : ℕ) (list : List ℕ) : Type 0 where
+  pub filled : Filled tr ranks of width clocks
+  pub marks : Marks tr ranks work b
+  pub earlier : a < b
+  pub space : raceb (settingOf tr) a b ≡ true → 5 * k + 5 ≤ length list
+
+abbrev pub entryIf : Bool → List Record → ℕ → ℕ → ℕ → List ℕ → List ℕ
+entryIf true tr a b k list = sets list (5 * k) (entry tr a b)
+entryIf false tr a b k list = list
+
+pub record OneWrites (tr : List Record) (a b k : ℕ) (list list′ : List ℕ) (r : ℕ) : Type 0 where
+  pub next : r ≡ cond (raceb (settingOf tr) a b) (k + 1) k
+  pub list-is : list′ ≡ entryIf (raceb (settingOf tr) a b) tr a b k list
 
 -- what a turn over one second access asks for: filled clocks, a work space with room, and list space for its entries from entry k on
 pub record Room (tr : List Record) (ranks of : List ℕ) (width : ℕ) (clocks : List ℕ) (b from k : ℕ) (list : List ℕ) : Type 0 where

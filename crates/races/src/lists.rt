@@ -12,7 +12,7 @@ ghost use Rattle.trace.specs.Bytes.{decode};
 ghost use Rattle.trace.specs.Records.{at};
 ghost use Rattle.races.specs.Leading.{rows, leadingMarks};
 ghost use Rattle.races.specs.Lists.{entry, shapeOf};
-ghost use Rattle.races.specs.ListPass.{lastWrite, fromOf, firsts, pairsBelow, Room, Writes};
+ghost use Rattle.races.specs.ListPass.{lastWrite, fromOf, firsts, pairsBelow, Marks, OneRoom, OneWrites, Room, Writes};
 ghost use Rattle.races.specs.Filled.{Filled};
 
 // The last record below i that writes the cell, or 0.
@@ -82,4 +82,90 @@ fn count(recs: &[u8], ranks: &[u16], of: &[u16], width: usize, clocks: &[u16], s
         b += 1;
     }
     found
+}
+
+// 1 for ww, 2 for wr, 3 for rw.
+fn shape_of(recs: &[u8], a: usize, b: usize) -> u16
+    ensures { λ r. ⌜ r ≡ shapeOf (decode (now (recs .entry))) a b ⌝ }
+{
+    if access::kind_at(recs, a) != 6 {
+        return 3;
+    }
+    if access::kind_at(recs, b) == 6 {
+        return 1;
+    }
+    2
+}
+
+// Entry k of the list: the race of records a and b, whose event actions that lead to b are marked.
+fn put_entry(
+    recs: &[u8],
+    ranks: &[u16],
+    work: &[u8],
+    a: usize,
+    b: usize,
+    list: &mut [u16],
+    k: usize,
+)
+    requires { ⌜ Marks (decode (now recs)) (now ranks) (now work) b × (a < b) × (b < 4096) × (5 * k + 5 ≤ length (now list)) ⌝ }
+    ensures { λ u. ⌜ now (list .exit) ≡ sets (now (list .entry)) (5 * k) (entry (decode (now (recs .entry))) a b) ⌝ }
+{
+    let at = 5 * k;
+    list[at] = (a + 1) as u16;
+    list[at + 1] = (b + 1) as u16;
+    list[at + 2] = access::second_at(recs, b);
+    list[at + 3] = shape_of(recs, a, b);
+    if leading::is_leading(recs, ranks, work, a) {
+        list[at + 4] = 0;
+        return;
+    }
+    list[at + 4] = 1;
+}
+
+// Records a and b: entry k where they are a race. The next entry.
+fn write_race(
+    recs: &[u8],
+    ranks: &[u16],
+    of: &[u16],
+    width: usize,
+    clocks: &[u16],
+    work: &[u8],
+    a: usize,
+    b: usize,
+    list: &mut [u16],
+    k: usize,
+) -> usize
+    requires { ⌜ OneRoom (decode (now recs)) (now ranks) (now of) width (now clocks) (now work) a b k (now list) ⌝ }
+    ensures { λ r. ⌜ OneWrites (decode (now (recs .entry))) a b k (now (list .entry)) (now (list .exit)) r ⌝ }
+{
+    if is_race(recs, ranks, of, width, clocks, a, b) {
+        put_entry(recs, ranks, work, a, b, list, k);
+        return k + 1;
+    }
+    k
+}
+
+// The races of second access b, whose leading event actions are marked, from entry k on.
+fn write_races(
+    recs: &[u8],
+    ranks: &[u16],
+    of: &[u16],
+    width: usize,
+    clocks: &[u16],
+    work: &[u8],
+    from: usize,
+    b: usize,
+    list: &mut [u16],
+    k: usize,
+) -> usize
+    requires { ⌜ Room (decode (now recs)) (now ranks) (now of) width (now clocks) b from k (now list) × Marks (decode (now recs)) (now ranks) (now work) b ⌝ }
+    ensures { λ r. ⌜ Writes (decode (now (recs .entry))) b from k (now (list .entry)) (now (list .exit)) r ⌝ }
+{
+    let mut next = k;
+    let mut a = from;
+    while a < b {
+        next = write_race(recs, ranks, of, width, clocks, work, a, b, list, next);
+        a += 1;
+    }
+    next
 }
