@@ -1,9 +1,11 @@
 -- Entries stored one after the other.
 -- Assumes nothing.
-use Prim.Native.Nat.{ℕ, zero, suc, _+_, _*_, _≤_, _<_}
+use Prim.Native.Nat.{ℕ, zero, suc, _+_, _*_, _-_, _≤_, _<_}
 use mathlib.Core.Path.{_≡_, refl, sym, ap, ap₂, _∙_, subst}
 use mathlib.Core.Bool.{Bool, true, false, cond}
 use mathlib.Core.List.{List, [], _∷_, _++_, append-assoc, append-nil, map}
+use mathlib.Core.Logic.{_≢_}
+use lib.Dec.{T}
 use native.Mathlib.Omega.{arith}
 use native.Mathlib.Nat.{add-zero}
 use lib.ListN.{length, drop, set, length-append, length-set, length-map}
@@ -12,13 +14,13 @@ use Rattle.trace.specs.declared.Record.{Record}
 use Rattle.trace.specs.Records.{at, eventOf}
 use Rattle.coverage.specs.Race.{raceb}
 use Rattle.coverage.specs.Leading.{coveredb}
-use Rattle.races.specs.Traces.{settingOf}
+use Rattle.races.specs.Traces.{isAccess, settingOf}
 use Rattle.races.specs.Leading.{rows, leadingMarks}
 use Rattle.races.specs.LeadingPass.{markedEvent}
 use Rattle.races.specs.Lists.{shapeOf, markOf, entry, numbers}
 use Rattle.races.specs.ListPass.{fromOf, firsts, withSecond, pairsBelow, Marks, entryIf, OneWrites, Room, Writes}
 use Rattle.races.proofs.PassLaws.{marked-covered}
-use Rattle.races.proofs.ListLaws.{firsts-start, firsts-yes, firsts-no, firsts-grow, below-more}
+use Rattle.races.proofs.ListLaws.{firsts-start, firsts-yes, firsts-no, firsts-none, firsts-grow, below-more, below-length}
 
 pub five-stores : (l : List ℕ) (i a b c d e : ℕ) → set (set (set (set (set l i a) (i + 1) b) (i + 2) c) (i + 3) d) (i + 4) e ≡ sets l i (a ∷ b ∷ c ∷ d ∷ e ∷ [])
 five-stores l i a b c d e =
@@ -154,3 +156,56 @@ module _ {tr : List Record} {b from k : ℕ} {list₀ list : List ℕ} {next a :
       let u = w .high in
       let e : a ≡ b = omega arith in
       record { next = w .next-is ∙ ap (λ i. k + length (firsts tr from b i)) e; list-is = w .list-is ∙ ap (λ i. sets list₀ (5 * k) (numbers tr (withSecond tr b (firsts tr from b i)))) e }
+
+-- a second access that races is an access, and one without races has no entries
+pub some-access : (tr : List Record) (from b i : ℕ) → length (firsts tr from b i) ≢ 0 → T (isAccess (at tr b))
+some-access tr from b i n = go (isAccess (at tr b)) refl
+  where
+    go : (t : Bool) → isAccess (at tr b) ≡ t → T t
+    go true e = tt
+    go false e = absurd (n (ap length (firsts-none tr from b i e)))
+
+no-elements : (xs : List ℕ) → length xs ≡ 0 → xs ≡ []
+no-elements [] e = refl
+no-elements (x ∷ xs) e = absurd (omega arith)
+
+pub no-entries : (tr : List Record) (b from k : ℕ) (list : List ℕ) → length (firsts tr from b b) ≡ 0 → Writes tr b from k list list k
+unfolding numbers
+no-entries tr b from k list e = record { next = omega arith; list-is = rw (no-elements (firsts tr from b b) e) }
+
+-- the loop over the second accesses, turn by turn
+pub record Listing (tr : List Record) (short : Bool) (list₀ list : List ℕ) (k b : ℕ) : Type 0 where
+  pub next-is : k ≡ length (pairsBelow tr short b)
+  pub list-is : list ≡ sets list₀ 0 (numbers tr (pairsBelow tr short b))
+  pub within : b ≤ length tr
+
+pub listing-start : (tr : List Record) (short : Bool) (list : List ℕ) → Listing tr short list list 0 0
+unfolding numbers pairsBelow
+listing-start tr short list = record { next-is = refl; list-is = refl; within = omega arith }
+
+below-grow : (tr : List Record) (short : Bool) (b d : ℕ) → length (pairsBelow tr short b) ≤ length (pairsBelow tr short (b + d))
+below-grow tr short b zero = let e : b + 0 ≡ b = omega arith in rw e (omega arith)
+below-grow tr short b (suc d) = let e : b + suc d ≡ b + d + 1 = omega arith in rw e (omega (arith, below-grow tr short b d, below-length tr short (b + d)))
+
+module _ {tr : List Record} {short : Bool} {list₀ list : List ℕ} {k b : ℕ} (w : Listing tr short list₀ list k b) where
+  pub listing-size : length list ≡ length list₀
+  listing-size = ap length (w .list-is) ∙ length-sets list₀ 0 (numbers tr (pairsBelow tr short b))
+
+  pub listing-room : b < length tr → 5 * length (pairsBelow tr short (length tr)) ≤ length list₀ → 5 * (k + length (firsts tr (fromOf tr short b) b b)) ≤ length list
+  listing-room h s =
+      let e : b + 1 + (length tr - (b + 1)) ≡ length tr = omega arith in
+      let g = rw e at (below-grow tr short (b + 1) (length tr - (b + 1))) in
+      omega (arith, s, g, below-length tr short b, w .next-is, listing-size)
+
+  pub listing-next : b < length tr → (list′ : List ℕ) (r : ℕ) → Writes tr b (fromOf tr short b) k list list′ r → Listing tr short list₀ list′ r (b + 1)
+  listing-next h list′ r o = record {
+    next-is = omega (arith, o .next, w .next-is, below-length tr short b);
+    list-is = o .list-is ∙ (rw (w .list-is, w .next-is) refl ∙ below-written tr short b list₀);
+    within = omega arith;
+  }
+
+  pub listing-end : length tr ≤ b → list ≡ sets list₀ 0 (numbers tr (pairsBelow tr short (length tr)))
+  listing-end h =
+      let u = w .within in
+      let e : b ≡ length tr = omega arith in
+      w .list-is ∙ ap (λ i. sets list₀ 0 (numbers tr (pairsBelow tr short i))) e

@@ -74,3 +74,14 @@ pub record Room (tr : List Record) (ranks of : List ℕ) (width : ℕ) (clocks :
 pub record Writes (tr : List Record) (b from k : ℕ) (list list′ : List ℕ) (r : ℕ) : Type 0 where
   pub next : r ≡ k + length (firsts tr from b b)
   pub list-is : list′ ≡ sets list (5 * k) (numbers tr (withSecond tr b (firsts tr from b b)))
+
+-- the work space is 0 over one byte for each event action
+pub record Clear (tr : List Record) (events : ℕ) (work : List ℕ) : Type 0 where
+  pub events-are : events ≡ rows tr
+  pub work-room : rows tr ≤ length work
+  pub zeros : work ≡ replicate (rows tr) 0 ++ drop (rows tr) work
+
+-- list space for all entries
+pub record AllRoom (tr : List Record) (ranks of : List ℕ) (width : ℕ) (clocks : List ℕ) (short : Bool) (list : List ℕ) : Type 0 where
+  pub filled : Filled tr ranks of width clocks
+  pub space : 5 * length (pairsBelow tr short (length tr)) ≤ length list

@@ -11,8 +11,8 @@ ghost use lib.Seq.{sets};
 ghost use Rattle.trace.specs.Bytes.{decode};
 ghost use Rattle.trace.specs.Records.{at};
 ghost use Rattle.races.specs.Leading.{rows, leadingMarks};
-ghost use Rattle.races.specs.Lists.{entry, shapeOf};
-ghost use Rattle.races.specs.ListPass.{lastWrite, fromOf, firsts, pairsBelow, Marks, OneRoom, OneWrites, Room, Writes};
+ghost use Rattle.races.specs.Lists.{entry, numbers, shapeOf};
+ghost use Rattle.races.specs.ListPass.{lastWrite, fromOf, firsts, pairsBelow, Marks, OneRoom, OneWrites, Clear, Room, Writes, AllRoom};
 ghost use Rattle.races.specs.Filled.{Filled};
 
 // The last record below i that writes the cell, or 0.
@@ -168,4 +168,67 @@ fn write_races(
         a += 1;
     }
     next
+}
+
+// The entries of second access b, from entry k on. The work space is 0 before and after.
+fn write_at(
+    recs: &[u8],
+    ranks: &[u16],
+    of: &[u16],
+    width: usize,
+    clocks: &[u16],
+    work: &mut [u8],
+    events: usize,
+    from: usize,
+    b: usize,
+    list: &mut [u16],
+    k: usize,
+) -> usize
+    requires { ⌜ Room (decode (now recs)) (now ranks) (now of) width (now clocks) b from k (now list) × Clear (decode (now recs)) events (now work) ⌝ }
+    ensures { λ r. ⌜ Writes (decode (now (recs .entry))) b from k (now (list .entry)) (now (list .exit)) r × (now (work .exit) ≡ now (work .entry)) ⌝ }
+{
+    if count_at(recs, ranks, of, width, clocks, from, b) == 0 {
+        return k;
+    }
+    leading::mark_leading(recs, ranks, b, work);
+    let next = write_races(recs, ranks, of, width, clocks, work, from, b, list, k);
+    workspace::clear_marks(work, events);
+    next
+}
+
+// All entries.
+fn write_all(
+    recs: &[u8],
+    ranks: &[u16],
+    of: &[u16],
+    width: usize,
+    clocks: &[u16],
+    work: &mut [u8],
+    events: usize,
+    list: &mut [u16],
+    short: bool,
+)
+    requires { ⌜ AllRoom (decode (now recs)) (now ranks) (now of) width (now clocks) short (now list) × Clear (decode (now recs)) events (now work) ⌝ }
+    ensures { λ u. ⌜ (now (list .exit) ≡ sets (now (list .entry)) 0 (numbers (decode (now (recs .entry))) (pairsBelow (decode (now (recs .entry))) short (length (decode (now (recs .entry))))))) × (now (work .exit) ≡ now (work .entry)) ⌝ }
+{
+    let n = access::count(recs);
+    let mut k = 0;
+    let mut b = 0;
+    while b < n {
+        let from = first_from(recs, short, b);
+        k = write_at(
+            recs,
+            ranks,
+            of,
+            width,
+            clocks,
+            work,
+            events,
+            from,
+            b,
+            list,
+            k,
+        );
+        b += 1;
+    }
 }
