@@ -7,3 +7,4 @@ pub mod Examples
 pub mod FilledLaws
 pub mod ListLaws
 pub mod EntryStores
+pub mod ListEnds

@@ -53,14 +53,17 @@ workFor events work = leb events work
 abbrev pub listFor : ℕ → ℕ → Bool
 listFor count list = leb count (list / 5)
 
+-- a trace whose clocks are filled: 24
+unfoldable pub listFilled : Bool → List Record → ℕ → ℕ → ListReply
+listFilled short tr events list =
+    demand (listFor (length (pairsOf tr short)) list) 24 0 (listed events (length tr) (chainsUsed tr) (length (pairsOf tr short)))
+
 -- an accepted trace of that many event actions: 21, 22, 23, 24
 unfoldable pub listTrace : Bool → List Record → ℕ → ℕ → ℕ → ℕ → ℕ → ListReply
 listTrace short tr events width clocks work list =
     demand (spaceFor width events clocks) 21 0
     (demand (workFor events work) 22 0
-    (demand (eqb (shortRow tr width) events) 23 (beginPosition tr (shortRow tr width) + 1)
-    (demand (listFor (length (pairsOf tr short)) list) 24 0
-    (listed events (length tr) (chainsUsed tr) (length (pairsOf tr short))))))
+    (demand (eqb (shortRow tr width) events) 23 (beginPosition tr (shortRow tr width) + 1) (listFilled short tr events list)))
 
 unfoldable pub listRead : Bool → List ℕ → Reply → ℕ → ℕ → ℕ → ℕ → ListReply
 listRead short b (reading.refused n p) width clocks work list = refused n p
@@ -70,6 +73,11 @@ unfoldable pub listReply : Bool → List ℕ → ℕ → ℕ → ℕ → ℕ →
 listReply short b width clocks work list = listRead short b (readReply b) width clocks work list
 
 -- The lent memory at the end. "Except where stated, lent memory is unchanged."
+-- "list entries past the count and all other bytes are unchanged"
+unfoldable pub listAfter : List Record → ListReply → List (ℕ × ℕ) → List ℕ → List ℕ
+listAfter tr (refused n p) ps list = list
+listAfter tr (listed e r c k) ps list = numbers tr ps ++ drop (5 * length ps) list
+
 module _ (tr : List Record) (events width : ℕ) where
   -- "23: .. The first event actions × width clocks are then 0"; 24: "The clocks stay filled."
   unfoldable pub clocksTrace : ℕ → List ℕ → List ℕ
@@ -78,11 +86,6 @@ module _ (tr : List Record) (events width : ℕ) where
   -- "After any call that passes 22 the work space is 0 over one byte per event action"
   unfoldable pub workTrace : ℕ → List ℕ → List ℕ
   workTrace clocks work = pickList (spaceFor width events clocks && workFor events (length work)) (replicate events 0 ++ drop events work) work
-
-  -- "list entries past the count and all other bytes are unchanged"
-  unfoldable pub filledBy : ListReply → List (ℕ × ℕ) → List ℕ → List ℕ
-  filledBy (refused n p) ps list = list
-  filledBy (listed e r c k) ps list = numbers tr ps ++ drop (5 * length ps) list
 
 unfoldable pub clocksRead : List ℕ → Reply → ℕ → ℕ → List ℕ → List ℕ
 clocksRead b (reading.refused n p) width work clocks = clocks
@@ -95,4 +98,4 @@ workRead b (reading.accepted start n m) width clocks work = workTrace (recordsIn
 unfoldable pub listAfterRead : Bool → List ℕ → Reply → ℕ → ℕ → ℕ → List ℕ → List ℕ
 listAfterRead short b (reading.refused n p) width clocks work list = list
 listAfterRead short b (reading.accepted start n m) width clocks work list =
-    filledBy (recordsIn b start n) m width (listTrace short (recordsIn b start n) m width clocks work (length list)) (pairsOf (recordsIn b start n) short) list
+    listAfter (recordsIn b start n) (listTrace short (recordsIn b start n) m width clocks work (length list)) (pairsOf (recordsIn b start n) short) list

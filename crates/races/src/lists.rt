@@ -1,7 +1,15 @@
 // Both lists: for each second access, the first accesses that race with it, counted and then written.
+use crate::Listing;
+use crate::Summary;
 use crate::leading;
 use crate::racing::is_race;
 use crate::workspace;
+use order::Filling;
+use order::ranks::ranks;
+use order::rows::has_space;
+use trace::Operation;
+use trace::Reading;
+use trace::Refusal;
 use trace::access;
 ghost use mathlib.Core.Path.{_≡_};
 ghost use mathlib.Core.List.{[], _∷_, _++_};
@@ -11,7 +19,10 @@ ghost use lib.Seq.{sets};
 ghost use Rattle.trace.specs.Bytes.{decode};
 ghost use Rattle.trace.specs.Records.{at};
 ghost use Rattle.races.specs.Leading.{rows, leadingMarks};
-ghost use Rattle.races.specs.Lists.{entry, numbers, shapeOf};
+ghost use Rattle.order.specs.Ranks.{ranksOf};
+ghost use Rattle.order.specs.Fill.{chainsUsed};
+ghost use Rattle.races.specs.Lists.{entry, numbers, shapeOf, ListReply};
+ghost use Rattle.races.specs.Paper.{listPaper, ListsFilled, Lists};
 ghost use Rattle.races.specs.ListPass.{lastWrite, fromOf, firsts, pairsBelow, Marks, OneRoom, OneWrites, Clear, Room, Writes, AllRoom};
 ghost use Rattle.races.specs.Filled.{Filled};
 
@@ -230,5 +241,85 @@ fn write_all(
             k,
         );
         b += 1;
+    }
+}
+
+fn refused(number: u16) -> Listing
+    ensures { λ r. ⌜ listPaper r ≡ ListReply.refused number 0 ⌝ }
+{
+    Listing::Refused(Refusal {
+        number: number,
+        place: Operation(0),
+    })
+}
+
+// The list of a trace whose clocks are filled.
+fn list_filled(
+    recs: &[u8],
+    events: usize,
+    width: usize,
+    clocks: &[u16],
+    of: &[u16],
+    chains: usize,
+    work: &mut [u8],
+    list: &mut [u16],
+    short: bool,
+) -> Listing
+    requires { ⌜ Filled (decode (now recs)) (ranksOf (decode (now recs))) (now of) width (now clocks) × Clear (decode (now recs)) events (now work) × (chains ≡ chainsUsed (decode (now recs))) ⌝ }
+    ensures { λ r. ⌜ ListsFilled short (decode (now (recs .entry))) events (now (work .entry)) (now (work .exit)) (now (list .entry)) (now (list .exit)) r ⌝ }
+{
+    let all = ranks(recs);
+    let found = count(recs, &all, of, width, clocks, short);
+    if list.len() / 5 < found {
+        return refused(trace::LIST_SPACE);
+    }
+    write_all(recs, &all, of, width, clocks, work, events, list, short);
+    Listing::Listed(Summary {
+        events: events,
+        records: access::count(recs),
+        chains: chains,
+        count: found,
+    })
+}
+
+// The short list, or the list of all races.
+pub(crate) fn list_races(
+    bytes: &[u8],
+    width: usize,
+    clocks: &mut [u16],
+    work: &mut [u8],
+    list: &mut [u16],
+    short: bool,
+) -> Listing
+    ensures { λ r. ⌜ Lists short (now (bytes .entry)) width (now (clocks .entry)) (now (clocks .exit)) (now (work .entry)) (now (work .exit)) (now (list .entry)) (now (list .exit)) r ⌝ }
+{
+    let reading = trace::read(bytes);
+    let Reading::Accepted(t) = reading else {
+        return Listing::Refused(trace::refusal_of(reading));
+    };
+    let events = t.events;
+    if !has_space(width, events, clocks.len()) {
+        return refused(trace::CLOCK_SPACE);
+    }
+    if work.len() < events {
+        return refused(trace::WORK_SPACE);
+    }
+    let filled = order::fill_chains(bytes, width, clocks);
+    workspace::clear_marks(work, events);
+    let of = filled.of;
+    let answer = filled.answer;
+    match answer {
+        Filling::Filled(chains) => list_filled(
+            access::records(bytes, t),
+            events,
+            width,
+            clocks,
+            &of,
+            chains,
+            work,
+            list,
+            short,
+        ),
+        Filling::Refused(why) => Listing::Refused(why),
     }
 }
