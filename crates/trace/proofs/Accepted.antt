@@ -26,7 +26,7 @@ unfolding demand
 passed true n p y s k m e = (refl, e)
 passed false n p y s k m e = let z : _≡_ {A = ℕ} 0 1 = cc in absurd (omega arith)
 
-passed-record : (x p : ℕ) (y : Reply) (s k m : ℕ) → accepted s k m ≡ orElse x p y → (x ≡ 0) × (accepted s k m ≡ y)
+pub passed-record : (x p : ℕ) (y : Reply) (s k m : ℕ) → accepted s k m ≡ orElse x p y → (x ≡ 0) × (accepted s k m ≡ y)
 unfolding orElse
 passed-record zero p y s k m e = (refl, e)
 passed-record (suc x) p y s k m e = let z : _≡_ {A = ℕ} 0 1 = cc in absurd (omega arith)

@@ -37,7 +37,7 @@ pub record Passes (before : List Record) (r : Record) : Type 0 where
   pub fresh : again r (begun (r .first) before) (begun (r .second) before) ≡ false
   pub waited : early r (ended (r .second) before) ≡ false
 
-passing : (before : List Record) (r : Record) → rule before r ≡ 0 → Passes before r
+pub passing : (before : List Record) (r : Record) → rule before r ≡ 0 → Passes before r
 unfolding rule judge misplaced
 passing before r h =
     let s = situation before in

@@ -8,3 +8,5 @@ pub mod Accepted
 pub mod Positions
 pub mod PlaceRule
 pub mod Blocks
+pub mod Encoded
+pub mod Events

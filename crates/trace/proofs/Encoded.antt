@@ -1,0 +1,365 @@
+-- The bytes of a sequence of records, and the records of bytes, undo each other: each acceptable sequence of records has just one trace.
+-- Assumes nothing.
+use Prim.Native.Nat.{ℕ, zero, suc, _+_, _*_, _-_, _/_, _%_, _<_, _≤_}
+use mathlib.Core.Path.{_≡_, refl, sym, ap, ap₂, _∙_}
+use mathlib.Core.Bool.{Bool, true, false, cond, _&&_, and-eq-true-iff}
+use mathlib.Core.List.{List, [], _∷_, _++_, append-assoc}
+use mathlib.Core.Logic.{_⊎_, inl, inr}
+use native.Mathlib.Omega.{arith}
+use borrow.Author.Tests.{leb-true, eqb-true, eq-eqb, le-leb}
+use lib.Dec.{leb, ltb, eqb}
+use lib.ListN.{length, getD, drop, length-append, take-append-drop, drop-of-length-le}
+use lib.Seq.{take-at, drop-at, drop-cons, drop-drop, getD-append-add, getD-drop, getD-take}
+use Rattle.trace.specs.declared.Record.{Record}
+use Rattle.trace.specs.Bytes.{twoBytes, recordAt, recordsFrom, decode}
+use Rattle.trace.specs.Records.{at, past, isBegin}
+use Rattle.trace.specs.Records.{begins as begin-count}
+use Rattle.trace.specs.Place.{place}
+use Rattle.trace.specs.Rule.{situation, numbered, rule}
+use Rattle.trace.specs.Reading.{Reply, refused, accepted, demand, closing, walk, distance, trailerReply, frameReply, part, recordsIn, recordsReply, readReply, Acceptable}
+use Rattle.trace.specs.Encoding.{low, high, encode, trailer, traceOf}
+use Rattle.trace.proofs.Records.{past-length}
+use Rattle.trace.proofs.Accepted.{passed, passed-record, part-length, records-length, accepts, accepted-of}
+use Rattle.trace.proofs.Marked.{formed}
+use Rattle.trace.proofs.Blocks.{passing}
+use Rattle.trace.proofs.Positions.{lt-or-ge}
+use Rattle.trace.proofs.PlaceRule.{Outside, begins, joins, Inside, ends, forks, reads, writes, outside, inside}
+
+-- fields that fit their bytes
+pub record Narrow (r : Record) : Type 0 where
+  pub kind-fits : r .kind < 256
+  pub first-fits : r .first < 65536
+  pub second-fits : r .second < 65536
+
+abbrev pub AllNarrow : List Record → Type 0
+AllNarrow tr = (i : ℕ) → i < length tr → Narrow (at tr i)
+
+-- every element is a byte
+abbrev pub Bytes : List ℕ → Type 0
+Bytes b = (i : ℕ) → i < length b → getD b i 0 < 256
+
+pub encode-length : (tr : List Record) → length (encode tr) ≡ 5 * length tr
+unfolding encode
+encode-length [] = refl
+encode-length (r ∷ rest) = let e = encode-length rest in omega arith
+
+pub encode-append : (xs ys : List Record) → encode (xs ++ ys) ≡ encode xs ++ encode ys
+unfolding encode
+encode-append [] ys = refl
+encode-append (r ∷ xs) ys = rw (encode-append xs ys)
+
+-- the first record of some bytes, and the others
+module _ (k a b c d : ℕ) (xs : List ℕ) where
+  abbrev five : List ℕ
+  five = k ∷ a ∷ b ∷ c ∷ d ∷ xs
+
+  later : (m j : ℕ) → m ≡ suc (suc (suc (suc (suc j)))) → getD five m 0 ≡ getD xs j 0
+  later m j e = rw e
+
+  record-later : (i : ℕ) → recordAt five (5 * suc i) ≡ recordAt xs (5 * i)
+  unfolding recordAt
+  record-later i =
+      let p0 = later (5 * suc i) (5 * i) (omega arith) in
+      let p1 = later (5 * suc i + 1) (5 * i + 1) (omega arith) in
+      let p2 = later (5 * suc i + 1 + 1) (5 * i + 1 + 1) (omega arith) in
+      let p3 = later (5 * suc i + 3) (5 * i + 3) (omega arith) in
+      let p4 = later (5 * suc i + 3 + 1) (5 * i + 3 + 1) (omega arith) in
+      λ z. record { kind = p0 z; first = p1 z + 256 * p2 z; second = p3 z + 256 * p4 z }
+
+  from-later : (n i : ℕ) → recordsFrom five (suc i) n ≡ recordsFrom xs i n
+  unfolding recordsFrom
+  from-later zero i = refl
+  from-later (suc n) i = ap₂ (λ (r : Record) (l : List Record). r ∷ l) (record-later i) (from-later n (suc i))
+
+  pub decode-cons : decode five ≡ record { kind = k; first = a + 256 * b; second = c + 256 * d } ∷ decode xs
+  unfolding decode recordsFrom recordAt
+  decode-cons =
+      let e : length five / 5 ≡ suc (length xs / 5) = omega arith in
+      rw (e, from-later (length xs / 5) 0)
+
+low-high : (x : ℕ) → x < 65536 → low x + 256 * high x ≡ x
+low-high x h = omega arith
+
+pub decode-encode : (tr : List Record) → AllNarrow tr → decode (encode tr) ≡ tr
+unfolding encode
+decode-encode [] h = unfold decode recordsFrom in refl
+decode-encode (r ∷ rest) h =
+    let n = h 0 (omega arith) in
+    let f = low-high (r .first) (n .first-fits) in
+    let g = low-high (r .second) (n .second-fits) in
+    let d = decode-encode rest (λ i l. h (suc i) (omega arith)) in
+    decode-cons (r .kind) (low (r .first)) (high (r .first)) (low (r .second)) (high (r .second)) (encode rest)
+    ∙ (λ z. record { kind = r .kind; first = f z; second = g z } ∷ d z)
+
+low-of : (a b : ℕ) → a < 256 → low (a + 256 * b) ≡ a
+low-of a b h = omega arith
+
+high-of : (a b : ℕ) → a < 256 → b < 256 → high (a + 256 * b) ≡ b
+high-of a b h l = omega arith
+
+encode-five : (k a b c d : ℕ) (xs : List ℕ) → a < 256 → b < 256 → c < 256 → d < 256 → encode (decode xs) ≡ xs → encode (decode (k ∷ a ∷ b ∷ c ∷ d ∷ xs)) ≡ k ∷ a ∷ b ∷ c ∷ d ∷ xs
+unfolding encode
+encode-five k a b c d xs ha hb hc hd e =
+    rw (decode-cons k a b c d xs, low-of a b ha, high-of a b ha hb, low-of c d hc, high-of c d hc hd, e)
+
+pub encode-decode : (n : ℕ) (b : List ℕ) → length b ≡ 5 * n → Bytes b → encode (decode b) ≡ b
+encode-decode zero [] l h = unfold decode recordsFrom encode in refl
+encode-decode zero (x ∷ b) l h = absurd (omega arith)
+encode-decode (suc n) [] l h = absurd (omega arith)
+encode-decode (suc n) (k ∷ []) l h = absurd (omega arith)
+encode-decode (suc n) (k ∷ a ∷ []) l h = absurd (omega arith)
+encode-decode (suc n) (k ∷ a ∷ b ∷ []) l h = absurd (omega arith)
+encode-decode (suc n) (k ∷ a ∷ b ∷ c ∷ []) l h = absurd (omega arith)
+encode-decode (suc n) (k ∷ a ∷ b ∷ c ∷ d ∷ xs) l h =
+    encode-five k a b c d xs (h 1 (omega arith)) (h 2 (omega arith)) (h 3 (omega arith)) (h 4 (omega arith))
+    (encode-decode n xs (omega arith) (λ i m. h (suc (suc (suc (suc (suc i))))) (omega arith)))
+
+-- the numbers in a trace
+pub begins-most : (before : List Record) → begin-count before ≤ length before
+unfolding begin-count
+begins-most [] = omega arith
+begins-most (r ∷ before) = go (isBegin r) (begins-most before)
+  where
+    go : (b : Bool) → begin-count before ≤ length before → cond b (begin-count before + 1) (begin-count before) ≤ suc (length before)
+    go true h = omega arith
+    go false h = omega arith
+
+in-range : (x : ℕ) → numbered x ≡ true → x ≤ 1024
+unfolding numbered
+in-range x h = leb-true x 1024 (and-eq-true-iff (leb 1 x) (leb x 1024) .0 h .1)
+
+-- a record that passes its rule has fields that fit
+pub passes-narrow : (before : List Record) (r : Record) → rule before r ≡ 0 → Narrow r
+passes-narrow before r h =
+    let p = passing before r h in
+    let f = formed r (p .well-formed) in
+    let x = in-range (r .first) (f .0) in
+    let y = second-range (ltb (r .kind) 3) (f .1) in
+    let k = known-kind (lt-or-ge (situation before) 2) in
+    record { kind-fits = omega arith; first-fits = omega arith; second-fits = omega arith }
+  where
+    second-range : (t : Bool) → cond t (eqb (r .second) 0) (numbered (r .second)) ≡ true → r .second ≤ 1024
+    second-range true e = let z = eqb-true (r .second) 0 e in omega arith
+    second-range false e = in-range (r .second) e
+
+    outer : Outside (r .kind) (place (situation before) (r .kind)) → r .kind ≤ 6
+    outer (begins k n) = omega arith
+    outer (joins k n) = omega arith
+
+    inner : Inside (r .kind) (place (situation before) (r .kind)) → r .kind ≤ 6
+    inner (ends k n) = omega arith
+    inner (forks k n) = omega arith
+    inner (reads k n) = omega arith
+    inner (writes k n) = omega arith
+
+    known-kind : (situation before < 2) ⊎ (2 ≤ situation before) → r .kind ≤ 6
+    known-kind (inl l) = let p = passing before r h in outer (outside (situation before) (r .kind) (p .known) (p .placed) l)
+    known-kind (inr l) = let p = passing before r h in inner (inside (situation before) (r .kind) (p .known) (p .placed) l)
+
+four-bytes : (d : ℕ) → d < 4294967296 → low d + 256 * high d + 65536 * (low (d / 65536) + 256 * high (d / 65536)) ≡ d
+four-bytes d h = omega arith
+
+module _ {tr : List Record} (a : Acceptable tr) where
+  narrow : AllNarrow tr
+  narrow i h = passes-narrow (past tr i) (at tr i) (a .passes i h)
+
+  abbrev d : ℕ
+  d = 5 * length tr
+
+  abbrev m : ℕ
+  m = begin-count (past tr (length tr))
+
+  few-begins : m ≤ 4096
+  few-begins = let b = begins-most (past tr (length tr)) in let l = past-length tr (length tr) in let f = a .few in omega arith
+
+  -- a trace after any bytes p
+  module _ (p : List ℕ) where
+    abbrev b : List ℕ
+    b = p ++ traceOf tr
+
+    body-length : length (p ++ encode tr) ≡ length p + d
+    body-length = simp (length-append, encode-length)
+
+    apart : b ≡ (p ++ encode tr) ++ trailer d m
+    unfolding traceOf
+    apart = sym (append-assoc p (encode tr) (trailer d m))
+
+    whole-length : length b ≡ length p + d + 8
+    unfolding trailer
+    whole-length = ap length apart ∙ simp (length-append, encode-length)
+
+    trailer-at : (i k : ℕ) → i ≡ length p + d + k → getD b i 0 ≡ getD (trailer d m) k 0
+    trailer-at i k e = rw (e, apart, ← body-length) (getD-append-add (p ++ encode tr) (trailer d m) k 0)
+
+    distance-is : distance b (length p + d) ≡ d
+    unfolding distance trailer
+    distance-is =
+        let t = length p + d in
+        let f = a .few in
+        rw (trailer-at t 0 (omega arith), trailer-at (t + 1) 1 (omega arith), trailer-at (t + 2) 2 (omega arith), trailer-at (t + 2 + 1) 3 (omega arith)) (four-bytes d (omega arith))
+
+    frame-is : frameReply b ≡ accepted (length p) (length tr) m
+    unfolding frameReply trailerReply demand trailer
+    frame-is =
+        let t = length p + d in
+        let f = a .few in
+        let w = whole-length in
+        let e : length b - 8 ≡ t = omega arith in
+        let s : t - d ≡ length p = omega arith in
+        let n : d / 5 ≡ length tr = omega arith in
+        let c = few-begins in
+        simp (
+          e,
+          distance-is,
+          le-leb 8 (length b) (omega arith),
+          trailer-at (t + 7) 7 refl,
+          trailer-at (t + 6) 6 refl,
+          trailer-at (t + 4) 4 refl,
+          trailer-at (t + 4 + 1) 5 (omega arith),
+          eq-eqb (d % 5) 0 (omega arith),
+          le-leb d 20480 (omega arith),
+          le-leb d t (omega arith),
+          low-high m (omega arith),
+          s,
+          n,
+        )
+
+    pub records-encoded : recordsIn b (length p) (length tr) ≡ tr
+    unfolding recordsIn part traceOf
+    records-encoded =
+        rw (drop-at p (traceOf tr) (length p) refl, take-at (encode tr) (trailer d m) (5 * length tr) (encode-length tr))
+        (decode-encode tr narrow)
+
+    -- the reader accepts it, and reads the records
+    pub read-encoded : readReply b ≡ accepted (length p) (length tr) m
+    read-encoded = accepted-of b (length p) (length tr) m frame-is (rw records-encoded a) (rw records-encoded)
+
+-- what the walk accepts is what it was told
+walk-told : (start told : ℕ) (rest before : List Record) (s n m : ℕ) → accepted s n m ≡ walk start told before rest → (s ≡ start) × (n ≡ length rest + length before) × (m ≡ told)
+unfolding walk closing
+walk-told start told [] before s n m e =
+    let c1 = passed _ _ _ _ s n m e in
+    let c2 = passed _ _ _ _ s n m (c1 .1) in
+    let q : accepted s n m ≡ accepted start (length before) (begin-count before) = c2 .1 in
+    let k = eqb-true (begin-count before) told (c2 .0) in
+    let z : n ≡ length before = cc in
+    (cc, omega arith, cc)
+walk-told start told (r ∷ rest) before s n m e =
+    let w = walk-told start told rest (r ∷ before) s n m (passed-record _ _ _ s n m e .1) in
+    let k = w .1 in
+    (w .0, omega arith, w .2)
+
+-- what the trailer says
+record Closes (b : List ℕ) (s n m : ℕ) : Type 0 where
+  few : n ≤ 4096
+  ends : length b ≡ s + 5 * n + 8
+  mark : getD b (s + 5 * n + 7) 0 ≡ 167
+  edition : getD b (s + 5 * n + 6) 0 ≡ 1
+  back : distance b (s + 5 * n) ≡ 5 * n
+  begun : twoBytes b (s + 5 * n + 4) ≡ m
+
+closes : (b : List ℕ) (s n m : ℕ) → accepted s n m ≡ frameReply b → Closes b s n m
+unfolding frameReply trailerReply
+closes b s n m e =
+    let t = length b - 8 in
+    let d = distance b t in
+    let p1 = passed _ _ _ _ s n m e in
+    let p2 = passed _ _ _ _ s n m (p1 .1) in
+    let p3 = passed _ _ _ _ s n m (p2 .1) in
+    let p4 = passed _ _ _ _ s n m (p3 .1) in
+    let t1 = and-eq-true-iff (eqb (d % 5) 0 && leb d 20480) (leb d t) .0 (p4 .0) in
+    let t2 = and-eq-true-iff (eqb (d % 5) 0) (leb d 20480) .0 (t1 .0) in
+    let l = leb-true 8 (length b) (p1 .0) in
+    let q1 = leb-true d t (t1 .1) in
+    let q2 = leb-true d 20480 (t2 .1) in
+    let q3 = eqb-true (d % 5) 0 (t2 .0) in
+    let q : accepted s n m ≡ accepted (t - d) (d / 5) (twoBytes b (t + 4)) = p4 .1 in
+    let es : s ≡ t - d = cc in
+    let en : n ≡ d / 5 = cc in
+    let et : s + 5 * n ≡ t = omega arith in
+    record {
+      few = omega arith;
+      ends = omega arith;
+      mark = rw et (eqb-true (getD b (t + 7) 0) 167 (p2 .0));
+      edition = rw et (eqb-true (getD b (t + 6) 0) 1 (p3 .0));
+      back = rw et (omega arith);
+      begun = rw et (cc);
+    }
+
+-- the bytes that a trailer is read from are the trailer
+module _ (b : List ℕ) (bytes : Bytes b) (t d m : ℕ) (ends : length b ≡ t + 8)
+    (mark : getD b (t + 7) 0 ≡ 167) (edition : getD b (t + 6) 0 ≡ 1) (back : distance b t ≡ d) (begun : twoBytes b (t + 4) ≡ m) where
+  next : (i j : ℕ) → j ≡ suc i → i < length b → drop i b ≡ getD b i 0 ∷ drop j b
+  next i j e h = rw e (drop-cons b i 0 h)
+
+  tail-trailer : drop t b ≡ trailer d m
+  unfolding distance trailer
+  tail-trailer =
+      let e0 = next t (t + 1) (omega arith) (omega arith) in
+      let e1 = next (t + 1) (t + 2) (omega arith) (omega arith) in
+      let e2 = next (t + 2) (t + 2 + 1) (omega arith) (omega arith) in
+      let e3 = next (t + 2 + 1) (t + 4) (omega arith) (omega arith) in
+      let e4 = next (t + 4) (t + 4 + 1) (omega arith) (omega arith) in
+      let e5 = next (t + 4 + 1) (t + 6) (omega arith) (omega arith) in
+      let e6 = next (t + 6) (t + 7) (omega arith) (omega arith) in
+      let e7 = next (t + 7) (t + 8) (omega arith) (omega arith) in
+      let e8 = drop-of-length-le b {i = t + 8} (omega arith) in
+      let h0 = bytes t (omega arith) in
+      let h1 = bytes (t + 1) (omega arith) in
+      let h2 = bytes (t + 2) (omega arith) in
+      let h3 = bytes (t + 2 + 1) (omega arith) in
+      let h4 = bytes (t + 4) (omega arith) in
+      let h5 = bytes (t + 4 + 1) (omega arith) in
+      let q0 : low d ≡ getD b t 0 = omega arith in
+      let w : d / 256 ≡ getD b (t + 1) 0 + 256 * twoBytes b (t + 2) = omega arith in
+      let q1 : high d ≡ getD b (t + 1) 0 = rw w (low-of (getD b (t + 1) 0) (twoBytes b (t + 2)) h1) in
+      let v : d / 65536 ≡ twoBytes b (t + 2) = omega arith in
+      let q2 : low (d / 65536) ≡ getD b (t + 2) 0 = rw v (low-of (getD b (t + 2) 0) (getD b (t + 2 + 1) 0) h2) in
+      let q3 : high (d / 65536) ≡ getD b (t + 2 + 1) 0 = rw v (high-of (getD b (t + 2) 0) (getD b (t + 2 + 1) 0) h2 h3) in
+      let q4 : low m ≡ getD b (t + 4) 0 = rw (← begun) (low-of (getD b (t + 4) 0) (getD b (t + 4 + 1) 0) h4) in
+      let q5 : high m ≡ getD b (t + 4 + 1) 0 = rw (← begun) (high-of (getD b (t + 4) 0) (getD b (t + 4 + 1) 0) h4 h5) in
+      cc
+
+module _ (b : List ℕ) (s n : ℕ) (fits : s + 5 * n ≤ length b) where
+  part-bytes : Bytes b → Bytes (part b s n)
+  unfolding part
+  part-bytes h i l =
+      let k = part-length b s n fits in
+      rw (getD-take (5 * n) (drop s b) i 0 (omega arith), getD-drop s b i 0) (h (s + i) (omega arith))
+
+  -- some bytes are the bytes of their records
+  pub part-encoded : Bytes b → encode (recordsIn b s n) ≡ part b s n
+  unfolding recordsIn
+  part-encoded h = encode-decode n (part b s n) (part-length b s n fits) (part-bytes h)
+
+  after-part : drop s b ≡ part b s n ++ drop (s + 5 * n) b
+  unfolding part
+  after-part = sym (take-append-drop (5 * n) (drop s b)) ∙ rw (drop-drop (5 * n) s b)
+
+  closed-part : Bytes b → (m : ℕ) → begin-count (past (recordsIn b s n) n) ≡ m → drop (s + 5 * n) b ≡ trailer (5 * n) m → drop s b ≡ traceOf (recordsIn b s n)
+  unfolding traceOf
+  closed-part h m e back = after-part ∙ rw (records-length b s n fits, back, e, part-encoded h)
+
+read-from : (b : List ℕ) (x : Reply) → frameReply b ≡ x → recordsReply b x ≡ readReply b
+unfolding readReply
+read-from b x f = ap (recordsReply b) (sym f)
+
+one-from : (b : List ℕ) (s n m : ℕ) (x : Reply) → Bytes b → frameReply b ≡ x → accepted s n m ≡ recordsReply b x → drop s b ≡ traceOf (recordsIn b s n)
+unfolding recordsReply
+one-from b s n m (refused k p) h f q = let z : _≡_ {A = ℕ} 0 1 = cc in absurd (omega arith)
+one-from b s n m (accepted s′ n′ m′) h f q =
+    let w = walk-told s′ m′ (recordsIn b s′ n′) [] s n m q in
+    let c = closes b s′ n′ m′ (sym f) in
+    let ends = c .ends in
+    let l = records-length b s′ n′ (omega arith) in
+    let k = w .1 in
+    let en : n ≡ n′ = omega arith in
+    let begun = accepts b s n m (q ∙ read-from b (accepted s′ n′ m′) f) .begun in
+    rw (w .0, en)
+    (closed-part b s′ n′ (omega arith) h m′ (rw (w .0, en) at begun ∙ w .2)
+    (tail-trailer b h (s′ + 5 * n′) (5 * n′) m′ ends (c .mark) (c .edition) (c .back) (c .begun)))
+
+-- Each acceptable sequence of records has just one trace, counted from record 1.
+pub one-trace : (b : List ℕ) (s n m : ℕ) → Bytes b → readReply b ≡ accepted s n m → drop s b ≡ traceOf (recordsIn b s n)
+unfolding readReply
+one-trace b s n m h e = one-from b s n m (frameReply b) h refl (sym e)
