@@ -1,0 +1,140 @@
+-- What a step and closing leave, by the way that they go.
+-- Assumes nothing.
+use Prim.Native.Nat.{ℕ, zero, suc, _+_, _*_, _≤_, _<_}
+use mathlib.Core.Path.{_≡_, refl, sym, ap, _∙_}
+use mathlib.Core.Bool.{Bool, true, false, cond, _&&_}
+use mathlib.Core.List.{List, [], _∷_}
+use native.Mathlib.Omega.{arith}
+use borrow.Author.Tests.{eq-eqb, ne-eqb, eqb-true, eqb-false, le-leb, lt-leb, leb-true, ltb-true}
+use lib.Dec.{leb, ltb, eqb}
+use lib.ListN.{length}
+use Rattle.trace.specs.declared.Record.{Record}
+use Rattle.trace.specs.Records.{begins}
+use Rattle.trace.specs.Place.{between, place}
+use Rattle.trace.specs.Encoding.{encode, trailer}
+use Rattle.trace.specs.Paper.{Verdict, passes, fails, verdict}
+use Rattle.recorder.specs.declared.Recorder.{Recorder}
+use Rattle.recorder.specs.Recording.{Outcome, refused, opens, taken, closes, Left, pass, stored, held, before, judged, closedAlready, full, stopsInside, noTrailer, stepLeft, closeLeft}
+
+pub held-most : (r : Recorder) → held r ≤ 4096
+unfolding held
+held-most r = omega arith
+
+abbrev pub refusing : List ℕ → Recorder → ℕ → ℕ → Left
+refusing b r n p = record { answer = refused n p; recorder = r; bytes = b }
+
+-- the record is stored, the trace is closed
+abbrev pub stepping : List ℕ → ℕ → Record → ℕ → Left
+stepping b n x s = record {
+  answer = taken;
+  recorder = record { count = n + 1; situation = s; owner = record { 0 = x .first }; closed = false };
+  bytes = stored b (5 * n) (encode (x ∷ []));
+}
+
+abbrev pub closing : List ℕ → ℕ → Recorder → Left
+closing b n r = record {
+  answer = closes (5 * n + 8);
+  recorder = record { count = r .count; situation = r .situation; owner = r .owner; closed = true };
+  bytes = stored b (5 * n) (trailer (5 * n) (begins (before b n)));
+}
+
+-- a test passed, and a test failed
+pub pass-on : (b : List ℕ) (r : Recorder) (n p : ℕ) (y : Left) → n ≡ 0 → pass b r n p y ≡ y
+unfolding pass
+pass-on b r n p y e = rw e
+
+pub pass-out : (b : List ℕ) (r : Recorder) (n k p : ℕ) (y : Left) → n ≡ suc k → pass b r n p y ≡ refusing b r (suc k) p
+unfolding pass
+pass-out b r n k p y e = rw e
+
+-- a verdict that fails, and one that passes
+failing : (b : List ℕ) (r : Recorder) (y : Left) (n op next k p : ℕ) → fails k p ≡ verdict n op next → pass b r n op y ≡ refusing b r k p
+unfolding pass
+failing b r y zero op next k p e = let z : _≡_ {A = ℕ} 0 1 = cc in absurd (omega arith)
+failing b r y (suc n) op next k p e = cc
+
+passing : (n op next s : ℕ) → passes s ≡ verdict n op next → (n ≡ 0) × (s ≡ next)
+passing zero op next s e = (refl, cc)
+passing (suc n) op next s e = let z : _≡_ {A = ℕ} 0 1 = cc in absurd (omega arith)
+
+module _ (b : List ℕ) (r : Recorder) where
+  closed-refusal : r .closed ≡ true → closedAlready r ≡ 26
+  unfolding closedAlready
+  closed-refusal e = rw e
+
+  pub open-still : r .closed ≡ false → closedAlready r ≡ 0
+  unfolding closedAlready
+  open-still e = rw e
+
+  pub step-closed : (x : Record) → r .closed ≡ true → refusing b r 26 0 ≡ stepLeft b r x
+  unfolding stepLeft
+  step-closed x e = sym (pass-out b r (closedAlready r) 25 0 _ (closed-refusal e))
+
+  pub close-closed : r .closed ≡ true → refusing b r 26 0 ≡ closeLeft b r
+  unfolding closeLeft
+  close-closed e = sym (pass-out b r (closedAlready r) 25 0 _ (closed-refusal e))
+
+  module _ (o : r .closed ≡ false) (n : ℕ) (en : n ≡ held r) where
+    -- the code's check of record x
+    module _ (x : Record) where
+      abbrev Judged : Verdict
+      Judged = verdict (judged b n r x) (n + 1) (place (r .situation) (x .kind))
+
+      -- past 26
+      step-open : stepLeft b r x ≡ pass b r (judged b n r x) (n + 1) (pass b r (full b n) 0 (stepping b n x (place (r .situation) (x .kind))))
+      unfolding stepLeft
+      step-open = rw en (pass-on b r (closedAlready r) 0 _ (open-still o))
+
+      pub step-judged : (k p : ℕ) → fails k p ≡ Judged → refusing b r k p ≡ stepLeft b r x
+      step-judged k p v = sym (step-open ∙ failing b r _ (judged b n r x) (n + 1) (place (r .situation) (x .kind)) k p v)
+
+      pub step-full : (s : ℕ) → passes s ≡ Judged → full b n ≡ 25 → refusing b r 25 0 ≡ stepLeft b r x
+      step-full s v f =
+          let p = passing (judged b n r x) (n + 1) (place (r .situation) (x .kind)) s v in
+          sym (step-open ∙ pass-on b r (judged b n r x) (n + 1) _ (p .0) ∙ pass-out b r (full b n) 24 0 _ f)
+
+      pub step-taken : (s : ℕ) → passes s ≡ Judged → full b n ≡ 0 → stepping b n x s ≡ stepLeft b r x
+      step-taken s v f =
+          let p = passing (judged b n r x) (n + 1) (place (r .situation) (x .kind)) s v in
+          rw (p .1) (sym (step-open ∙ pass-on b r (judged b n r x) (n + 1) _ (p .0) ∙ pass-on b r (full b n) 0 _ f))
+
+    close-open : closeLeft b r ≡ pass b r (stopsInside r) n (pass b r (noTrailer b n) 0 (closing b n r))
+    unfolding closeLeft
+    close-open = rw en (pass-on b r (closedAlready r) 0 _ (open-still o))
+
+    stops : (r .situation ≡ 0 → ⊥) → stopsInside r ≡ 9
+    unfolding stopsInside
+    stops s = rw (ne-eqb (r .situation) between s)
+
+    outside : r .situation ≡ 0 → stopsInside r ≡ 0
+    unfolding stopsInside
+    outside s = rw (eq-eqb (r .situation) between s)
+
+    pub close-inside : (r .situation ≡ 0 → ⊥) → refusing b r 9 n ≡ closeLeft b r
+    close-inside s = sym (close-open ∙ pass-out b r (stopsInside r) 8 n _ (stops s))
+
+    pub close-short : r .situation ≡ 0 → length b < 5 * n + 8 → refusing b r 25 0 ≡ closeLeft b r
+    unfolding noTrailer
+    close-short s l = sym (close-open ∙ pass-on b r (stopsInside r) n _ (outside s) ∙ pass-out b r (noTrailer b n) 24 0 _ (rw (lt-leb (5 * n + 8) (length b) l)))
+
+    pub close-done : r .situation ≡ 0 → 5 * n + 8 ≤ length b → closing b n r ≡ closeLeft b r
+    unfolding noTrailer
+    close-done s l = sym (close-open ∙ pass-on b r (stopsInside r) n _ (outside s) ∙ pass-on b r (noTrailer b n) 0 _ (rw (le-leb (5 * n + 8) (length b) l)))
+
+-- no space, or space
+none-left : (t : Bool) → eqb (cond t 0 25) 0 ≡ false → _≡_ {A = ℕ} (cond t 0 25) 25
+none-left true e = let z : _≡_ {A = ℕ} 0 1 = cc in absurd (omega arith)
+none-left false e = refl
+
+pub full-none : (b : List ℕ) (n : ℕ) → eqb (full b n) 0 ≡ false → full b n ≡ 25
+unfolding full
+full-none b n e = none-left (ltb n 4096 && leb (5 * n + 5 + 8) (length b)) e
+
+pub space : (b : List ℕ) (n : ℕ) → full b n ≡ 0 → (n < 4096) × (5 * n + 5 + 8 ≤ length b)
+unfolding full
+space b n e = go (ltb n 4096) refl (leb (5 * n + 5 + 8) (length b)) refl e
+  where
+    go : (s : Bool) → ltb n 4096 ≡ s → (t : Bool) → leb (5 * n + 5 + 8) (length b) ≡ t → _≡_ {A = ℕ} (cond (s && t) 0 25) 0 → (n < 4096) × (5 * n + 5 + 8 ≤ length b)
+    go true es true et q = (ltb-true n 4096 es, leb-true (5 * n + 5 + 8) (length b) et)
+    go true es false et q = absurd (omega arith)
+    go false es t et q = absurd (omega arith)

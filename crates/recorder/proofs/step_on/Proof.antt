@@ -1,0 +1,103 @@
+-- `recorder::step_on` meets its contract.
+-- Assumes nothing.
+use Rattle.recorder.proofs.Left.{held-most, full-none, space, step-closed, step-judged, step-full, step-taken}
+use Rattle.trace.specs.Paper.{checkedPaper}
+use borrow.Author.Tests.{not-true, not-false, eqb-true}
+use mathlib.Core.Path.{sym, ap, _∙_}
+use denote.Ref.{now}
+use native.Mathlib.Omega.{arith}
+use borrow.Author.Needs.{needs}
+use Rattle.recorder.proofs.step_on.Statement.{statement}
+use Rattle.recorder.proofs.step_on.Tie as tie
+
+refusal-requires : tie.Need-refusal-requires
+refusal-requires c κs = search needs
+
+returns : tie.Need-returns
+returns c = simp (c .refusal .ensures .0, c .refusal .ensures .1) (step-closed (now (c .before .before .before .args .bytes)) (c .before .before .before .args .r) (c .before .before .before .args .rec) (c .before .if1 .taken))
+
+stored-records-requires : tie.Need-stored-records-requires
+stored-records-requires c κs = search needs
+
+check-requires : tie.Need-check-requires
+check-requires c κs = let h = held-most (c .before .before .before .before .args .r) in let e = c .before .stored-records .ensures in omega arith
+
+enum-known-checked : tie.Need-enum-known-checked
+enum-known-checked c = search needs
+
+enum-known-checked-2 : tie.Need-enum-known-checked-2
+enum-known-checked-2 c = search needs
+
+has-space-requires : tie.Need-has-space-requires
+has-space-requires c κs = search needs
+
+refusal-requires-2 : tie.Need-refusal-requires-2
+refusal-requires-2 c κs = search needs
+
+same-length : tie.Need-same-length
+same-length c = search needs
+
+returns-2 : tie.Need-returns-2
+returns-2 c =
+    let a = c .before .before .before .before .before .before .before .before .before .before .before .before .args in
+    let g = c .before .before .before .before .before .checked2 .given in
+    let f = full-none (now (a .bytes)) (c .before .before .before .before .before .before .before .before .before .stored-records .result) (sym (c .before .before .has-space .ensures) ∙ not-true (c .before .before .has-space .result) (c .before .if2 .taken)) in
+    simp (c .refusal2 .ensures .0, c .refusal2 .ensures .1)
+    (step-full (now (a .bytes)) (a .r) (c .before .before .before .before .before .before .before .before .before .before .if1 .left) (c .before .before .before .before .before .before .before .before .before .stored-records .result) (c .before .before .before .before .before .before .before .before .before .stored-records .ensures) (a .rec) (g .0 .0) (sym (ap checkedPaper (g .1)) ∙ c .before .before .before .before .before .before .before .check .ensures) f)
+
+mul-put-record : tie.Need-mul-put-record
+mul-put-record c = let h = held-most (c .before .before .before .before .before .before .before .before .before .before .before .before .args .r) in let e = c .before .before .before .before .before .before .before .before .before .stored-records .ensures in omega arith
+
+put-record-requires : tie.Need-put-record-requires
+put-record-requires c κs =
+    let p = space (now (c .before .before .before .before .before .before .before .before .before .before .before .before .args .bytes)) (c .before .before .before .before .before .before .before .before .before .stored-records .result) (eqb-true _ 0 (sym (c .before .before .has-space .ensures) ∙ not-false (c .before .before .has-space .result) (c .before .if2 .left))) in
+    omega arith
+
+add-t24 : tie.Need-add-t24
+add-t24 c = let h = held-most (c .before .before .before .before .before .before .before .before .before .before .before .before .before .before .before .args .r) in let e = c .before .before .before .before .before .before .before .before .before .before .before .before .stored-records .ensures in omega arith
+
+cast-t25 : tie.Need-cast-t25
+cast-t25 c = let h = held-most (c .before .before .before .before .before .before .before .before .before .before .before .before .before .before .before .args .r) in let e = c .before .before .before .before .before .before .before .before .before .before .before .before .stored-records .ensures in omega arith
+
+same-length-2 : tie.Need-same-length-2
+same-length-2 c = search needs
+
+returns-3 : tie.Need-returns-3
+returns-3 c =
+    let a = c .before .before .before .before .before .before .before .before .args in
+    let g = c .before .checked .given in
+    step-judged (now (a .bytes)) (a .r) (c .before .before .before .before .before .before .if1 .left) (c .before .before .before .before .before .stored-records .result) (c .before .before .before .before .before .stored-records .ensures) (a .rec) _ _ (sym (ap checkedPaper (g .1)) ∙ c .before .before .before .check .ensures)
+
+same-length-3 : tie.Need-same-length-3
+same-length-3 c = search needs
+
+returns-4 : tie.Need-returns-4
+returns-4 c =
+    let a = c .before .before .before .before .before .before .before .before .before .before .before .before .before .before .before .args in
+    let g = c .before .before .before .before .before .before .before .before .checked2 .given in
+    let f = eqb-true _ 0 (sym (c .before .before .before .before .before .has-space .ensures) ∙ not-false (c .before .before .before .before .before .has-space .result) (c .before .before .before .before .if2 .left)) in
+    simp (c .before .before .put-record .ensures)
+    (step-taken (now (a .bytes)) (a .r) (c .before .before .before .before .before .before .before .before .before .before .before .before .before .if1 .left) (c .before .before .before .before .before .before .before .before .before .before .before .before .stored-records .result) (c .before .before .before .before .before .before .before .before .before .before .before .before .stored-records .ensures) (a .rec) (g .0 .0) (sym (ap checkedPaper (g .1)) ∙ c .before .before .before .before .before .before .before .before .before .before .check .ensures) f)
+
+pub step-on-spec : {M : Type 1} → statement M
+step-on-spec =
+    tie.close
+    (tie.spec
+    refusal-requires
+    returns
+    stored-records-requires
+    check-requires
+    enum-known-checked
+    enum-known-checked-2
+    has-space-requires
+    refusal-requires-2
+    same-length
+    returns-2
+    mul-put-record
+    put-record-requires
+    add-t24
+    cast-t25
+    same-length-2
+    returns-3
+    same-length-3
+    returns-4)
