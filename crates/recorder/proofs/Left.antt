@@ -1,12 +1,12 @@
 -- What a step and closing leave, by the way that they go.
 -- Assumes nothing.
 use Prim.Native.Nat.{ℕ, zero, suc, _+_, _*_, _≤_, _<_}
-use mathlib.Core.Path.{_≡_, refl, sym, ap, _∙_}
-use mathlib.Core.Bool.{Bool, true, false, cond, _&&_}
+use mathlib.Core.Path.{_≡_, refl, sym, _∙_}
+use mathlib.Core.Bool.{Bool, true, false, cond, and-eq-true-iff}
 use mathlib.Core.List.{List, [], _∷_}
 use native.Mathlib.Omega.{arith}
-use borrow.Author.Tests.{eq-eqb, ne-eqb, eqb-true, eqb-false, le-leb, lt-leb, leb-true, ltb-true}
-use lib.Dec.{leb, ltb, eqb}
+use borrow.Author.Tests.{eq-eqb, ne-eqb, le-leb, lt-leb, leb-true, ltb-true, lt-ltb}
+use lib.Dec.{leb, ltb}
 use lib.ListN.{length}
 use Rattle.trace.specs.declared.Record.{Record}
 use Rattle.trace.specs.Records.{begins}
@@ -14,7 +14,7 @@ use Rattle.trace.specs.Place.{between, place}
 use Rattle.trace.specs.Encoding.{encode, trailer}
 use Rattle.trace.specs.Paper.{Verdict, passes, fails, verdict}
 use Rattle.recorder.specs.declared.Recorder.{Recorder}
-use Rattle.recorder.specs.Recording.{Outcome, refused, opens, taken, closes, Left, pass, stored, held, before, judged, closedAlready, full, stopsInside, noTrailer, stepLeft, closeLeft}
+use Rattle.recorder.specs.Recording.{refused, taken, closes, Left, pass, stored, held, before, judged, closedAlready, space, full, stopsInside, noTrailer, stepLeft, closeLeft}
 
 pub held-most : (r : Recorder) → held r ≤ 4096
 unfolding held
@@ -81,7 +81,7 @@ module _ (b : List ℕ) (r : Recorder) where
       Judged = verdict (judged b n r x) (n + 1) (place (r .situation) (x .kind))
 
       -- past 26
-      step-open : stepLeft b r x ≡ pass b r (judged b n r x) (n + 1) (pass b r (full b n) 0 (stepping b n x (place (r .situation) (x .kind))))
+      pub step-open : stepLeft b r x ≡ pass b r (judged b n r x) (n + 1) (pass b r (full b n) 0 (stepping b n x (place (r .situation) (x .kind))))
       unfolding stepLeft
       step-open = rw en (pass-on b r (closedAlready r) 0 _ (open-still o))
 
@@ -98,7 +98,7 @@ module _ (b : List ℕ) (r : Recorder) where
           let p = passing (judged b n r x) (n + 1) (place (r .situation) (x .kind)) s v in
           rw (p .1) (sym (step-open ∙ pass-on b r (judged b n r x) (n + 1) _ (p .0) ∙ pass-on b r (full b n) 0 _ f))
 
-    close-open : closeLeft b r ≡ pass b r (stopsInside r) n (pass b r (noTrailer b n) 0 (closing b n r))
+    pub close-open : closeLeft b r ≡ pass b r (stopsInside r) n (pass b r (noTrailer b n) 0 (closing b n r))
     unfolding closeLeft
     close-open = rw en (pass-on b r (closedAlready r) 0 _ (open-still o))
 
@@ -122,19 +122,29 @@ module _ (b : List ℕ) (r : Recorder) where
     close-done s l = sym (close-open ∙ pass-on b r (stopsInside r) n _ (outside s) ∙ pass-on b r (noTrailer b n) 0 _ (rw (le-leb (5 * n + 8) (length b) l)))
 
 -- no space, or space
-none-left : (t : Bool) → eqb (cond t 0 25) 0 ≡ false → _≡_ {A = ℕ} (cond t 0 25) 25
-none-left true e = let z : _≡_ {A = ℕ} 0 1 = cc in absurd (omega arith)
-none-left false e = refl
+module _ (b : List ℕ) (n : ℕ) where
+  pub full-none : space b n ≡ false → full b n ≡ 25
+  unfolding full
+  full-none e = rw e
 
-pub full-none : (b : List ℕ) (n : ℕ) → eqb (full b n) 0 ≡ false → full b n ≡ 25
-unfolding full
-full-none b n e = none-left (ltb n 4096 && leb (5 * n + 5 + 8) (length b)) e
+  pub full-not : space b n ≡ true → full b n ≡ 0
+  unfolding full
+  full-not e = rw e
 
-pub space : (b : List ℕ) (n : ℕ) → full b n ≡ 0 → (n < 4096) × (5 * n + 5 + 8 ≤ length b)
-unfolding full
-space b n e = go (ltb n 4096) refl (leb (5 * n + 5 + 8) (length b)) refl e
-  where
-    go : (s : Bool) → ltb n 4096 ≡ s → (t : Bool) → leb (5 * n + 5 + 8) (length b) ≡ t → _≡_ {A = ℕ} (cond (s && t) 0 25) 0 → (n < 4096) × (5 * n + 5 + 8 ≤ length b)
-    go true es true et q = (ltb-true n 4096 es, leb-true (5 * n + 5 + 8) (length b) et)
-    go true es false et q = absurd (omega arith)
-    go false es t et q = absurd (omega arith)
+  pub full-zero : full b n ≡ 0 → space b n ≡ true
+  unfolding full
+  full-zero e = go (space b n) e
+    where
+      go : (t : Bool) → _≡_ {A = ℕ} (cond t 0 25) 0 → t ≡ true
+      go true q = refl
+      go false q = absurd (omega arith)
+
+  pub spaced : space b n ≡ true → (n < 4096) × (5 * n + 5 + 8 ≤ length b)
+  unfolding space
+  spaced e =
+      let p = and-eq-true-iff (ltb n 4096) (leb (5 * n + 5 + 8) (length b)) .0 e in
+      (ltb-true n 4096 (p .0), leb-true (5 * n + 5 + 8) (length b) (p .1))
+
+  pub has-space : n < 4096 → 5 * n + 5 + 8 ≤ length b → space b n ≡ true
+  unfolding space
+  has-space l h = rw (lt-ltb n 4096 l, le-leb (5 * n + 5 + 8) (length b) h)

@@ -1,3 +1,6 @@
 pub mod Looking
 pub mod Stored
 pub mod Left
+pub mod Appended
+pub mod Holds
+pub mod Recorded

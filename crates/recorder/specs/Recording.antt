@@ -89,8 +89,11 @@ unfoldable pub closedAlready : Recorder → ℕ
 closedAlready r = cond (r .closed) 26 0
 
 -- "25: recorder only, 4,096 records stored, or no space left for the record and a trailer"
+unfoldable pub space : List ℕ → ℕ → Bool
+space b n = ltb n 4096 && leb (5 * n + 5 + 8) (length b)
+
 unfoldable pub full : List ℕ → ℕ → ℕ
-full b n = cond (ltb n 4096 && leb (5 * n + 5 + 8) (length b)) 0 25
+full b n = cond (space b n) 0 25
 
 -- "9: the trace stops inside an event action or after a join."
 unfoldable pub stopsInside : Recorder → ℕ

@@ -3,12 +3,11 @@ use trace::Record;
 ghost use mathlib.Core.Path.{_≡_};
 ghost use mathlib.Core.List.{[], _∷_};
 ghost use Prim.Native.Nat.{_+_, _≤_};
-ghost use lib.Dec.{eqb};
 ghost use lib.ListN.{length};
 ghost use Rattle.trace.specs.Encoding.{encode, trailer};
 ghost use Rattle.trace.specs.Encoding.{low as low-byte};
 ghost use Rattle.trace.specs.Encoding.{high as high-byte};
-ghost use Rattle.recorder.specs.Recording.{stored, full};
+ghost use Rattle.recorder.specs.Recording.{stored, space};
 
 fn low(x: usize) -> u8
     ensures { λ r. ⌜ r ≡ low-byte x ⌝ }
@@ -24,7 +23,7 @@ fn high(x: usize) -> u8
 
 // Is there space for one record more, and a trailer?
 pub(crate) fn has_space(bytes: &[u8], n: usize) -> bool
-    ensures { λ b. ⌜ b ≡ eqb (full (now (bytes .entry)) n) 0 ⌝ }
+    ensures { λ b. ⌜ b ≡ space (now (bytes .entry)) n ⌝ }
 {
     if 4096 <= n {
         return false;

@@ -1,8 +1,8 @@
 -- `recorder::step_on` meets its contract.
 -- Assumes nothing.
-use Rattle.recorder.proofs.Left.{held-most, full-none, space, step-closed, step-judged, step-full, step-taken}
+use Rattle.recorder.proofs.Left.{held-most, full-none, full-not, spaced, step-closed, step-judged, step-full, step-taken}
 use Rattle.trace.specs.Paper.{checkedPaper}
-use borrow.Author.Tests.{not-true, not-false, eqb-true}
+use borrow.Author.Tests.{not-true, not-false}
 use mathlib.Core.Path.{sym, ap, _∙_}
 use denote.Ref.{now}
 use native.Mathlib.Omega.{arith}
@@ -50,7 +50,7 @@ mul-put-record c = let h = held-most (c .before .before .before .before .before 
 
 put-record-requires : tie.Need-put-record-requires
 put-record-requires c κs =
-    let p = space (now (c .before .before .before .before .before .before .before .before .before .before .before .before .args .bytes)) (c .before .before .before .before .before .before .before .before .before .stored-records .result) (eqb-true _ 0 (sym (c .before .before .has-space .ensures) ∙ not-false (c .before .before .has-space .result) (c .before .if2 .left))) in
+    let p = spaced (now (c .before .before .before .before .before .before .before .before .before .before .before .before .args .bytes)) (c .before .before .before .before .before .before .before .before .before .stored-records .result) (sym (c .before .before .has-space .ensures) ∙ not-false (c .before .before .has-space .result) (c .before .if2 .left)) in
     omega arith
 
 add-t24 : tie.Need-add-t24
@@ -75,7 +75,7 @@ returns-4 : tie.Need-returns-4
 returns-4 c =
     let a = c .before .before .before .before .before .before .before .before .before .before .before .before .before .before .before .args in
     let g = c .before .before .before .before .before .before .before .before .checked2 .given in
-    let f = eqb-true _ 0 (sym (c .before .before .before .before .before .has-space .ensures) ∙ not-false (c .before .before .before .before .before .has-space .result) (c .before .before .before .before .if2 .left)) in
+    let f = full-not (now (a .bytes)) (c .before .before .before .before .before .before .before .before .before .before .before .before .stored-records .result) (sym (c .before .before .before .before .before .has-space .ensures) ∙ not-false (c .before .before .before .before .before .has-space .result) (c .before .before .before .before .if2 .left)) in
     simp (c .before .before .put-record .ensures)
     (step-taken (now (a .bytes)) (a .r) (c .before .before .before .before .before .before .before .before .before .before .before .before .before .if1 .left) (c .before .before .before .before .before .before .before .before .before .before .before .before .stored-records .result) (c .before .before .before .before .before .before .before .before .before .before .before .before .stored-records .ensures) (a .rec) (g .0 .0) (sym (ap checkedPaper (g .1)) ∙ c .before .before .before .before .before .before .before .before .before .before .check .ensures) f)
 

@@ -3,18 +3,14 @@
 use lib.Dec.{eqb}
 use mathlib.Core.Bool.{Bool, true, false, cond}
 use mathlib.Core.Path.{_≡_, refl}
-use Rattle.recorder.specs.Recording.{full}
+use Rattle.recorder.specs.Recording.{space}
 use borrow.Author.Tests.{lt-ltb, le-ltb}
 use borrow.Author.Needs.{needs}
 use Rattle.recorder.proofs.store.has_space.Statement.{statement}
 use Rattle.recorder.proofs.store.has_space.Tie as tie
 
-zero-test : (b : Bool) → b ≡ eqb (cond b 0 25) 0
-zero-test true = refl
-zero-test false = refl
-
 returns : tie.Need-returns
-unfolding full
+unfolding space
 returns c = simp (le-ltb _ _ (c .if1 .taken))
 
 mul-result : tie.Need-mul-result
@@ -27,8 +23,8 @@ add-result-2 : tie.Need-add-result-2
 add-result-2 c = search needs
 
 returns-2 : tie.Need-returns-2
-unfolding full
-returns-2 c = simp (lt-ltb _ _ (c .if1 .left)) (zero-test _)
+unfolding space
+returns-2 c = simp (lt-ltb _ _ (c .if1 .left))
 
 pub has-space-spec : {M : Type 1} → statement M
 has-space-spec = tie.close (tie.spec returns mul-result add-result add-result-2 returns-2)
