@@ -16,10 +16,6 @@ use Rattle.trace.specs.Paper.{Verdict, passes, fails, verdict}
 use Rattle.recorder.specs.declared.Recorder.{Recorder}
 use Rattle.recorder.specs.Recording.{refused, taken, closes, Left, pass, stored, held, before, judged, closedAlready, space, full, stopsInside, noTrailer, stepLeft, closeLeft}
 
-pub held-most : (r : Recorder) → held r ≤ 4096
-unfolding held
-held-most r = omega arith
-
 abbrev pub refusing : List ℕ → Recorder → ℕ → ℕ → Left
 refusing b r n p = record { answer = refused n p; recorder = r; bytes = b }
 

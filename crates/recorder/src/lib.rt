@@ -9,6 +9,7 @@ use trace::Operation;
 use trace::Record;
 use trace::Refusal;
 ghost use mathlib.Core.Path.{_≡_};
+ghost use Prim.Native.Nat.{_≤_};
 ghost use Rattle.recorder.specs.Recording.{opened, next, ended-with, held, openLeft, stepLeft, closeLeft};
 
 // The recorder's one state: how many records are stored, the situation, the open or joining event, and whether the trace is closed.
@@ -52,7 +53,7 @@ pub struct Ended {
 
 // How many records are stored: at most 4,096, whatever the state says.
 fn stored_records(r: Recorder) -> usize
-    ensures { λ n. ⌜ n ≡ held r ⌝ }
+    ensures { λ n. ⌜ (n ≡ held r) × (n ≤ 4096) ⌝ }
 {
     if r.count < 4096 {
         return r.count as usize;
@@ -60,12 +61,33 @@ fn stored_records(r: Recorder) -> usize
     4096
 }
 
+// A refusal that concerns no record.
 fn refusal(number: u16) -> Refusal
     ensures { λ f. ⌜ (f .number ≡ number) × (f .place .0 ≡ 0) ⌝ }
 {
     Refusal {
         number: number,
         place: Operation(0),
+    }
+}
+
+// A refused step leaves the recorder as it was.
+fn not_taken(kept: Recorder, f: Refusal) -> Next
+    ensures { λ n. ⌜ (n .recorder ≡ kept) × (n .answer ≡ Stepped.Refused f) ⌝ }
+{
+    Next {
+        recorder: kept,
+        answer: Stepped::Refused(f),
+    }
+}
+
+// So does a refused closing.
+fn not_closed(r: Recorder, f: Refusal) -> Ended
+    ensures { λ e. ⌜ (e .recorder ≡ r) × (e .answer ≡ Closing.Refused f) ⌝ }
+{
+    Ended {
+        recorder: r,
+        answer: Closing::Refused(f),
     }
 }
 
@@ -97,24 +119,15 @@ pub fn step_on(bytes: &mut [u8], r: Recorder, rec: Record) -> Next
     ensures { λ n. ⌜ next n (now (bytes .exit)) ≡ stepLeft (now (bytes .entry)) r rec ⌝ }
 {
     if r.closed {
-        return Next {
-            recorder: r,
-            answer: Stepped::Refused(refusal(trace::CLOSED)),
-        };
+        return not_taken(r, refusal(trace::CLOSED));
     }
     let n = stored_records(r);
     let checked = look::check(bytes, n, r, rec);
     match checked {
-        Checked::Refused(f) => Next {
-            recorder: r,
-            answer: Stepped::Refused(f),
-        },
+        Checked::Refused(f) => not_taken(r, f),
         Checked::Next(situation) => {
             if !store::has_space(bytes, n) {
-                return Next {
-                    recorder: r,
-                    answer: Stepped::Refused(refusal(trace::NO_SPACE)),
-                };
+                return not_taken(r, refusal(trace::NO_SPACE));
             }
             store::put_record(bytes, 5 * n, rec);
             Next {
@@ -135,27 +148,19 @@ pub fn close_on(bytes: &mut [u8], r: Recorder) -> Ended
     ensures { λ e. ⌜ ended-with e (now (bytes .exit)) ≡ closeLeft (now (bytes .entry)) r ⌝ }
 {
     if r.closed {
-        return Ended {
-            recorder: r,
-            answer: Closing::Refused(refusal(trace::CLOSED)),
-        };
+        return not_closed(r, refusal(trace::CLOSED));
     }
     let n = stored_records(r);
     if r.situation != 0 {
-        return Ended {
-            recorder: r,
-            answer: Closing::Refused(Refusal {
-                number: trace::STOPS_INSIDE,
-                place: Operation(n as u16),
-            }),
+        let last = Refusal {
+            number: trace::STOPS_INSIDE,
+            place: Operation(n as u16),
         };
+        return not_closed(r, last);
     }
     let at = 5 * n;
     if bytes.len() < at + 8 {
-        return Ended {
-            recorder: r,
-            answer: Closing::Refused(refusal(trace::NO_SPACE)),
-        };
+        return not_closed(r, refusal(trace::NO_SPACE));
     }
     let begins = look::begins(bytes, n);
     store::put_trailer(bytes, at, begins);

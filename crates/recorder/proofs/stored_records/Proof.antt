@@ -11,11 +11,11 @@ cast-result c = search needs
 
 returns : tie.Need-returns
 unfolding held
-returns c = omega arith
+returns c = (omega arith, search needs)
 
 returns-2 : tie.Need-returns-2
 unfolding held
-returns-2 c = omega arith
+returns-2 c = (omega arith, search needs)
 
 pub stored-records-spec : {M : Type 1} → statement M
 stored-records-spec = tie.close (tie.spec cast-result returns returns-2)

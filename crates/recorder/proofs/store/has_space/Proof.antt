@@ -1,8 +1,5 @@
 -- `recorder::store::has_space` meets its contract.
 -- Assumes nothing.
-use lib.Dec.{eqb}
-use mathlib.Core.Bool.{Bool, true, false, cond}
-use mathlib.Core.Path.{_≡_, refl}
 use Rattle.recorder.specs.Recording.{space}
 use borrow.Author.Tests.{lt-ltb, le-ltb}
 use borrow.Author.Needs.{needs}
