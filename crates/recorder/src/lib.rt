@@ -130,9 +130,10 @@ pub fn step_on(bytes: &mut [u8], r: Recorder, rec: Record) -> Next
                 return not_taken(r, refusal(trace::NO_SPACE));
             }
             store::put_record(bytes, 5 * n, rec);
+            let count = (n + 1) as u16;
             Next {
                 recorder: Recorder {
-                    count: (n + 1) as u16,
+                    count: count,
                     situation: situation,
                     owner: EventId(rec.first),
                     closed: false,

@@ -62,11 +62,11 @@ put-record-requires c κs =
     let p = spaced (now (c .before .before .before .before .before .before .before .before .before .before .before .before .args .bytes)) (c .before .before .before .before .before .before .before .before .before .stored-records .result) (sym (c .before .before .has-space .ensures) ∙ not-false (c .before .before .has-space .result) (c .before .if2 .left)) in
     omega arith
 
-add-t21 : tie.Need-add-t21
-add-t21 c = search needs
+add-count : tie.Need-add-count
+add-count c = search needs
 
-cast-t22 : tie.Need-cast-t22
-cast-t22 c = search needs
+cast-count : tie.Need-cast-count
+cast-count c = search needs
 
 same-length-2 : tie.Need-same-length-2
 same-length-2 c = search needs
@@ -108,8 +108,8 @@ step-on-spec =
     returns-2
     mul-put-record
     put-record-requires
-    add-t21
-    cast-t22
+    add-count
+    cast-count
     same-length-2
     returns-3
     same-length-3
