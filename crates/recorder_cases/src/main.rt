@@ -1,0 +1,16 @@
+// Records traces, closes them and reads them back: at every limit of space, with 4,096 records, and at random, where the reader is asked about each refused step.
+mod limits;
+mod random;
+mod raw;
+mod say;
+mod whole;
+
+fn main() {
+    let mut space = io::large_buffer();
+    let bytes: &mut [u8] = &mut space;
+    limits::all(bytes);
+    whole::full(bytes);
+    let mut more = io::large_buffer();
+    let log: &mut [u8] = &mut more;
+    random::all(bytes, log);
+}
