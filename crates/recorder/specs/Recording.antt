@@ -50,14 +50,17 @@ pub record Left : Type 0 where
   pub recorder : Recorder
   pub bytes : List ℕ
 
+abbrev pub left : Outcome → Recorder → List ℕ → Left
+left a r b = record { answer = a; recorder = r; bytes = b }
+
 abbrev pub opened : Opened → List ℕ → Left
-opened o b = record { answer = openingPaper (o .answer); recorder = o .recorder; bytes = b }
+opened o b = left (openingPaper (o .answer)) (o .recorder) b
 
 abbrev pub next : Next → List ℕ → Left
-next n b = record { answer = steppedPaper (n .answer); recorder = n .recorder; bytes = b }
+next n b = left (steppedPaper (n .answer)) (n .recorder) b
 
 abbrev pub ended-with : Ended → List ℕ → Left
-ended-with e b = record { answer = closingPaper (e .answer); recorder = e .recorder; bytes = b }
+ended-with e b = left (closingPaper (e .answer)) (e .recorder) b
 
 -- "A refused step leaves recorder and bytes unchanged": the refusal with this number and place, or next where the number is 0.
 unfoldable pub pass : List ℕ → Recorder → ℕ → ℕ → Left → Left

@@ -10,7 +10,7 @@ use trace::Record;
 use trace::Refusal;
 ghost use mathlib.Core.Path.{_≡_};
 ghost use Prim.Native.Nat.{_≤_};
-ghost use Rattle.recorder.specs.Recording.{opened, next, ended-with, held, openLeft, stepLeft, closeLeft};
+ghost use Rattle.recorder.specs.Recording.{steppedPaper, closingPaper, left, opened, next, ended-with, held, openLeft, stepLeft, closeLeft};
 
 // The recorder's one state: how many records are stored, the situation, the open or joining event, and whether the trace is closed.
 pub struct Recorder {
@@ -175,4 +175,22 @@ pub fn close_on(bytes: &mut [u8], r: Recorder) -> Ended
         },
         answer: Closing::Closed(at + 8),
     }
+}
+
+// One step of the recorder that is lent.
+pub fn step(r: &mut Recorder, bytes: &mut [u8], rec: Record) -> Stepped
+    ensures { λ a. ⌜ left (steppedPaper a) (now (r .exit)) (now (bytes .exit)) ≡ stepLeft (now (bytes .entry)) (now (r .entry)) rec ⌝ }
+{
+    let next = step_on(bytes, *r, rec);
+    *r = next.recorder;
+    next.answer
+}
+
+// Closes the recorder that is lent.
+pub fn close(r: &mut Recorder, bytes: &mut [u8]) -> Closing
+    ensures { λ a. ⌜ left (closingPaper a) (now (r .exit)) (now (bytes .exit)) ≡ closeLeft (now (bytes .entry)) (now (r .entry)) ⌝ }
+{
+    let ended = close_on(bytes, *r);
+    *r = ended.recorder;
+    ended.answer
 }
