@@ -4,3 +4,4 @@ pub mod Left
 pub mod Appended
 pub mod Holds
 pub mod Recorded
+pub mod Alike

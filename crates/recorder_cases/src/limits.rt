@@ -76,7 +76,7 @@ fn over(bytes: &mut [u8], space: usize) {
     let closing = ended.answer;
     say::number(b"space ", space);
     say::opening(opening);
-    say::number(b" taken ", run.taken);
+    say::number(b" steps ", run.taken);
     say::stepped(last);
     say::closing(closing);
     say::line();

@@ -1,4 +1,6 @@
-// Records traces, closes them and reads them back: at every limit of space, with 4,096 records, and at random, where the reader is asked about each refused step.
+// Records traces, closes them and reads them back: at every limit of space, with 4,096 records, at random, where the reader is asked about each refused
+// step, and with forged states.
+mod forged;
 mod limits;
 mod random;
 mod raw;
@@ -13,4 +15,6 @@ fn main() {
     let mut more = io::large_buffer();
     let log: &mut [u8] = &mut more;
     random::all(bytes, log);
+    forged::all(bytes, 40);
+    forged::all(bytes, 20488);
 }

@@ -35,7 +35,9 @@ pub(crate) fn opening(a: Opening) {
 
 pub(crate) fn stepped(a: Stepped) {
     match a {
-        Stepped::Taken => {}
+        Stepped::Taken => {
+            io::write_all(1, b" taken");
+        }
         Stepped::Refused(f) => refusal(f),
     }
 }
