@@ -53,14 +53,14 @@ pub record Left : Type 0 where
 abbrev pub left : Outcome → Recorder → List ℕ → Left
 left a r b = record { answer = a; recorder = r; bytes = b }
 
-abbrev pub opened : Opened → List ℕ → Left
-opened o b = left (openingPaper (o .answer)) (o .recorder) b
+abbrev pub ofOpening : Opened → List ℕ → Left
+ofOpening o b = left (openingPaper (o .answer)) (o .recorder) b
 
-abbrev pub next : Next → List ℕ → Left
-next n b = left (steppedPaper (n .answer)) (n .recorder) b
+abbrev pub ofStep : Next → List ℕ → Left
+ofStep n b = left (steppedPaper (n .answer)) (n .recorder) b
 
-abbrev pub ended-with : Ended → List ℕ → Left
-ended-with e b = left (closingPaper (e .answer)) (e .recorder) b
+abbrev pub ofClosing : Ended → List ℕ → Left
+ofClosing e b = left (closingPaper (e .answer)) (e .recorder) b
 
 -- "A refused step leaves recorder and bytes unchanged": the refusal with this number and place, or next where the number is 0.
 unfoldable pub pass : List ℕ → Recorder → ℕ → ℕ → Left → Left

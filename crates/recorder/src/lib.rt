@@ -10,7 +10,7 @@ use trace::Record;
 use trace::Refusal;
 ghost use mathlib.Core.Path.{_≡_};
 ghost use Prim.Native.Nat.{_≤_};
-ghost use Rattle.recorder.specs.Recording.{steppedPaper, closingPaper, left, opened, next, ended-with, held, openLeft, stepLeft, closeLeft};
+ghost use Rattle.recorder.specs.Recording.{steppedPaper, closingPaper, left, ofOpening, ofStep, ofClosing, held, openLeft, stepLeft, closeLeft};
 
 // The recorder's one state: how many records are stored, the situation, the open or joining event, and whether the trace is closed.
 pub struct Recorder {
@@ -93,7 +93,7 @@ fn not_closed(r: Recorder, f: Refusal) -> Ended
 
 // A recorder over the bytes, with no record yet.
 pub fn open_on(bytes: &[u8]) -> Opened
-    ensures { λ o. ⌜ opened o (now (bytes .entry)) ≡ openLeft (now (bytes .entry)) ⌝ }
+    ensures { λ o. ⌜ ofOpening o (now (bytes .entry)) ≡ openLeft (now (bytes .entry)) ⌝ }
 {
     let short = bytes.len() < 8;
     let recorder = Recorder {
@@ -116,7 +116,7 @@ pub fn open_on(bytes: &[u8]) -> Opened
 
 // One step: the record is checked, and stored where there is space for it and a trailer.
 pub fn step_on(bytes: &mut [u8], r: Recorder, rec: Record) -> Next
-    ensures { λ n. ⌜ next n (now (bytes .exit)) ≡ stepLeft (now (bytes .entry)) r rec ⌝ }
+    ensures { λ n. ⌜ ofStep n (now (bytes .exit)) ≡ stepLeft (now (bytes .entry)) r rec ⌝ }
 {
     if r.closed {
         return not_taken(r, refusal(trace::CLOSED));
@@ -146,7 +146,7 @@ pub fn step_on(bytes: &mut [u8], r: Recorder, rec: Record) -> Next
 
 // The trailer is stored, and the recorder is closed.
 pub fn close_on(bytes: &mut [u8], r: Recorder) -> Ended
-    ensures { λ e. ⌜ ended-with e (now (bytes .exit)) ≡ closeLeft (now (bytes .entry)) r ⌝ }
+    ensures { λ e. ⌜ ofClosing e (now (bytes .exit)) ≡ closeLeft (now (bytes .entry)) r ⌝ }
 {
     if r.closed {
         return not_closed(r, refusal(trace::CLOSED));

@@ -43,7 +43,7 @@ use denote.Signature.{plain}
 use Rattle.recorder.specs.declared.Recorder.{Recorder}
 use Rattle.recorder.specs.declared.Ended.{Ended}
 use Rattle.recorder.specs.declared.Closing.{Closing}
-use Rattle.recorder.specs.Recording.{ended-with, closeLeft}
+use Rattle.recorder.specs.Recording.{ofClosing, closeLeft}
 use Rattle.recorder.proofs.Recorder as T
 use Rattle.recorder.proofs.Recorder.Laws as T′
 use Rattle.recorder.proofs.Ended as N
@@ -123,7 +123,7 @@ module _ {M : Type 1} (𝓤 : URA M) (H : Heap 𝓤) (A : Atoms 𝓤) (W : Given
 
   -- what `close_on` ensures
   abbrev Said : Ended → List ℕ → Type 0
-  Said n zs = ended-with n zs ≡ closeLeft ys h
+  Said n zs = ofClosing n zs ≡ closeLeft ys h
 
   exits : (n : Ended) (zs : List ℕ) → Is An.the-row (n .answer) (vals-a (n .answer)) → Said n zs → length zs ≡ length ys
       → ent 𝓤 (⋆ 𝓤 H A (‵ (fobs γ (R .coded .code (n .recorder))) ∷ ‵ (fbor κ (Body (mem R) b o γ)) ∷ ‵ (flft κ q) ∷ (‵ (flft κ′ q′) ⊛ ‵ ftrue) ∷ ‵ (finally u8 γ′ zs) ∷ [])) (Post (only (vals-a (n .answer))))

@@ -47,7 +47,7 @@ use Rattle.trace.proofs.Record.Laws as X′
 use Rattle.recorder.specs.declared.Recorder.{Recorder}
 use Rattle.recorder.specs.declared.Next.{Next}
 use Rattle.recorder.specs.declared.Stepped.{Stepped}
-use Rattle.recorder.specs.Recording.{next, stepLeft}
+use Rattle.recorder.specs.Recording.{ofStep, stepLeft}
 use Rattle.recorder.proofs.Recorder as T
 use Rattle.recorder.proofs.Recorder.Laws as T′
 use Rattle.recorder.proofs.Next as N
@@ -130,7 +130,7 @@ module _ {M : Type 1} (𝓤 : URA M) (H : Heap 𝓤) (A : Atoms 𝓤) (W : Given
 
   -- what `step_on` ensures
   abbrev Said : Next → List ℕ → Type 0
-  Said n zs = next n zs ≡ stepLeft ys h x
+  Said n zs = ofStep n zs ≡ stepLeft ys h x
 
   exits : (n : Next) (zs : List ℕ) → Is An.the-row (n .answer) (vals-a (n .answer)) → Said n zs → length zs ≡ length ys
       → ent 𝓤 (⋆ 𝓤 H A (‵ (fobs γ (R .coded .code (n .recorder))) ∷ ‵ (fbor κ (Body (mem R) b o γ)) ∷ ‵ (flft κ q) ∷ (‵ (flft κ′ q′) ⊛ ‵ ftrue) ∷ ‵ (finally u8 γ′ zs) ∷ [])) (Post (only (vals-a (n .answer))))

@@ -11,78 +11,46 @@ use borrow.Author.Needs.{needs}
 use Rattle.recorder.proofs.store.put_record.Statement.{statement}
 use Rattle.recorder.proofs.store.put_record.Tie as tie
 
-cast-first : tie.Need-cast-first
-cast-first c = search needs
-
-cast-second : tie.Need-cast-second
-cast-second c = search needs
-
 slice-write-bytes : tie.Need-slice-write-bytes
 slice-write-bytes c = search needs
 
-low-requires : tie.Need-low-requires
-low-requires c κs = search needs
+add-put-two : tie.Need-add-put-two
+add-put-two c = search needs
 
-add-bytes : tie.Need-add-bytes
-add-bytes c = search needs
+cast-put-two : tie.Need-cast-put-two
+cast-put-two c = search needs
 
-slice-write-bytes-2 : tie.Need-slice-write-bytes-2
-slice-write-bytes-2 c = simp length-set (omega arith)
+put-two-requires : tie.Need-put-two-requires
+put-two-requires c κs = simp length-set (omega arith)
 
-high-requires : tie.Need-high-requires
-high-requires c κs = search needs
+add-put-two-2 : tie.Need-add-put-two-2
+add-put-two-2 c = search needs
 
-add-bytes-2 : tie.Need-add-bytes-2
-add-bytes-2 c = search needs
+cast-put-two-2 : tie.Need-cast-put-two-2
+cast-put-two-2 c = search needs
 
-slice-write-bytes-3 : tie.Need-slice-write-bytes-3
-slice-write-bytes-3 c = simp length-set (omega arith)
-
-low-requires-2 : tie.Need-low-requires-2
-low-requires-2 c κs = search needs
-
-add-bytes-3 : tie.Need-add-bytes-3
-add-bytes-3 c = search needs
-
-slice-write-bytes-4 : tie.Need-slice-write-bytes-4
-slice-write-bytes-4 c = simp length-set (omega arith)
-
-high-requires-2 : tie.Need-high-requires-2
-high-requires-2 c κs = search needs
-
-add-bytes-4 : tie.Need-add-bytes-4
-add-bytes-4 c = search needs
-
-slice-write-bytes-5 : tie.Need-slice-write-bytes-5
-slice-write-bytes-5 c = simp length-set (omega arith)
+put-two-requires-2 : tie.Need-put-two-requires-2
+put-two-requires-2 c κs = simp (c .before .before .before .before .put-two .ensures, length-set) (omega arith)
 
 same-length : tie.Need-same-length
-same-length c = search needs
+same-length c = omega (arith, length-set (now (c .before .before .before .before .before .before .before .before .before .before .before .args .bytes)) (c .before .before .before .before .before .before .before .before .before .before .before .args .at) (c .before .before .before .before .before .before .before .before .before .before .before .args .rec .kind))
 
 returns : tie.Need-returns
 unfolding encode
 returns c =
-    let a = c .before .before .before .before .before .before .before .args in
-    simp (c .before .before .before .low .ensures, c .before .before .high .ensures, c .before .low2 .ensures, c .high2 .ensures, towards-suc) (stored-sets (now (a .bytes)) (a .at) (encode (a .rec ∷ [])) (omega arith))
+    let a = c .before .before .before .before .before .before .before .before .before .before .before .args in
+    simp (c .before .before .before .before .before .before .before .put-two .ensures, c .before .before .put-two2 .ensures, towards-suc) (stored-sets (now (a .bytes)) (a .at) (encode (a .rec ∷ [])) (omega arith))
 
 pub put-record-spec : {M : Type 1} → statement M
 put-record-spec =
     tie.close
     (tie.spec
-    cast-first
-    cast-second
     slice-write-bytes
-    low-requires
-    add-bytes
-    slice-write-bytes-2
-    high-requires
-    add-bytes-2
-    slice-write-bytes-3
-    low-requires-2
-    add-bytes-3
-    slice-write-bytes-4
-    high-requires-2
-    add-bytes-4
-    slice-write-bytes-5
+    add-put-two
+    cast-put-two
+    put-two-requires
+    add-put-two-2
+    cast-put-two-2
+    put-two-requires-2
     same-length
     returns)
