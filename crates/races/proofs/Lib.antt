@@ -5,3 +5,4 @@ pub mod PassLaws
 pub mod WorkLaws
 pub mod Examples
 pub mod FilledLaws
+pub mod PairEntries

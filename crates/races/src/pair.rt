@@ -1,0 +1,83 @@
+// The pair question: for a race, what an arrangement keeps that runs its second access without its first, or a cover.
+use crate::leading;
+use crate::racing;
+use crate::workspace;
+use order::Filling;
+use order::ranks;
+use trace::Operation;
+use trace::Reading;
+use trace::Refusal;
+use trace::access;
+ghost use mathlib.Core.Path.{_≡_};
+ghost use mathlib.Core.List.{List, _++_};
+ghost use Prim.Native.Nat.{ℕ, suc, _+_, _*_, _-_, _/_, _≤_, _<_};
+ghost use lib.Dec.{leb};
+ghost use lib.ListN.{length, set, drop, replicate};
+ghost use Rattle.trace.specs.Bytes.{decode};
+ghost use Rattle.trace.specs.Reading.{Acceptable};
+ghost use Rattle.order.specs.Fill.{eventsIn, spaceFor};
+ghost use Rattle.order.specs.Ranks.{ranksOf};
+ghost use Rattle.coverage.specs.Race.{Race, raceb};
+ghost use Rattle.coverage.specs.Leading.{lastKept, entries};
+ghost use Rattle.races.specs.Traces.{settingOf};
+ghost use Rattle.races.specs.Filled.{Filled};
+ghost use Rattle.races.specs.Leading.{rows};
+ghost use Rattle.races.specs.Pair.{areRecords, pairPaper, PairReply, withEntries, keptEntries, AnswersFilled};
+ghost use Rattle.races.specs.PairSearch.{MarksOf, keptBelow};
+
+// What the pair question finds: open or covered, with the number of entries given, or why it is refused.
+pub enum PairAnswer {
+    Open(usize),
+    Covered(usize),
+    Refused(Refusal),
+}
+
+// Writes entry k of the list space.
+pub(crate) fn put_entry(list: &mut [u16], k: usize, first: u16, second: u16)
+    requires { ⌜ 2 * k + 1 < length (now list) ⌝ }
+    ensures { λ u. ⌜ now (list .exit) ≡ set (set (now (list .entry)) (2 * k) first) (2 * k + 1) second ⌝ }
+{
+    list[2 * k] = first;
+    list[2 * k + 1] = second;
+}
+
+// Is record i, not after b, the last one kept of its event action?
+fn is_last_kept(recs: &[u8], ranks: &[u16], work: &[u8], b: usize, i: usize) -> bool
+    requires { ⌜ MarksOf (decode (now recs)) (now ranks) b (now work) × (i ≤ b) ⌝ }
+    ensures { λ r. ⌜ r ≡ lastKept (settingOf (decode (now (recs .entry)))) b i ⌝ }
+{
+    if !leading::is_leading(recs, ranks, work, i) {
+        return false;
+    }
+    if i == b {
+        return true;
+    }
+    access::first_at(recs, i + 1) != access::first_at(recs, i)
+}
+
+// Writes the entry of record i where it is the last one kept of its event action; gives the number of entries then.
+fn put_kept_at(recs: &[u8], ranks: &[u16], work: &[u8], b: usize, i: usize, list: &mut [u16], k: usize) -> usize
+    requires { ⌜ MarksOf (decode (now recs)) (now ranks) b (now work) × (i ≤ b) ⌝ }
+    requires { ⌜ (k ≡ length (keptBelow (decode (now recs)) b i)) × (2 * rows (decode (now recs)) ≤ length (now list)) ⌝ }
+    ensures { λ r. ⌜ (r ≡ length (keptBelow (decode (now (recs .entry))) b (suc i))) × ((entry : List ℕ) → now (list .entry) ≡ withEntries (keptBelow (decode (now (recs .entry))) b i) entry → now (list .exit) ≡ withEntries (keptBelow (decode (now (recs .entry))) b (suc i)) entry) ⌝ }
+{
+    if !is_last_kept(recs, ranks, work, b, i) {
+        return k;
+    }
+    put_entry(list, k, access::first_at(recs, i), (i + 1) as u16);
+    k + 1
+}
+
+// Writes the entries of an open pair whose second record is b; gives their number.
+fn put_kept(recs: &[u8], ranks: &[u16], work: &[u8], b: usize, list: &mut [u16]) -> usize
+    requires { ⌜ MarksOf (decode (now recs)) (now ranks) b (now work) × (2 * rows (decode (now recs)) ≤ length (now list)) ⌝ }
+    ensures { λ r. ⌜ (r ≡ length (entries (settingOf (decode (now (recs .entry)))) b)) × (now (list .exit) ≡ withEntries (keptEntries (decode (now (recs .entry))) b) (now (list .entry))) ⌝ }
+{
+    let mut k = 0;
+    let mut i = 0;
+    while i <= b {
+        k = put_kept_at(recs, ranks, work, b, i, list, k);
+        i += 1;
+    }
+    k
+}
