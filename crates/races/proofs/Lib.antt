@@ -6,3 +6,4 @@ pub mod WorkLaws
 pub mod Examples
 pub mod FilledLaws
 pub mod PairEntries
+pub mod CoverLaws

@@ -35,6 +35,14 @@ keptBelow tr b i = map (entryAt tr) (upto i (lastKept (settingOf tr) b))
 unfoldable pub racesOn : List Record → ℕ → ℕ → ℕ → Bool
 racesOn tr b c d = leads (settingOf tr) b (eventOf (at tr d)) && raceb (settingOf tr) c d
 
+-- there is no such record before d
+abbrev pub NoSecond : List Record → ℕ → ℕ → ℕ → Type 0
+NoSecond tr b c d = (x : ℕ) → x < d → T (racesOn tr b c x) → ⊥
+
+-- nor any before b, for the records before c whose event action that of t happens before
+abbrev pub NoRace : List Record → ℕ → ℕ → ℕ → Type 0
+NoRace tr b t c = (x y : ℕ) → x < c → y < b → T (happensBefore tr (eventOf (at tr t)) (eventOf (at tr x))) → T (racesOn tr b x y) → ⊥
+
 -- d is such a record before b, where the event action of t happens before that of c; or there is none, and d is b or above
 pub record Second (tr : List Record) (b t c d : ℕ) : Type 0 where
   pub found : d < b → T (happensBefore tr (eventOf (at tr t)) (eventOf (at tr c))) × T (racesOn tr b c d)
