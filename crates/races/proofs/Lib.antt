@@ -7,3 +7,4 @@ pub mod Examples
 pub mod FilledLaws
 pub mod PairEntries
 pub mod CoverLaws
+pub mod PairLaws

@@ -117,6 +117,11 @@ ListAfter tr a b (refused n p) count list list′ = list′ ≡ list
 ListAfter tr a b (isOpen n) count list list′ = list′ ≡ withEntries (keptEntries tr b) list
 ListAfter tr a b isCovered count list list′ = GivesCover tr a b count list list′
 
+-- of a race: the answer and the list space
+pub record AnswersRace (tr : List Record) (a b : ℕ) (list list′ : List ℕ) (r : PairAnswer) : Type 0 where
+  pub answer : pairPaper r ≡ answered (coveredb (settingOf tr) a b) (length (entries (settingOf tr) b))
+  pub list-after : ListAfter tr a b (answered (coveredb (settingOf tr) a b) (length (entries (settingOf tr) b))) (entriesGiven r) list list′
+
 -- over clocks that are filled: the answer and the list space
 pub record AnswersFilled (tr : List Record) (events a b : ℕ) (list list′ : List ℕ) (r : PairAnswer) : Type 0 where
   pub answer : pairPaper r ≡ pairFilled tr events (length list) a b

@@ -4,10 +4,10 @@ use mathlib.Core.Path.{_≡_}
 use mathlib.Core.Bool.{Bool, _&&_}
 use mathlib.Core.List.{List, _++_, map}
 use lib.Dec.{T}
-use lib.ListN.{length}
+use lib.ListN.{length, drop, replicate}
 use Rattle.trace.specs.declared.Record.{Record}
 use Rattle.trace.specs.Records.{at, eventOf}
-use Rattle.trace.specs.Reading.{Acceptable}
+use Rattle.trace.specs.Reading.{accepted, recordsIn, readReply, Acceptable}
 use Rattle.order.specs.HappensBefore.{rank, happensBefore}
 use Rattle.coverage.specs.Below.{upto}
 use Rattle.coverage.specs.Race.{before, Race, raceb}
@@ -23,6 +23,19 @@ pub record MarksOf (tr : List Record) (ranks : List ℕ) (b : ℕ) (work : List 
   pub acceptable : Acceptable tr
   pub inside : b < length tr
   pub tells : (x : ℕ) → x < length tr → markedEvent ranks work (eventOf (at tr x)) ≡ leads (settingOf tr) b (eventOf (at tr x))
+
+-- the work space is 0 over one byte for each event action
+pub record Cleared (tr : List Record) (events : ℕ) (work : List ℕ) : Type 0 where
+  pub rows-are : events ≡ rows tr
+  pub room : events ≤ length work
+  pub zeros : work ≡ replicate events 0 ++ drop events work
+
+-- the trace that was read in the bytes
+pub record ReadAs (bytes : List ℕ) (tr : List Record) (events : ℕ) : Type 0 where
+  pub start : ℕ
+  pub count : ℕ
+  pub reply : accepted start count events ≡ readReply bytes
+  pub records : tr ≡ recordsIn bytes start count
 
 -- the entries of an open pair from the records before i: the event, and the last record kept by its number
 abbrev pub entryAt : List Record → ℕ → ℕ × ℕ

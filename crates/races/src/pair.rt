@@ -1,4 +1,5 @@
 // The pair question: for a race, what an arrangement keeps that runs its second access without its first, or a cover.
+use crate::cover;
 use crate::leading;
 use crate::racing;
 use crate::workspace;
@@ -22,8 +23,8 @@ ghost use Rattle.coverage.specs.Leading.{lastKept, entries};
 ghost use Rattle.races.specs.Traces.{settingOf};
 ghost use Rattle.races.specs.Filled.{Filled};
 ghost use Rattle.races.specs.Leading.{rows};
-ghost use Rattle.races.specs.Pair.{areRecords, pairPaper, PairReply, withEntries, keptEntries, AnswersFilled};
-ghost use Rattle.races.specs.PairSearch.{MarksOf, keptBelow};
+ghost use Rattle.races.specs.Pair.{areRecords, pairPaper, PairReply, withEntries, keptEntries, AnswersRace, AnswersFilled};
+ghost use Rattle.races.specs.PairSearch.{MarksOf, keptBelow, Cleared};
 
 // What the pair question finds: open or covered, with the number of entries given, or why it is refused.
 pub enum PairAnswer {
@@ -80,4 +81,93 @@ fn put_kept(recs: &[u8], ranks: &[u16], work: &[u8], b: usize, list: &mut [u16])
         i += 1;
     }
     k
+}
+
+// Writes the entries for a race (a, b), open or covered as the marks say.
+fn put_entries(
+    recs: &[u8],
+    ranks: &[u16],
+    of: &[u16],
+    width: usize,
+    clocks: &[u16],
+    work: &[u8],
+    list: &mut [u16],
+    a: usize,
+    b: usize,
+) -> PairAnswer
+    requires { ⌜ Filled (decode (now recs)) (now ranks) (now of) width (now clocks) × MarksOf (decode (now recs)) (now ranks) b (now work) ⌝ }
+    requires { ⌜ Race (settingOf (decode (now recs))) a b × (2 * rows (decode (now recs)) ≤ length (now list)) ⌝ }
+    ensures { λ r. ⌜ AnswersRace (decode (now (recs .entry))) a b (now (list .entry)) (now (list .exit)) r ⌝ }
+{
+    if leading::is_leading(recs, ranks, work, a) {
+        return PairAnswer::Covered(cover::put_cover(
+            recs,
+            ranks,
+            of,
+            width,
+            clocks,
+            work,
+            list,
+            a,
+            b,
+        ));
+    }
+    PairAnswer::Open(put_kept(recs, ranks, work, b, list))
+}
+
+// Are records a and b a race, first then second?
+fn is_race_in_order(
+    recs: &[u8],
+    ranks: &[u16],
+    of: &[u16],
+    width: usize,
+    clocks: &[u16],
+    a: usize,
+    b: usize,
+) -> bool
+    requires { ⌜ Filled (decode (now recs)) (now ranks) (now of) width (now clocks) × (b < length (decode (now recs))) ⌝ }
+    ensures { λ r. ⌜ r ≡ raceb (settingOf (decode (now (recs .entry)))) a b ⌝ }
+{
+    if b <= a {
+        return false;
+    }
+    racing::is_race(recs, ranks, of, width, clocks, a, b)
+}
+
+fn refused(number: u16) -> PairAnswer
+    ensures { λ r. ⌜ pairPaper r ≡ PairReply.refused number 0 ⌝ }
+{
+    PairAnswer::Refused(Refusal {
+        number: number,
+        place: Operation(0),
+    })
+}
+
+// Records a and b of an accepted trace whose clocks are filled, over a work space that is 0 for its event actions.
+fn ask_filled(
+    recs: &[u8],
+    of: &[u16],
+    events: usize,
+    width: usize,
+    clocks: &[u16],
+    work: &mut [u8],
+    list: &mut [u16],
+    a: usize,
+    b: usize,
+) -> PairAnswer
+    requires { ⌜ Filled (decode (now recs)) (ranksOf (decode (now recs))) (now of) width (now clocks) × (b < length (decode (now recs))) ⌝ }
+    requires { ⌜ Cleared (decode (now recs)) events (now work) ⌝ }
+    ensures { λ r. ⌜ AnswersFilled (decode (now (recs .entry))) events a b (now (list .entry)) (now (list .exit)) r × (now (work .exit) ≡ now (work .entry)) ⌝ }
+{
+    let all = ranks::ranks(recs);
+    if !is_race_in_order(recs, &all, of, width, clocks, a, b) {
+        return refused(trace::NO_RACE);
+    }
+    if list.len() / 2 < events {
+        return refused(trace::LIST_SPACE);
+    }
+    leading::mark_leading(recs, &all, b, work);
+    let answer = put_entries(recs, &all, of, width, clocks, work, list, a, b);
+    workspace::clear_marks(work, events);
+    answer
 }
