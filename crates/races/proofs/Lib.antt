@@ -8,3 +8,4 @@ pub mod FilledLaws
 pub mod PairEntries
 pub mod CoverLaws
 pub mod PairLaws
+pub mod PairEnds

@@ -49,9 +49,9 @@ put-more es k x y entry list e h l =
     let d : drop (2 * k) entry ≡ getD entry (2 * k) 0 ∷ getD entry (suc (2 * k)) 0 ∷ drop (suc (suc (2 * k))) entry = drop-cons entry (2 * k) 0 (omega arith) ∙ ap (λ (r : List ℕ). getD entry (2 * k) 0 ∷ r) (drop-cons entry (suc (2 * k)) 0 (omega arith)) in
     let rest = drop (suc (suc (2 * k))) entry in
     let s : set list (2 * k) x ≡ (flat es ++ x ∷ []) ++ getD entry (suc (2 * k)) 0 ∷ rest =
-        ap (λ (r : List ℕ). set r (2 * k) x) (l ∙ ap₂ (λ (p : ℕ) (r : List ℕ). flat es ++ r) n (ap (λ (p : ℕ). drop p entry) n ∙ d))
-        ∙ set-at (flat es) (getD entry (2 * k) 0) (getD entry (suc (2 * k)) 0 ∷ rest) x (2 * k) n
-        ∙ sym (append-assoc (flat es) (x ∷ []) (getD entry (suc (2 * k)) 0 ∷ rest)) in
+    ap (λ (r : List ℕ). set r (2 * k) x) (l ∙ ap₂ (λ (p : ℕ) (r : List ℕ). flat es ++ r) n (ap (λ (p : ℕ). drop p entry) n ∙ d))
+    ∙ set-at (flat es) (getD entry (2 * k) 0) (getD entry (suc (2 * k)) 0 ∷ rest) x (2 * k) n
+    ∙ sym (append-assoc (flat es) (x ∷ []) (getD entry (suc (2 * k)) 0 ∷ rest)) in
     let p : length (flat es ++ x ∷ []) ≡ 2 * k + 1 = length-append (flat es) (x ∷ []) ∙ omega arith in
     ap (λ (r : List ℕ). set r (2 * k + 1) y) s
     ∙ set-at (flat es ++ x ∷ []) (getD entry (suc (2 * k)) 0) rest y (2 * k + 1) p
@@ -160,9 +160,10 @@ module _ (tr : List Record) (b i k : ℕ) (list : List ℕ) (counts : k ≡ leng
   pub kept-grows : lastKept (settingOf tr) b i ≡ true → 2 * k + 1 < length list → (x y : ℕ) → x ≡ eventOf (at tr i) → y ≡ i + 1 → (list′ : List ℕ) → list′ ≡ set (set list (2 * k) x) (2 * k + 1) y → Grows (k + 1) list′
   unfolding withEntries
   kept-grows h room x y ex ey list′ e =
-      let g = kept-one tr b i (subst T (sym h) tt) in
-      (rw g (simp length-append (omega arith)),
-      λ entry l.
-        let n : length list ≡ length (flat (keptBelow tr b i)) + (length entry - length (flat (keptBelow tr b i))) = ap length l ∙ simp (length-append, length-drop) in
-        let m : 2 * k + 1 < length entry = omega (arith, flat-length (keptBelow tr b i)) in
-        e ∙ rw (ex, ey, g) (put-more (keptBelow tr b i) k (eventOf (at tr i)) (i + 1) entry list counts m l))
+      let g = kept-one tr b i (subst T (sym h) tt) in (
+        rw g (simp length-append (omega arith)),
+        λ entry l.
+            let n : length list ≡ length (flat (keptBelow tr b i)) + (length entry - length (flat (keptBelow tr b i))) = ap length l ∙ simp (length-append, length-drop) in
+            let m : 2 * k + 1 < length entry = omega (arith, flat-length (keptBelow tr b i)) in
+            e ∙ rw (ex, ey, g) (put-more (keptBelow tr b i) k (eventOf (at tr i)) (i + 1) entry list counts m l),
+      )

@@ -23,8 +23,8 @@ ghost use Rattle.coverage.specs.Leading.{lastKept, entries};
 ghost use Rattle.races.specs.Traces.{settingOf};
 ghost use Rattle.races.specs.Filled.{Filled};
 ghost use Rattle.races.specs.Leading.{rows};
-ghost use Rattle.races.specs.Pair.{areRecords, pairPaper, PairReply, withEntries, keptEntries, AnswersRace, AnswersFilled};
-ghost use Rattle.races.specs.PairSearch.{MarksOf, keptBelow, Cleared};
+ghost use Rattle.races.specs.Pair.{isRecord, areRecords, pairPaper, PairReply, withEntries, keptEntries, AnswersRace, AnswersFilled, AnswersTrace, PairPromise};
+ghost use Rattle.races.specs.PairSearch.{MarksOf, keptBelow, Cleared, ReadAs};
 
 // What the pair question finds: open or covered, with the number of entries given, or why it is refused.
 pub enum PairAnswer {
@@ -57,7 +57,15 @@ fn is_last_kept(recs: &[u8], ranks: &[u16], work: &[u8], b: usize, i: usize) -> 
 }
 
 // Writes the entry of record i where it is the last one kept of its event action; gives the number of entries then.
-fn put_kept_at(recs: &[u8], ranks: &[u16], work: &[u8], b: usize, i: usize, list: &mut [u16], k: usize) -> usize
+fn put_kept_at(
+    recs: &[u8],
+    ranks: &[u16],
+    work: &[u8],
+    b: usize,
+    i: usize,
+    list: &mut [u16],
+    k: usize,
+) -> usize
     requires { ⌜ MarksOf (decode (now recs)) (now ranks) b (now work) × (i ≤ b) ⌝ }
     requires { ⌜ (k ≡ length (keptBelow (decode (now recs)) b i)) × (2 * rows (decode (now recs)) ≤ length (now list)) ⌝ }
     ensures { λ r. ⌜ (r ≡ length (keptBelow (decode (now (recs .entry))) b (suc i))) × ((entry : List ℕ) → now (list .entry) ≡ withEntries (keptBelow (decode (now (recs .entry))) b i) entry → now (list .exit) ≡ withEntries (keptBelow (decode (now (recs .entry))) b (suc i)) entry) ⌝ }
@@ -170,4 +178,111 @@ fn ask_filled(
     let answer = put_entries(recs, &all, of, width, clocks, work, list, a, b);
     workspace::clear_marks(work, events);
     answer
+}
+
+fn is_record(recs: &[u8], n: u16) -> bool
+    ensures { λ r. ⌜ r ≡ isRecord (decode (now (recs .entry))) n ⌝ }
+{
+    if n < 1 {
+        return false;
+    }
+    (n as usize) <= access::count(recs)
+}
+
+fn are_records(recs: &[u8], a: u16, b: u16) -> bool
+    ensures { λ r. ⌜ r ≡ areRecords (decode (now (recs .entry))) a b ⌝ }
+{
+    if !is_record(recs, a) {
+        return false;
+    }
+    is_record(recs, b)
+}
+
+// Is the width 1 to 1,024, and are there clocks enough for the event actions?
+fn has_clocks(width: usize, events: usize, space: usize) -> bool
+    requires { ⌜ events ≤ 1024 ⌝ }
+    ensures { λ r. ⌜ r ≡ spaceFor width events space ⌝ }
+{
+    if width < 1 {
+        return false;
+    }
+    if 1024 < width {
+        return false;
+    }
+    events * width <= space
+}
+
+// Records a and b of an accepted trace.
+fn ask_trace(
+    bytes: &[u8],
+    recs: &[u8],
+    events: usize,
+    width: usize,
+    clocks: &mut [u16],
+    work: &mut [u8],
+    list: &mut [u16],
+    a: u16,
+    b: u16,
+) -> PairAnswer
+    requires { ⌜ ReadAs (now bytes) (decode (now recs)) events ⌝ }
+    ensures { λ r. ⌜ AnswersTrace (decode (now (recs .entry))) events width (now (clocks .entry)) (now (clocks .exit)) (now (work .entry)) (now (work .exit)) (now (list .entry)) (now (list .exit)) a b r ⌝ }
+{
+    if !are_records(recs, a, b) {
+        return refused(trace::NOT_IN_TRACE);
+    }
+    if !has_clocks(width, events, clocks.len()) {
+        return refused(trace::CLOCK_SPACE);
+    }
+    if work.len() < events {
+        return refused(trace::WORK_SPACE);
+    }
+    workspace::clear_marks(work, events);
+    let filled = order::fill_chains(bytes, width, clocks);
+    let of = filled.of;
+    let answer = filled.answer;
+    let first = (a - 1) as usize;
+    let second = (b - 1) as usize;
+    match answer {
+        Filling::Refused(f) => PairAnswer::Refused(f),
+        Filling::Filled(_) => ask_filled(
+            recs,
+            &of,
+            events,
+            width,
+            clocks,
+            work,
+            list,
+            first,
+            second,
+        ),
+    }
+}
+
+// The pair question: clocks are filled on the way, and entries are two numbers each in the list space.
+pub fn ask_pair(
+    bytes: &[u8],
+    width: usize,
+    clocks: &mut [u16],
+    work: &mut [u8],
+    list: &mut [u16],
+    a: Operation,
+    b: Operation,
+) -> PairAnswer
+    ensures { λ r. ⌜ PairPromise (now (bytes .entry)) width (now (clocks .entry)) (now (clocks .exit)) (now (work .entry)) (now (work .exit)) (now (list .entry)) (now (list .exit)) (a .0) (b .0) r ⌝ }
+{
+    let reading = trace::read(bytes);
+    let Reading::Accepted(t) = reading else {
+        return PairAnswer::Refused(trace::refusal_of(reading));
+    };
+    ask_trace(
+        bytes,
+        access::records(bytes, t),
+        t.events,
+        width,
+        clocks,
+        work,
+        list,
+        a.0,
+        b.0,
+    )
 }

@@ -1,3 +1,5 @@
+-- `races::cover::find_race` meets its contract.
+-- Assumes nothing.
 use native.Mathlib.Omega.{arith}
 use Prim.Native.Nat.{_-_}
 use Rattle.trace.specs.Bytes.{decode}
@@ -5,9 +7,6 @@ use Rattle.races.specs.PairSearch.{NoRace}
 use Rattle.races.proofs.CoverLaws.{no-race-start, no-race-next, next-found, next-some}
 use Rattle.races.proofs.cover.find_race.Statement.{statement}
 use Rattle.races.proofs.cover.find_race.Tie as tie
-use Rattle.races.proofs.cover.find_race.Reads as reads
-use Rattle.races.proofs.cover.find_race.Lts as lts
-use Rattle.races.proofs.cover.find_second.Reads as find-second-reads
 
 abbrev Inv-loop : tie.InvT-loop
 Inv-loop recs ranks of width clocks work t b c₀ c = NoRace (decode recs) b t c
@@ -15,31 +14,24 @@ Inv-loop recs ranks of width clocks work t b c₀ c = NoRace (decode recs) b t c
 abbrev μ-loop : tie.MeasureT-loop
 μ-loop recs ranks of width clocks work t b c₀ c = b - c
 
--- src/cover.rt:91:5
 loop-holds : tie.Need-loop-holds Inv-loop μ-loop
 loop-holds c = no-race-start (c .before .before .before .before .before .pre .0 .0 .acceptable) (c .before .before .before .before .before .args .b) (c .before .before .before .before .before .pre .0 .1 .inside) (c .before .before .before .before .before .args .t)
 
--- src/cover.rt:92:13
 find-second-requires : tie.Need-find-second-requires Inv-loop μ-loop
 find-second-requires c κs = (c .before .before .before .before .before .before .before .pre .0, (c .before .before .before .before .before .before .before .pre .1 .below, c .loop-test .taken))
 
--- src/cover.rt:94:13
 returns : tie.Need-returns Inv-loop μ-loop
 returns c = next-found (c .before .before .before .before .before .before .before .before .before .pre .0 .0 .acceptable) (c .before .before .before .before .before .before .before .before .before .args .b) (c .before .before .before .before .before .before .before .before .before .pre .0 .1 .inside) (c .before .before .before .before .before .before .before .before .before .args .t) (c .before .before .before .loop .c) (c .before .find-second .result) (c .if1 .taken) (c .before .find-second .ensures)
 
--- src/cover.rt:99:9
 add-c : tie.Need-add-c Inv-loop μ-loop
 add-c c = omega (arith, c .before .before .before .before .before .before .before .before .before .pre .0 .1 .inside, c .before .before .loop-test .taken, c .before .before .before .before .before .before .before .before .before .pre .0 .0 .acceptable .few)
 
--- src/cover.rt:91:5
 loop-less : tie.Need-loop-less Inv-loop μ-loop
 loop-less c = omega (arith, c .before .before .loop-test .taken)
 
--- src/cover.rt:91:5
 loop-again : tie.Need-loop-again Inv-loop μ-loop
 loop-again c = no-race-next (c .before .before .before .before .before .before .before .before .before .pre .0 .0 .acceptable) (c .before .before .before .before .before .before .before .before .before .args .b) (c .before .before .before .before .before .before .before .before .before .pre .0 .1 .inside) (c .before .before .before .before .before .before .before .before .before .args .t) (c .before .before .before .loop .c) (c .before .find-second .result) (c .if1 .left) (c .before .find-second .ensures) (c .before .before .before .loop .inv)
 
--- src/cover.rt:76:1
 returns-2 : tie.Need-returns-2 Inv-loop μ-loop
 returns-2 c = absurd (next-some (c .before .before .before .before .before .before .before .pre .0 .0 .acceptable) (c .before .before .before .before .before .before .before .args .b) (c .before .before .before .before .before .before .before .pre .0 .1 .inside) (c .before .before .before .before .before .before .before .args .t) (c .before .before .before .before .before .before .before .pre .1) (c .before .loop .c) (c .loop-test .left) (c .before .loop .inv))
 

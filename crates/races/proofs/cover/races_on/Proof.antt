@@ -1,3 +1,5 @@
+-- `races::cover::races_on` meets its contract.
+-- Assumes nothing.
 use denote.Ref.{now}
 use native.Mathlib.Omega.{arith}
 use Prim.Native.Nat.{_<_}
@@ -13,16 +15,10 @@ use Rattle.races.specs.PairSearch.{racesOn}
 use borrow.Author.Needs.{needs}
 use Rattle.races.proofs.cover.races_on.Statement.{statement}
 use Rattle.races.proofs.cover.races_on.Tie as tie
-use Rattle.races.proofs.cover.races_on.Reads as reads
-use Rattle.races.proofs.cover.races_on.Lts as lts
-use Rattle.races.proofs.leading.is_leading.Reads as is-leading-reads
-use Rattle.races.proofs.racing.is_race.Reads as is-race-reads
 
--- src/cover.rt:40:9
 is-leading-requires : tie.Need-is-leading-requires
 is-leading-requires c κs = search needs
 
--- src/cover.rt:41:9
 returns : tie.Need-returns
 unfolding racesOn
 returns c =
@@ -30,13 +26,11 @@ returns c =
     let e : leads (settingOf (decode (now (c .before .before .before .before .before .before .before .args .recs)))) (c .before .before .before .before .before .before .before .args .b) (eventOf (at (decode (now (c .before .before .before .before .before .before .before .args .recs))) (c .before .before .before .before .before .before .before .args .d))) ≡ false = sym (c .before .before .before .before .before .before .before .pre .0 .1 .tells (c .before .before .before .before .before .before .before .args .d) l) ∙ (sym (c .before .is-leading .ensures) ∙ not-true (c .before .is-leading .result) (c .if1 .taken)) in
     rw e
 
--- src/cover.rt:43:5
 is-race-requires : tie.Need-is-race-requires
 is-race-requires c κs =
     let l : c .before .before .before .before .before .before .before .args .d < length (decode (now (c .before .before .before .before .before .before .before .args .recs))) = omega (arith, c .before .before .before .before .before .before .before .pre .0 .1 .inside, c .before .before .before .before .before .before .before .pre .1 .1) in
     (c .before .before .before .before .before .before .before .pre .0 .0, c .before .before .before .before .before .before .before .pre .1 .0, l)
 
--- src/cover.rt:25:1
 returns-2 : tie.Need-returns-2
 unfolding racesOn
 returns-2 c =

@@ -1,7 +1,9 @@
+-- `races::pair::is_last_kept` meets its contract.
+-- Assumes nothing.
 use denote.Ref.{now}
 use native.Mathlib.Numerals.{add-one}
 use native.Mathlib.Omega.{arith}
-use Prim.Native.Nat.{suc, _<_, ℕ}
+use Prim.Native.Nat.{_<_, ℕ}
 use lib.Dec.{eqb}
 use lib.ListN.{length}
 use mathlib.Core.Bool.{true, false, not}
@@ -14,16 +16,10 @@ use Rattle.coverage.specs.Leading.{leads, lastKept}
 use borrow.Author.Needs.{needs}
 use Rattle.races.proofs.pair.is_last_kept.Statement.{statement}
 use Rattle.races.proofs.pair.is_last_kept.Tie as tie
-use Rattle.races.proofs.pair.is_last_kept.Reads as reads
-use Rattle.races.proofs.pair.is_last_kept.Lts as lts
-use Rattle.races.proofs.leading.is_leading.Reads as is-leading-reads
-use Rattle.trace.proofs.access.first_at.Reads as first-at-reads
 
--- src/pair.rt:49:9
 is-leading-requires : tie.Need-is-leading-requires
 is-leading-requires c κs = search needs
 
--- src/pair.rt:50:9
 returns : tie.Need-returns
 unfolding lastKept
 returns c =
@@ -31,7 +27,6 @@ returns c =
     let e : leads (settingOf (decode (now (c .before .before .before .before .before .args .recs)))) (c .before .before .before .before .before .args .b) (eventOf (at (decode (now (c .before .before .before .before .before .args .recs))) (c .before .before .before .before .before .args .i))) ≡ false = sym (c .before .before .before .before .before .pre .0 .tells (c .before .before .before .before .before .args .i) l) ∙ (sym (c .before .is-leading .ensures) ∙ not-true (c .before .is-leading .result) (c .if1 .taken)) in
     rw e
 
--- src/pair.rt:53:9
 returns-2 : tie.Need-returns-2
 unfolding lastKept
 returns-2 c =
@@ -39,19 +34,15 @@ returns-2 c =
     let e : leads (settingOf (decode (now (c .before .before .before .before .before .before .args .recs)))) (c .before .before .before .before .before .before .args .b) (eventOf (at (decode (now (c .before .before .before .before .before .before .args .recs))) (c .before .before .before .before .before .before .args .i))) ≡ true = sym (c .before .before .before .before .before .before .pre .0 .tells (c .before .before .before .before .before .before .args .i) l) ∙ (sym (c .before .before .is-leading .ensures) ∙ not-false (c .before .before .is-leading .result) (c .before .if1 .left)) in
     rw (e, eq-eqb (c .before .before .before .before .before .before .args .i) (c .before .before .before .before .before .before .args .b) (c .if2 .taken))
 
--- src/pair.rt:55:28
 add-first-at : tie.Need-add-first-at
 add-first-at c = omega (arith, c .before .before .before .before .before .before .pre .0 .acceptable .few, c .before .before .before .before .before .before .pre .0 .inside)
 
--- src/pair.rt:55:5
 first-at-requires : tie.Need-first-at-requires
 first-at-requires c κs = search needs
 
--- src/pair.rt:55:38
 first-at-requires-2 : tie.Need-first-at-requires-2
 first-at-requires-2 c κs = search needs
 
--- src/pair.rt:45:1
 returns-3 : tie.Need-returns-3
 unfolding lastKept
 returns-3 c =

@@ -1,3 +1,5 @@
+-- `races::pair::put_entries` meets its contract.
+-- Assumes nothing.
 use denote.Ref.{now}
 use native.Mathlib.Omega.{arith}
 use Prim.Native.Nat.{_<_}
@@ -12,43 +14,31 @@ use Rattle.races.proofs.PairLaws.{answers-covered, answers-open}
 use borrow.Author.Needs.{needs}
 use Rattle.races.proofs.pair.put_entries.Statement.{statement}
 use Rattle.races.proofs.pair.put_entries.Tie as tie
-use Rattle.races.proofs.pair.put_entries.Reads as reads
-use Rattle.races.proofs.pair.put_entries.Lts as lts
-use Rattle.races.proofs.cover.put_cover.Reads as put-cover-reads
-use Rattle.races.proofs.leading.is_leading.Reads as is-leading-reads
-use Rattle.races.proofs.pair.put_kept.Reads as put-kept-reads
 
--- src/pair.rt:102:8
 is-leading-requires : tie.Need-is-leading-requires
 is-leading-requires c κs = search needs
 
--- src/pair.rt:103:36
 put-cover-requires : tie.Need-put-cover-requires
 put-cover-requires c κs =
     let l : c .before .before .before .before .before .before .before .before .before .args .a < length (decode (now (c .before .before .before .before .before .before .before .before .before .args .recs))) = omega (arith, c .before .before .before .before .before .before .before .before .before .pre .1 .0 .first, c .before .before .before .before .before .before .before .before .before .pre .1 .0 .inside) in
     let e : coveredb (settingOf (decode (now (c .before .before .before .before .before .before .before .before .before .args .recs)))) (c .before .before .before .before .before .before .before .before .before .args .a) (c .before .before .before .before .before .before .before .before .before .args .b) ≡ true = sym (c .before .before .before .before .before .before .before .before .before .pre .0 .1 .tells (c .before .before .before .before .before .before .before .before .before .args .a) l) ∙ (sym (c .before .before .is-leading .ensures) ∙ c .before .if1 .taken) in
     (c .before .before .before .before .before .before .before .before .before .pre .0, (c .before .before .before .before .before .before .before .before .before .pre .1 .0, subst T (sym e) tt, c .before .before .before .before .before .before .before .before .before .pre .1 .1))
 
--- src/pair.rt:103:9
 same-length : tie.Need-same-length
 same-length c = search needs
 
--- src/pair.rt:103:9
 returns : tie.Need-returns
 returns c =
     let l : c .before .before .before .before .before .before .before .before .before .before .before .before .args .a < length (decode (now (c .before .before .before .before .before .before .before .before .before .before .before .before .args .recs))) = omega (arith, c .before .before .before .before .before .before .before .before .before .before .before .before .pre .1 .0 .first, c .before .before .before .before .before .before .before .before .before .before .before .before .pre .1 .0 .inside) in
     let e : coveredb (settingOf (decode (now (c .before .before .before .before .before .before .before .before .before .before .before .before .args .recs)))) (c .before .before .before .before .before .before .before .before .before .before .before .before .args .a) (c .before .before .before .before .before .before .before .before .before .before .before .before .args .b) ≡ true = sym (c .before .before .before .before .before .before .before .before .before .before .before .before .pre .0 .1 .tells (c .before .before .before .before .before .before .before .before .before .before .before .before .args .a) l) ∙ (sym (c .before .before .before .before .before .is-leading .ensures) ∙ c .before .before .before .before .if1 .taken) in
     answers-covered (decode (now (c .before .before .before .before .before .before .before .before .before .before .before .before .args .recs))) (c .before .before .before .before .before .before .before .before .before .before .before .before .args .a) (c .before .before .before .before .before .before .before .before .before .before .before .before .args .b) (now (c .before .before .before .before .before .before .before .before .before .before .before .before .args .list)) _ (c .before .before .put-cover .result) e (c .before .before .put-cover .ensures)
 
--- src/pair.rt:115:22
 put-kept-requires : tie.Need-put-kept-requires
 put-kept-requires c κs = (c .before .before .before .before .before .before .before .before .before .pre .0 .1, c .before .before .before .before .before .before .before .before .before .pre .1 .1)
 
--- src/pair.rt:87:1
 same-length-2 : tie.Need-same-length-2
 same-length-2 c = search needs
 
--- src/pair.rt:87:1
 returns-2 : tie.Need-returns-2
 returns-2 c =
     let l : c .before .before .before .before .before .before .before .before .before .before .before .before .args .a < length (decode (now (c .before .before .before .before .before .before .before .before .before .before .before .before .args .recs))) = omega (arith, c .before .before .before .before .before .before .before .before .before .before .before .before .pre .1 .0 .first, c .before .before .before .before .before .before .before .before .before .before .before .before .pre .1 .0 .inside) in

@@ -1,20 +1,17 @@
+-- `races::pair::put_kept` meets its contract.
+-- Assumes nothing.
 use denote.Ref.{now}
 use native.Mathlib.Numerals.{add-one}
 use native.Mathlib.Omega.{arith}
-use Prim.Native.Nat.{suc, _<_, _≤_, _+_, _-_, _*_}
+use Prim.Native.Nat.{suc, _≤_, _-_}
 use lib.ListN.{length}
-use mathlib.Core.List.{[]}
-use mathlib.Core.Path.{_≡_, refl, sym, ap, _∙_, subst}
+use mathlib.Core.Path.{_≡_, refl, ap, _∙_}
 use Rattle.trace.specs.Bytes.{decode}
-use Rattle.races.specs.Leading.{rows}
-use Rattle.races.specs.Pair.{withEntries, keptEntries}
+use Rattle.races.specs.Pair.{withEntries}
 use Rattle.races.specs.PairSearch.{keptBelow}
 use Rattle.races.proofs.PairEntries.{no-entries, entries-room, kept-none, kept-few, kept-all, kept-count}
 use Rattle.races.proofs.pair.put_kept.Statement.{statement}
 use Rattle.races.proofs.pair.put_kept.Tie as tie
-use Rattle.races.proofs.pair.put_kept.Reads as reads
-use Rattle.races.proofs.pair.put_kept.Lts as lts
-use Rattle.races.proofs.pair.put_kept_at.Reads as put-kept-at-reads
 
 abbrev Inv-loop : tie.InvT-loop
 Inv-loop recs ranks work b list₀ k₀ i₀ list k i = (k ≡ length (keptBelow (decode recs) b i)) × (list ≡ withEntries (keptBelow (decode recs) b i) list₀) × (i ≤ suc b)
@@ -22,11 +19,9 @@ Inv-loop recs ranks work b list₀ k₀ i₀ list k i = (k ≡ length (keptBelow
 abbrev μ-loop : tie.MeasureT-loop
 μ-loop recs ranks work b list₀ k₀ i₀ list k i = suc b - i
 
--- src/pair.rt:78:5
 loop-holds : tie.Need-loop-holds Inv-loop μ-loop
 loop-holds c = (rw (kept-none (decode (now (c .before .before .before .before .args .recs))) (c .before .before .before .before .args .b)) refl, rw (kept-none (decode (now (c .before .before .before .before .args .recs))) (c .before .before .before .before .args .b)) (no-entries (now (c .before .before .before .before .args .list))), omega arith)
 
--- src/pair.rt:79:9
 put-kept-at-requires : tie.Need-put-kept-at-requires Inv-loop μ-loop
 put-kept-at-requires c κs =
     let p = c .before .before .before .before .before .before .before .pre .0 in
@@ -35,29 +30,24 @@ put-kept-at-requires c κs =
     let n : length (c .before .before .loop .list) ≡ length (now (c .before .before .before .before .before .before .before .args .list)) = ap length (c .before .before .loop .inv .1) ∙ entries-room (keptBelow (decode (now (c .before .before .before .before .before .before .before .args .recs))) (c .before .before .before .before .before .before .before .args .b) (c .before .before .loop .i)) (now (c .before .before .before .before .before .before .before .args .list)) (omega (arith, c .before .before .before .before .before .before .before .pre .1)) in
     ((p, l), (c .before .before .loop .inv .0, omega (arith, c .before .before .before .before .before .before .before .pre .1)))
 
--- src/pair.rt:80:9
 add-i : tie.Need-add-i Inv-loop μ-loop
 add-i c = omega (arith, c .before .before .before .before .loop-test .taken, c .before .before .before .before .before .before .before .before .before .before .pre .0 .inside, c .before .before .before .before .before .before .before .before .before .before .pre .0 .acceptable .few)
 
--- src/pair.rt:78:5
 loop-less : tie.Need-loop-less Inv-loop μ-loop
 loop-less c = omega (arith, c .before .before .before .before .loop-test .taken)
 
--- src/pair.rt:78:5
 loop-again : tie.Need-loop-again Inv-loop μ-loop
 loop-again c =
     let e = add-one (c .before .before .before .before .before .loop .i) in
     let l : suc (c .before .before .before .before .before .loop .i) ≤ suc (c .before .before .before .before .before .before .before .before .before .before .args .b) = omega (arith, c .before .before .before .before .loop-test .taken) in
     rw e (c .before .before .put-kept-at .ensures .0, c .before .before .put-kept-at .ensures .1 (now (c .before .before .before .before .before .before .before .before .before .before .args .list)) (c .before .before .before .before .before .loop .inv .1), l)
 
--- src/pair.rt:72:1
 same-length : tie.Need-same-length Inv-loop μ-loop
 same-length c =
     let p = c .before .before .before .before .before .before .pre .0 in
     let few = kept-few (p .acceptable) (c .before .before .before .before .before .before .args .b) (p .inside) (c .before .loop .i) (c .before .loop .inv .2) in
     ap length (c .before .loop .inv .1) ∙ entries-room (keptBelow (decode (now (c .before .before .before .before .before .before .args .recs))) (c .before .before .before .before .before .before .args .b) (c .before .loop .i)) (now (c .before .before .before .before .before .before .args .list)) (omega (arith, c .before .before .before .before .before .before .pre .1))
 
--- src/pair.rt:72:1
 returns : tie.Need-returns Inv-loop μ-loop
 returns c =
     let tr = decode (now (c .before .before .before .before .before .before .args .recs)) in

@@ -1,11 +1,13 @@
+-- `races::pair::put_kept_at` meets its contract.
+-- Assumes nothing.
 use Rattle.trace.proofs.Events.{few-events}
 use denote.Ref.{now}
 use native.Mathlib.Omega.{arith}
 use Prim.Native.Nat.{_<_, _+_, _*_}
 use lib.Dec.{T}
 use lib.ListN.{length}
-use mathlib.Core.Bool.{true, false}
-use mathlib.Core.Path.{_≡_, refl, sym, ap, _∙_, subst}
+use mathlib.Core.Bool.{true}
+use mathlib.Core.Path.{_≡_, refl, sym, _∙_, subst}
 use borrow.Author.Tests.{not-true, not-false}
 use Rattle.trace.specs.Bytes.{decode}
 use Rattle.races.specs.Traces.{settingOf}
@@ -16,51 +18,37 @@ use Rattle.races.proofs.PairEntries.{kept-stays, kept-grows, kept-room}
 use borrow.Author.Needs.{needs}
 use Rattle.races.proofs.pair.put_kept_at.Statement.{statement}
 use Rattle.races.proofs.pair.put_kept_at.Tie as tie
-use Rattle.races.proofs.pair.put_kept_at.Reads as reads
-use Rattle.races.proofs.pair.put_kept_at.Lts as lts
-use Rattle.races.proofs.pair.is_last_kept.Reads as is-last-kept-reads
-use Rattle.races.proofs.pair.put_entry.Reads as put-entry-reads
-use Rattle.trace.proofs.access.first_at.Reads as first-at-reads
 
--- src/pair.rt:64:9
 is-last-kept-requires : tie.Need-is-last-kept-requires
 is-last-kept-requires c κs = c .before .before .before .before .pre .0
 
--- src/pair.rt:65:9
 returns : tie.Need-returns
 returns c = kept-stays (decode (now (c .before .before .before .before .before .before .args .recs))) (c .before .before .before .before .before .before .args .b) (c .before .before .before .before .before .before .args .i) (c .before .before .before .before .before .before .args .k) _ (c .before .before .before .before .before .before .pre .1 .0) (sym (c .before .is-last-kept .ensures) ∙ not-true (c .before .is-last-kept .result) (c .if1 .taken))
 
--- src/pair.rt:67:24
 first-at-requires : tie.Need-first-at-requires
 first-at-requires c κs = search needs
 
--- src/pair.rt:67:52
 add-put-entry : tie.Need-add-put-entry
 add-put-entry c = omega (arith, c .before .before .before .before .before .before .before .before .pre .0 .0 .acceptable .few, c .before .before .before .before .before .before .before .before .pre .0 .0 .inside, c .before .before .before .before .before .before .before .before .pre .0 .1)
 
--- src/pair.rt:67:51
 cast-put-entry : tie.Need-cast-put-entry
 cast-put-entry c = omega (arith, c .before .before .before .before .before .before .before .before .pre .0 .0 .acceptable .few, c .before .before .before .before .before .before .before .before .pre .0 .0 .inside, c .before .before .before .before .before .before .before .before .pre .0 .1)
 
--- src/pair.rt:67:5
 put-entry-requires : tie.Need-put-entry-requires
 put-entry-requires c κs =
     let h : lastKept (settingOf (decode (now (c .before .before .before .before .before .before .before .before .args .recs)))) (c .before .before .before .before .before .before .before .before .args .b) (c .before .before .before .before .before .before .before .before .args .i) ≡ true = sym (c .before .before .before .is-last-kept .ensures) ∙ not-false (c .before .before .before .is-last-kept .result) (c .before .before .if1 .left) in
     let r : length (keptBelow (decode (now (c .before .before .before .before .before .before .before .before .args .recs))) (c .before .before .before .before .before .before .before .before .args .b) (c .before .before .before .before .before .before .before .before .args .i)) < rows (decode (now (c .before .before .before .before .before .before .before .before .args .recs))) = kept-room (c .before .before .before .before .before .before .before .before .pre .0 .0 .acceptable) (c .before .before .before .before .before .before .before .before .args .b) (c .before .before .before .before .before .before .before .before .pre .0 .0 .inside) (c .before .before .before .before .before .before .before .before .args .i) (c .before .before .before .before .before .before .before .before .pre .0 .1) (subst T (sym h) tt) in
     omega (arith, c .before .before .before .before .before .before .before .before .pre .1 .0, c .before .before .before .before .before .before .before .before .pre .1 .1)
 
--- src/pair.rt:68:5
 add-result : tie.Need-add-result
 add-result c =
     let h : lastKept (settingOf (decode (now (c .before .before .before .before .before .before .before .before .before .before .before .args .recs)))) (c .before .before .before .before .before .before .before .before .before .before .before .args .b) (c .before .before .before .before .before .before .before .before .before .before .before .args .i) ≡ true = sym (c .before .before .before .before .before .before .is-last-kept .ensures) ∙ not-false (c .before .before .before .before .before .before .is-last-kept .result) (c .before .before .before .before .before .if1 .left) in
     let r : length (keptBelow (decode (now (c .before .before .before .before .before .before .before .before .before .before .before .args .recs))) (c .before .before .before .before .before .before .before .before .before .before .before .args .b) (c .before .before .before .before .before .before .before .before .before .before .before .args .i)) < rows (decode (now (c .before .before .before .before .before .before .before .before .before .before .before .args .recs))) = kept-room (c .before .before .before .before .before .before .before .before .before .before .before .pre .0 .0 .acceptable) (c .before .before .before .before .before .before .before .before .before .before .before .args .b) (c .before .before .before .before .before .before .before .before .before .before .before .pre .0 .0 .inside) (c .before .before .before .before .before .before .before .before .before .before .before .args .i) (c .before .before .before .before .before .before .before .before .before .before .before .pre .0 .1) (subst T (sym h) tt) in
     omega (arith, c .before .before .before .before .before .before .before .before .before .before .before .pre .1 .0, few-events (c .before .before .before .before .before .before .before .before .before .before .before .pre .0 .0 .acceptable))
 
--- src/pair.rt:59:1
 same-length : tie.Need-same-length
 same-length c = search needs
 
--- src/pair.rt:59:1
 returns-2 : tie.Need-returns-2
 returns-2 c =
     let h : lastKept (settingOf (decode (now (c .before .before .before .before .before .before .before .before .before .before .before .args .recs)))) (c .before .before .before .before .before .before .before .before .before .before .before .args .b) (c .before .before .before .before .before .before .before .before .before .before .before .args .i) ≡ true = sym (c .before .before .before .before .before .before .is-last-kept .ensures) ∙ not-false (c .before .before .before .before .before .before .is-last-kept .result) (c .before .before .before .before .before .if1 .left) in
