@@ -8,3 +8,7 @@ pub mod FilledLaws
 pub mod ListLaws
 pub mod EntryStores
 pub mod ListEnds
+pub mod PairEntries
+pub mod CoverLaws
+pub mod PairLaws
+pub mod PairEnds

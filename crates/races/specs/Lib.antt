@@ -5,3 +5,5 @@ pub mod Filled
 pub mod Lists
 pub mod Paper
 pub mod ListPass
+pub mod Pair
+pub mod PairSearch

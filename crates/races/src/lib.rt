@@ -1,6 +1,8 @@
 // Races of a trace: the event actions that lead to an access.
+mod cover;
 mod leading;
 mod lists;
+pub mod pair;
 mod racing;
 mod workspace;
 

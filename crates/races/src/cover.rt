@@ -1,0 +1,132 @@
+// A cover of a race, found forwards: from an event action that leads to b, the next race whose second record's event action leads to b.
+use crate::leading;
+use crate::pair;
+use crate::racing;
+ghost use mathlib.Core.Path.{_≡_};
+ghost use Prim.Native.Nat.{_*_, _≤_, _<_};
+ghost use lib.ListN.{length};
+ghost use Rattle.trace.specs.Bytes.{decode};
+ghost use Rattle.coverage.specs.Race.{Race};
+ghost use Rattle.coverage.specs.Leading.{coveredb};
+ghost use Rattle.races.specs.Traces.{settingOf};
+ghost use Rattle.races.specs.Filled.{Filled};
+ghost use Rattle.races.specs.Leading.{rows};
+ghost use Rattle.races.specs.Pair.{GivesCover};
+ghost use Rattle.races.specs.PairSearch.{MarksOf, racesOn, Second, Sought, Next};
+ghost use lib.Dec.{T};
+
+// A race: its two records.
+pub(crate) struct Step {
+    pub first: usize,
+    pub second: usize,
+}
+
+// Does record c race with record d, whose event action leads to b?
+fn races_on(
+    recs: &[u8],
+    ranks: &[u16],
+    of: &[u16],
+    width: usize,
+    clocks: &[u16],
+    work: &[u8],
+    b: usize,
+    c: usize,
+    d: usize,
+) -> bool
+    requires { ⌜ Filled (decode (now recs)) (now ranks) (now of) width (now clocks) × MarksOf (decode (now recs)) (now ranks) b (now work) ⌝ }
+    requires { ⌜ (c < d) × (d < b) ⌝ }
+    ensures { λ r. ⌜ r ≡ racesOn (decode (now (recs .entry))) b c d ⌝ }
+{
+    if !leading::is_leading(recs, ranks, work, d) {
+        return false;
+    }
+    racing::is_race(recs, ranks, of, width, clocks, c, d)
+}
+
+// The first record before b with which c so races, where the event action of t happens before that of c; b where there is none.
+fn find_second(
+    recs: &[u8],
+    ranks: &[u16],
+    of: &[u16],
+    width: usize,
+    clocks: &[u16],
+    work: &[u8],
+    t: usize,
+    b: usize,
+    c: usize,
+) -> usize
+    requires { ⌜ Filled (decode (now recs)) (now ranks) (now of) width (now clocks) × MarksOf (decode (now recs)) (now ranks) b (now work) ⌝ }
+    requires { ⌜ (t < b) × (c < b) ⌝ }
+    ensures { λ r. ⌜ Second (decode (now (recs .entry))) b t c r ⌝ }
+{
+    if !racing::is_before(recs, ranks, of, width, clocks, t, c) {
+        return b;
+    }
+    let mut d = c + 1;
+    while d < b {
+        if races_on(recs, ranks, of, width, clocks, work, b, c, d) {
+            return d;
+        }
+        d += 1;
+    }
+    b
+}
+
+// The next race of a cover, from the event action of t on.
+fn find_race(
+    recs: &[u8],
+    ranks: &[u16],
+    of: &[u16],
+    width: usize,
+    clocks: &[u16],
+    work: &[u8],
+    t: usize,
+    b: usize,
+) -> Step
+    requires { ⌜ Filled (decode (now recs)) (now ranks) (now of) width (now clocks) × MarksOf (decode (now recs)) (now ranks) b (now work) ⌝ }
+    requires { ⌜ Sought (decode (now recs)) b t ⌝ }
+    ensures { λ r. ⌜ Next (decode (now (recs .entry))) b t (r .first) (r .second) ⌝ }
+{
+    let mut c = 0;
+    while c < b {
+        let d = find_second(recs, ranks, of, width, clocks, work, t, b, c);
+        if d < b {
+            return Step {
+                first: c,
+                second: d,
+            };
+        }
+        c += 1;
+    }
+    Step {
+        first: c,
+        second: b,
+    }
+}
+
+// Writes a cover of the race (a, b) as entries; gives their number.
+pub(crate) fn put_cover(
+    recs: &[u8],
+    ranks: &[u16],
+    of: &[u16],
+    width: usize,
+    clocks: &[u16],
+    work: &[u8],
+    list: &mut [u16],
+    a: usize,
+    b: usize,
+) -> usize
+    requires { ⌜ Filled (decode (now recs)) (now ranks) (now of) width (now clocks) × MarksOf (decode (now recs)) (now ranks) b (now work) ⌝ }
+    requires { ⌜ Race (settingOf (decode (now recs))) a b × T (coveredb (settingOf (decode (now recs))) a b) × (2 * rows (decode (now recs)) ≤ length (now list)) ⌝ }
+    ensures { λ r. ⌜ GivesCover (decode (now (recs .entry))) a b r (now (list .entry)) (now (list .exit)) ⌝ }
+{
+    let mut t = a;
+    let mut k = 0;
+    while !racing::is_before(recs, ranks, of, width, clocks, t, b) {
+        let step = find_race(recs, ranks, of, width, clocks, work, t, b);
+        pair::put_entry(list, k, (step.first + 1) as u16, (step.second + 1) as u16);
+        k += 1;
+        t = step.second;
+    }
+    k
+}
