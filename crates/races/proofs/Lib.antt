@@ -12,3 +12,5 @@ pub mod PairEntries
 pub mod CoverLaws
 pub mod PairLaws
 pub mod PairEnds
+pub mod DemandLaws
+pub mod ThirdDemand

@@ -7,3 +7,4 @@ pub mod Paper
 pub mod ListPass
 pub mod Pair
 pub mod PairSearch
+pub mod Demand
