@@ -14,3 +14,4 @@ pub mod PairLaws
 pub mod PairEnds
 pub mod DemandLaws
 pub mod ThirdDemand
+pub mod Cases
