@@ -1,13 +1,14 @@
 -- Zeros at the front of a list, and the test for room.
 -- Assumes nothing.
-use Prim.Native.Nat.{ℕ, _+_, _*_, _-_, _≤_, _<_}
+use Prim.Native.Nat.{ℕ, _+_, _*_, _-_, _/_, _≤_, _<_}
 use mathlib.Core.Path.{_≡_, refl, sym, ap, _∙_}
 use mathlib.Core.Bool.{Bool, true, false, _&&_, and-eq-true-iff}
 use mathlib.Core.List.{List, _++_}
 use native.Mathlib.Omega.{arith}
-use native.Mathlib.Nat.{mul-le-mul-right, le-of-lt}
+use native.Mathlib.Nat.{mul-le-mul-right, le-of-lt, le-div-iff-mul-le}
 use borrow.Author.Tests.{leb-true}
-use lib.Dec.{leb}
+use lib.Dec.{T, leb, leb→le, le→leb}
+use Rattle.order.proofs.Tests.{equal-tests}
 use lib.ListN.{length, drop, replicate, length-append, length-replicate, length-drop}
 use lib.Seq.{drop-at}
 use Rattle.order.specs.Fill.{spaceFor}
@@ -39,3 +40,13 @@ pub place-fits : (t w c : ℕ) → t < 65536 → w < 65536 → c < 65536 → t *
 place-fits t w c h k l =
     let p = mul-le-mul-right w (le-of-lt h) in
     omega arith
+
+-- that many rows fit exactly when they are at most the quotient
+pub rows-fit : (width events space : ℕ) → 0 < width → leb events (space / width) ≡ leb (events * width) space
+rows-fit width events space h = equal-tests (leb events (space / width)) (leb (events * width) space) there back
+  where
+    there : T (leb events (space / width)) → T (leb (events * width) space)
+    there t = le→leb (events * width) space (le-div-iff-mul-le h .0 (leb→le events (space / width) t))
+
+    back : T (leb (events * width) space) → T (leb events (space / width))
+    back t = le→leb events (space / width) (le-div-iff-mul-le h .1 (leb→le (events * width) space t))

@@ -4,7 +4,7 @@ mod clear;
 mod merge;
 pub mod question;
 pub mod ranks;
-mod rows;
+pub mod rows;
 
 use trace::EventId;
 use trace::Reading;

@@ -122,8 +122,8 @@ pub(crate) fn refused(why: Refusal) -> Filled
     }
 }
 
-pub(crate) fn has_space(width: usize, events: usize, space: usize) -> bool
-    requires { ⌜ events ≤ 1024 ⌝ }
+// Whether the width is in range and that many rows fit the clock space.
+pub fn has_space(width: usize, events: usize, space: usize) -> bool
     ensures { λ r. ⌜ r ≡ spaceFor width events space ⌝ }
 {
     if width < 1 {
@@ -132,7 +132,7 @@ pub(crate) fn has_space(width: usize, events: usize, space: usize) -> bool
     if 1024 < width {
         return false;
     }
-    events * width <= space
+    events <= space / width
 }
 
 // The rows of an accepted trace.

@@ -9,3 +9,6 @@ pub mod PairEntries
 pub mod CoverLaws
 pub mod PairLaws
 pub mod PairEnds
+pub mod ListLaws
+pub mod EntryStores
+pub mod ListEnds

@@ -4,3 +4,6 @@ pub mod LeadingPass
 pub mod Filled
 pub mod Pair
 pub mod PairSearch
+pub mod Lists
+pub mod Paper
+pub mod ListPass

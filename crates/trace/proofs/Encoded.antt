@@ -159,80 +159,89 @@ passes-narrow before r h =
 four-bytes : (d : ℕ) → d < 4294967296 → low d + 256 * high d + 65536 * (low (d / 65536) + 256 * high (d / 65536)) ≡ d
 four-bytes d h = omega arith
 
-module _ {tr : List Record} (a : Acceptable tr) where
-  narrow : AllNarrow tr
-  narrow i h = passes-narrow (past tr i) (at tr i) (a .passes i h)
-
+-- records whose fields fit, at most 4,096 of them, and their trace after any bytes p
+module _ (tr : List Record) (few : length tr ≤ 4096) (p : List ℕ) where
   abbrev d : ℕ
   d = 5 * length tr
 
   abbrev m : ℕ
   m = begin-count (past tr (length tr))
 
+  abbrev b : List ℕ
+  b = p ++ traceOf tr
+
   few-begins : m ≤ 4096
-  few-begins = let b = begins-most (past tr (length tr)) in let l = past-length tr (length tr) in let f = a .few in omega arith
+  few-begins = let c = begins-most (past tr (length tr)) in let l = past-length tr (length tr) in omega arith
 
-  -- a trace after any bytes p
-  module _ (p : List ℕ) where
-    abbrev b : List ℕ
-    b = p ++ traceOf tr
+  body-length : length (p ++ encode tr) ≡ length p + d
+  body-length = simp (length-append, encode-length)
 
-    body-length : length (p ++ encode tr) ≡ length p + d
-    body-length = simp (length-append, encode-length)
+  apart : b ≡ (p ++ encode tr) ++ trailer d m
+  unfolding traceOf
+  apart = sym (append-assoc p (encode tr) (trailer d m))
 
-    apart : b ≡ (p ++ encode tr) ++ trailer d m
-    unfolding traceOf
-    apart = sym (append-assoc p (encode tr) (trailer d m))
+  whole-length : length b ≡ length p + d + 8
+  unfolding trailer
+  whole-length = ap length apart ∙ simp (length-append, encode-length)
 
-    whole-length : length b ≡ length p + d + 8
-    unfolding trailer
-    whole-length = ap length apart ∙ simp (length-append, encode-length)
+  trailer-at : (i k : ℕ) → i ≡ length p + d + k → getD b i 0 ≡ getD (trailer d m) k 0
+  trailer-at i k e = rw (e, apart, ← body-length) (getD-append-add (p ++ encode tr) (trailer d m) k 0)
 
-    trailer-at : (i k : ℕ) → i ≡ length p + d + k → getD b i 0 ≡ getD (trailer d m) k 0
-    trailer-at i k e = rw (e, apart, ← body-length) (getD-append-add (p ++ encode tr) (trailer d m) k 0)
+  distance-is : distance b (length p + d) ≡ d
+  unfolding distance trailer
+  distance-is =
+      let t = length p + d in
+      rw (trailer-at t 0 (omega arith), trailer-at (t + 1) 1 (omega arith), trailer-at (t + 2) 2 (omega arith), trailer-at (t + 2 + 1) 3 (omega arith)) (four-bytes d (omega arith))
 
-    distance-is : distance b (length p + d) ≡ d
-    unfolding distance trailer
-    distance-is =
-        let t = length p + d in
-        let f = a .few in
-        rw (trailer-at t 0 (omega arith), trailer-at (t + 1) 1 (omega arith), trailer-at (t + 2) 2 (omega arith), trailer-at (t + 2 + 1) 3 (omega arith)) (four-bytes d (omega arith))
+  frame-is : frameReply b ≡ accepted (length p) (length tr) m
+  unfolding frameReply trailerReply demand trailer
+  frame-is =
+      let t = length p + d in
+      let w = whole-length in
+      let e : length b - 8 ≡ t = omega arith in
+      let s : t - d ≡ length p = omega arith in
+      let n : d / 5 ≡ length tr = omega arith in
+      let c = few-begins in
+      simp (
+        e,
+        distance-is,
+        le-leb 8 (length b) (omega arith),
+        trailer-at (t + 7) 7 refl,
+        trailer-at (t + 6) 6 refl,
+        trailer-at (t + 4) 4 refl,
+        trailer-at (t + 4 + 1) 5 (omega arith),
+        eq-eqb (d % 5) 0 (omega arith),
+        le-leb d 20480 (omega arith),
+        le-leb d t (omega arith),
+        low-high m (omega arith),
+        s,
+        n,
+      )
 
-    frame-is : frameReply b ≡ accepted (length p) (length tr) m
-    unfolding frameReply trailerReply demand trailer
-    frame-is =
-        let t = length p + d in
-        let f = a .few in
-        let w = whole-length in
-        let e : length b - 8 ≡ t = omega arith in
-        let s : t - d ≡ length p = omega arith in
-        let n : d / 5 ≡ length tr = omega arith in
-        let c = few-begins in
-        simp (
-          e,
-          distance-is,
-          le-leb 8 (length b) (omega arith),
-          trailer-at (t + 7) 7 refl,
-          trailer-at (t + 6) 6 refl,
-          trailer-at (t + 4) 4 refl,
-          trailer-at (t + 4 + 1) 5 (omega arith),
-          eq-eqb (d % 5) 0 (omega arith),
-          le-leb d 20480 (omega arith),
-          le-leb d t (omega arith),
-          low-high m (omega arith),
-          s,
-          n,
-        )
-
-    pub records-encoded : recordsIn b (length p) (length tr) ≡ tr
+  module _ (narrow : AllNarrow tr) where
+    pub records-narrow : recordsIn b (length p) (length tr) ≡ tr
     unfolding recordsIn part traceOf
-    records-encoded =
+    records-narrow =
         rw (drop-at p (traceOf tr) (length p) refl, take-at (encode tr) (trailer d m) (5 * length tr) (encode-length tr))
         (decode-encode tr narrow)
 
-    -- the reader accepts it, and reads the records
-    pub read-encoded : readReply b ≡ accepted (length p) (length tr) m
-    read-encoded = accepted-of b (length p) (length tr) m frame-is (rw records-encoded a) (rw records-encoded)
+    -- the reader's reply is what the walk over the records gives
+    pub read-narrow : readReply b ≡ walk (length p) m [] tr
+    unfolding readReply recordsReply
+    read-narrow = rw (frame-is, records-narrow)
+
+-- the reader accepts the trace of an acceptable sequence of records, and reads the records
+module _ {tr : List Record} (a : Acceptable tr) (p : List ℕ) where
+  narrow : AllNarrow tr
+  narrow i h = passes-narrow (past tr i) (at tr i) (a .passes i h)
+
+  pub records-encoded : recordsIn (p ++ traceOf tr) (length p) (length tr) ≡ tr
+  records-encoded = records-narrow tr (a .few) p narrow
+
+  pub read-encoded : readReply (p ++ traceOf tr) ≡ accepted (length p) (length tr) (begin-count (past tr (length tr)))
+  read-encoded =
+      let e = records-encoded in
+      accepted-of (p ++ traceOf tr) (length p) (length tr) (begin-count (past tr (length tr))) (frame-is tr (a .few) p) (rw e a) (rw e)
 
 -- what the walk accepts is what it was told
 walk-told : (start told : ℕ) (rest before : List Record) (s n m : ℕ) → accepted s n m ≡ walk start told before rest → (s ≡ start) × (n ≡ length rest + length before) × (m ≡ told)

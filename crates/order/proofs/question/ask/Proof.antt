@@ -4,9 +4,8 @@ use Rattle.order.proofs.AskLaws.{rank-row, events-few, ask-space, ask-s
 use Rattle.order.proofs.SpaceLaws.{has-room}
 use Rattle.order.proofs.RankLaws.{ranks-are}
 use Rattle.order.specs.Question.{demand, bothBegin, orderTrace, answered}
-use Rattle.order.specs.Fill.{eventsIn, noChains}
+use Rattle.order.specs.Fill.{noChains}
 use Rattle.order.specs.HappensBefore.{rank}
-use Rattle.trace.proofs.Events.{few-events}
 use Rattle.trace.specs.Bytes.{decode}
 use borrow.Author.Tests.{eq-eqb, ne-eqb, not-true, not-false}
 use lib.ListN.{length, getD, length-replicate}
@@ -53,8 +52,7 @@ returns-2 c =
     c .refused2 .ensures ∙ sym (simp (← e, ne-eqb _ _ (c .before .before .if1 .left), ← f, eq-eqb _ _ (c .before .if2 .taken)))
 
 has-space-requires : tie.Need-has-space-requires
-unfolding eventsIn
-has-space-requires c κs = rw (c .before .before .before .before .before .before .before .before .before .pre .1) (few-events (c .before .before .before .before .before .before .before .before .before .pre .0))
+has-space-requires c κs = search needs
 
 refused-requires-3 : tie.Need-refused-requires-3
 refused-requires-3 c κs = search needs

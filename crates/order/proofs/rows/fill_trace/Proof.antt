@@ -3,8 +3,7 @@
 use Rattle.order.proofs.FillEnds.{ready, short-reply, short-clocks, whole-reply, whole-clocks, whole-chains}
 use Rattle.order.proofs.SpaceLaws.{has-room}
 use Rattle.order.specs.Paper.{fillPaper}
-use Rattle.order.specs.Fill.{eventsIn, spaceFor, demand, fillTrace, clocksAfterTrace, chainsAfterReply}
-use Rattle.trace.proofs.Events.{few-events}
+use Rattle.order.specs.Fill.{spaceFor, demand, fillTrace, clocksAfterTrace, chainsAfterReply}
 use Rattle.trace.specs.Bytes.{decode}
 use borrow.Author.Tests.{not-true, not-false}
 use lib.ListN.{length}
@@ -18,8 +17,7 @@ use Rattle.order.proofs.rows.fill_trace.Statement.{statement}
 use Rattle.order.proofs.rows.fill_trace.Tie as tie
 
 has-space-requires : tie.Need-has-space-requires
-unfolding eventsIn
-has-space-requires c κs = rw (c .before .before .pre .1) (few-events (c .before .before .pre .0))
+has-space-requires c κs = search needs
 
 refused-requires : tie.Need-refused-requires
 refused-requires c κs = search needs

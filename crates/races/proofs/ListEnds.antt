@@ -1,0 +1,197 @@
+-- How the lists end, from the reading, the spaces and filling.
+-- Assumes nothing.
+use Prim.Native.Nat.{ℕ, zero, suc, _+_, _*_, _/_, _≤_, _<_}
+use mathlib.Core.Path.{_≡_, refl, sym, ap, ap₂, _∙_, subst}
+use mathlib.Core.Bool.{Bool, true, false, _&&_}
+use mathlib.Core.List.{List, [], _∷_, _++_}
+use native.Mathlib.Omega.{arith}
+use native.Mathlib.Nat.{zero-add}
+use borrow.Author.Tests.{eq-eqb, eqb-true, le-leb, lt-leb}
+use lib.Dec.{leb, eqb}
+use lib.ListN.{length, drop, replicate}
+use lib.Seq.{sets, sets-eq}
+use Rattle.trace.specs.declared.Record.{Record}
+use Rattle.trace.specs.Bytes.{decode}
+use Rattle.trace.specs.Reading as reading
+use Rattle.trace.specs.Reading.{Acceptable, part, recordsIn, readReply}
+use Rattle.order.specs.Ranks.{ranksOf}
+use Rattle.order.specs.Fill as fill
+use Rattle.order.specs.Fill.{eventsIn, shortRow, beginPosition, chainsUsed, chainTable, traceClocks, spaceFor, fillTrace, fillRead, fillReply, clocksAfterTrace, clocksAfterRead, clocksAfter, chainsAfterReply, chainsAfterRead, chainsAfter, pickList}
+use Rattle.order.specs.Paper.{FillsChains}
+use Rattle.order.specs.declared.Filling.{Filling}
+use Rattle.order.specs.declared.Filling.the-variants as filling
+use Rattle.order.proofs.SpaceLaws.{has-room, cleared-length}
+use Rattle.order.proofs.SpaceLaws.{cleared as cleared-zeros}
+use Rattle.order.proofs.EntryLaws.{records-are, read-acceptable, read-events}
+use Rattle.races.specs.declared.Listing.{Listing}
+use Rattle.races.specs.Leading.{rows}
+use Rattle.races.specs.Lists.{pairsOf, numbers, ListReply, refused, listed, demand, workFor, listFor, listFilled, listTrace, listRead, listReply, listAfter, clocksTrace, workTrace, clocksRead, workRead, listAfterRead}
+use Rattle.races.specs.Paper.{listPaper, Lists, ListsFilled}
+use Rattle.races.specs.ListPass.{pairsBelow, Clear}
+use Rattle.races.specs.Filled.{Filled}
+use Rattle.races.proofs.ListLaws.{pairs-below}
+use Rattle.races.proofs.EntryStores.{numbers-length}
+
+-- a trace whose clocks are filled
+module _ (tr : List Record) (short : Bool) (events : ℕ) (list : List ℕ) (count : ℕ) (c : count ≡ length (pairsBelow tr short (length tr))) where
+  counted : count ≡ length (pairsOf tr short)
+  counted = c ∙ ap length (pairs-below tr short)
+
+  module _ (h : length list / 5 < count) where
+    pub too-long : listFilled short tr events (length list) ≡ refused 24 0
+    unfolding listFilled demand
+    too-long = rw (← counted, lt-leb count (length list / 5) h)
+
+    pub too-long-list : list ≡ listAfter tr (listFilled short tr events (length list)) (pairsOf tr short) list
+    unfolding listAfter
+    too-long-list = rw too-long refl
+
+  module _ (h : count ≤ length list / 5) where
+    pub list-room : 5 * length (pairsBelow tr short (length tr)) ≤ length list
+    list-room = omega (arith, c, h)
+
+    pub fits : listFilled short tr events (length list) ≡ listed events (length tr) (chainsUsed tr) count
+    unfolding listFilled demand
+    fits = rw (← counted, le-leb count (length list / 5) h)
+
+    pub fits-list : sets list 0 (numbers tr (pairsBelow tr short (length tr))) ≡ listAfter tr (listFilled short tr events (length list)) (pairsOf tr short) list
+    unfolding listAfter
+    fits-list =
+        let ps = pairsOf tr short in
+        let l = numbers-length tr ps in
+        let q : 0 + length (numbers tr ps) ≤ length list = omega (arith, l, counted, h) in
+        let d : 0 + length (numbers tr ps) ≡ 5 * length ps = omega (arith, l) in
+        rw (fits, pairs-below tr short) (sets-eq (numbers tr ps) list 0 q ∙ rw d refl)
+
+-- an accepted trace
+module _ (b : List ℕ) (s n m : ℕ) (e : reading.accepted s n m ≡ readReply b) (short : Bool) (w : ℕ) (cs work list : List ℕ) where
+  abbrev tr : List Record
+  tr = recordsIn b s n
+
+  -- the promise, by the records
+  lists-by : (cs′ work′ list′ : List ℕ) (r : Listing)
+      → listPaper r ≡ listTrace short tr m w (length cs) (length work) (length list)
+      → cs′ ≡ clocksTrace tr m w (length work) cs
+      → work′ ≡ workTrace tr m w (length cs) work
+      → list′ ≡ listAfter tr (listTrace short tr m w (length cs) (length work) (length list)) (pairsOf tr short) list
+      → Lists short b w cs cs′ work work′ list list′ r
+  unfolding listReply listRead clocksRead workRead listAfterRead
+  lists-by cs′ work′ list′ r p q x y = record {
+    answer = rw (← e) p;
+    clocks-after = rw (← e) q;
+    work-after = rw (← e) x;
+    list-after = rw (← e) y;
+  }
+
+  -- 21
+  pub no-space : spaceFor w m (length cs) ≡ false → (r : Listing) → listPaper r ≡ refused 21 0 → Lists short b w cs cs work work list list r
+  unfolding listTrace clocksTrace workTrace clocksAfterTrace demand listAfter
+  no-space h r p = lists-by cs work list r (rw h p) (rw h (same (workFor m (length work)))) (rw h refl) (rw h refl)
+    where
+      same : (t : Bool) → cs ≡ pickList t cs cs
+      same true = refl
+      same false = refl
+
+  module _ (space : spaceFor w m (length cs) ≡ true) where
+    -- 22
+    pub no-work : length work < m → (r : Listing) → listPaper r ≡ refused 22 0 → Lists short b w cs cs work work list list r
+    unfolding listTrace clocksTrace workTrace demand listAfter
+    no-work h r p =
+        let f = lt-leb m (length work) h in
+        lists-by cs work list r (rw (space, f) p) (rw f refl) (rw (space, f) refl) (rw (space, f) refl)
+
+    module _ (room : m ≤ length work) (cs′ work′ of : List ℕ) (cleared : work′ ≡ replicate m 0 ++ drop m work) where
+      after-clocks : cs′ ≡ clocksAfterTrace tr m w cs → cs′ ≡ clocksTrace tr m w (length work) cs
+      unfolding clocksTrace
+      after-clocks q = rw (le-leb m (length work) room) q
+
+      after-work : work′ ≡ workTrace tr m w (length cs) work
+      unfolding workTrace
+      after-work = rw (space, le-leb m (length work) room) cleared
+
+      -- filling's promise, by the records
+      module _ (f : Filling) (p : FillsChains b w cs cs′ f of) where
+        fill-answer : fillTrace tr m w (length cs) ≡ fillReply b w (length cs)
+        unfolding fillReply fillRead
+        fill-answer = rw (← e) refl
+
+        fill-clocks : cs′ ≡ clocksAfterTrace tr m w cs
+        unfolding clocksAfter clocksAfterRead
+        fill-clocks = rw (← e) at (p .fills .clocks-after)
+
+        fill-chains : of ≡ chainsAfterReply tr (fillTrace tr m w (length cs))
+        unfolding chainsAfter chainsAfterRead
+        fill-chains = rw (← e) at (p .chains-after)
+
+        -- with space enough, filling is refused only by 23
+        short-reply : (t : Bool) → eqb (shortRow tr w) m ≡ t → (k x : ℕ) → fillTrace tr m w (length cs) ≡ fill.refused k x → listTrace short tr m w (length cs) (length work) (length list) ≡ refused k x
+        unfolding fillTrace listTrace fill.demand demand
+        short-reply true q k x z = let y : fill.filled (chainsUsed tr) ≡ fill.refused k x = rw (space, q) at z in let o : _≡_ {A = ℕ} 0 1 = cc in absurd (omega arith)
+        short-reply false q k x z =
+            let y : fill.refused 23 (beginPosition tr (shortRow tr w) + 1) ≡ fill.refused k x = rw (space, q) at z in
+            let i : 23 ≡ k = cc in
+            let j : beginPosition tr (shortRow tr w) + 1 ≡ x = cc in
+            rw (space, le-leb m (length work) room, q, i, j) refl
+
+        -- 23
+        pub fill-refused : (k x : ℕ) → fillReply b w (length cs) ≡ fill.refused k x → (r : Listing) → listPaper r ≡ refused k x → Lists short b w cs cs′ work work′ list list r
+        unfolding listAfter
+        fill-refused k x z r q =
+            let s = short-reply (eqb (shortRow tr w) m) refl k x (fill-answer ∙ z) in
+            lists-by cs′ work′ list r (q ∙ sym s) (after-clocks fill-clocks) after-work (rw s refl)
+
+        -- the clocks are filled
+        module _ (chains : ℕ) (z : fillReply b w (length cs) ≡ fill.filled chains) where
+          filled-by : fillTrace tr m w (length cs) ≡ fill.filled chains
+          filled-by = fill-answer ∙ z
+
+          enough : (t : Bool) → eqb (shortRow tr w) m ≡ t → (t ≡ true) × (chains ≡ chainsUsed tr)
+          unfolding fillTrace fill.demand
+          enough true q = let y : fill.filled (chainsUsed tr) ≡ fill.filled chains = rw (space, q) at filled-by in (refl, cc)
+          enough false q = let y : fill.refused 23 (beginPosition tr (shortRow tr w) + 1) ≡ fill.filled chains = rw (space, q) at filled-by in let o : _≡_ {A = ℕ} 0 1 = cc in absurd (omega arith)
+
+          chains-taken : eqb (shortRow tr w) m ≡ true
+          chains-taken = enough (eqb (shortRow tr w) m) refl .0
+
+          pub chains-are : chains ≡ chainsUsed tr
+          chains-are = enough (eqb (shortRow tr w) m) refl .1
+
+          events-are : m ≡ eventsIn tr
+          events-are = read-events b s n m e (part b s n) refl ∙ ap eventsIn (records-are b s n m e (part b s n) refl)
+
+          acceptable : Acceptable tr
+          acceptable = subst Acceptable (records-are b s n m e (part b s n) refl) (read-acceptable b s n m e (part b s n) refl)
+
+          clocks-whole : cs′ ≡ traceClocks tr w ++ drop (m * w) cs
+          unfolding clocksAfterTrace
+          clocks-whole = rw (space, chains-taken) at fill-clocks
+
+          chains-whole : of ≡ chainTable tr
+          unfolding chainsAfterReply
+          chains-whole = rw filled-by at fill-chains
+
+          pub filled-whole : Filled tr (ranksOf tr) of w cs′
+          filled-whole = record {
+            acceptable = acceptable;
+            ranks-are = refl;
+            of-are = chains-whole;
+            narrow = has-room w m (length cs) space .narrow;
+            enough = eqb-true _ _ chains-taken ∙ events-are;
+            rest = drop (m * w) cs;
+            clocks-are = clocks-whole;
+          }
+
+          pub work-clear : Clear tr m work′
+          unfolding eventsIn
+          work-clear = record {
+            events-are = events-are;
+            work-room = rw (← events-are) (omega (arith, cleared-length m work work′ room cleared, room));
+            zeros = rw (← events-are) (cleared-zeros m work work′ room cleared);
+          }
+
+          list-reply : listTrace short tr m w (length cs) (length work) (length list) ≡ listFilled short tr m (length list)
+          unfolding listTrace demand
+          list-reply = rw (space, le-leb m (length work) room, chains-taken) refl
+
+          pub list-done : (work″ list′ : List ℕ) (r : Listing) → ListsFilled short tr m work′ work″ list list′ r → Lists short b w cs cs′ work work″ list list′ r
+          list-done work″ list′ r l = lists-by cs′ work″ list′ r (l .answer ∙ sym list-reply) (after-clocks fill-clocks) (l .work-after ∙ after-work) (rw list-reply (l .list-after))

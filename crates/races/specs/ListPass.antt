@@ -1,0 +1,87 @@
+-- How the lists are made: for each second access, the first accesses from some place on. `ListLaws` proves that this gives the lists. Definitions alone. Assumes
+-- nothing.
+use Prim.Native.Nat.{ℕ, zero, suc, _+_, _*_, _≤_, _<_}
+use mathlib.Core.Path.{_≡_}
+use mathlib.Core.Bool.{Bool, true, false, cond, _&&_}
+use mathlib.Core.List.{List, [], _∷_, _++_, map}
+use lib.Dec.{leb, eqb}
+use lib.ListN.{length, drop, replicate, take}
+use lib.Seq.{sets}
+use Rattle.trace.specs.declared.Record.{Record}
+use Rattle.trace.specs.Records.{at, isWrite}
+use Rattle.trace.specs.Reading.{Acceptable}
+use Rattle.order.specs.Ranks.{ranksOf}
+use Rattle.coverage.specs.Below.{upto}
+use Rattle.coverage.specs.Race.{raceb}
+use Rattle.races.specs.Traces.{settingOf}
+use Rattle.races.specs.Leading.{rows, leadingMarks}
+use Rattle.races.specs.Lists.{entry, numbers}
+use Rattle.races.specs.Filled.{Filled}
+
+module _ (tr : List Record) where
+  -- the last record below i that writes the cell, or 0
+  unfoldable pub lastWrite : ℕ → ℕ → ℕ
+  lastWrite c zero = 0
+  lastWrite c (suc i) = cond (isWrite (at tr i) && eqb (at tr i .second) c) i (lastWrite c i)
+
+  -- from where on first accesses are looked for
+  abbrev pub fromOf : Bool → ℕ → ℕ
+  fromOf true b = lastWrite (at tr b .second) b
+  fromOf false b = 0
+
+  -- the first accesses below i, from there on, that race with b
+  unfoldable pub firsts : ℕ → ℕ → ℕ → List ℕ
+  firsts from b i = upto i (λ a. leb from a && raceb (settingOf tr) a b)
+
+  abbrev pub withSecond : ℕ → List ℕ → List (ℕ × ℕ)
+  withSecond b xs = map (λ a. (a, b)) xs
+
+  -- the pairs with a second below b
+  unfoldable pub pairsBelow : Bool → ℕ → List (ℕ × ℕ)
+  pairsBelow short zero = []
+  pairsBelow short (suc b) = pairsBelow short b ++ withSecond b (firsts (fromOf short b) b b)
+
+-- the event actions that lead to b are marked
+pub record Marks (tr : List Record) (ranks work : List ℕ) (b : ℕ) : Type 0 where
+  pub acceptable : Acceptable tr
+  pub ranks-are : ranks ≡ ranksOf tr
+  pub inside : b < length tr
+  pub work-is : work ≡ leadingMarks tr b ++ drop (rows tr) work
+
+-- what one pair of records asks for, and what becomes of entry k
+pub record OneRoom (tr : List Record) (ranks of : List ℕ) (width : ℕ) (clocks work : List ℕ) (a b k : ℕ) (list : List ℕ) : Type 0 where
+  pub filled : Filled tr ranks of width clocks
+  pub marks : Marks tr ranks work b
+  pub earlier : a < b
+  pub space : raceb (settingOf tr) a b ≡ true → 5 * k + 5 ≤ length list
+
+abbrev pub entryIf : Bool → List Record → ℕ → ℕ → ℕ → List ℕ → List ℕ
+entryIf true tr a b k list = sets list (5 * k) (entry tr a b)
+entryIf false tr a b k list = list
+
+pub record OneWrites (tr : List Record) (a b k : ℕ) (list list′ : List ℕ) (r : ℕ) : Type 0 where
+  pub next : r ≡ cond (raceb (settingOf tr) a b) (k + 1) k
+  pub list-is : list′ ≡ entryIf (raceb (settingOf tr) a b) tr a b k list
+
+-- what a turn over one second access asks for: filled clocks, a work space with room, and list space for its entries from entry k on
+pub record Room (tr : List Record) (ranks of : List ℕ) (width : ℕ) (clocks : List ℕ) (b from k : ℕ) (list : List ℕ) : Type 0 where
+  pub filled : Filled tr ranks of width clocks
+  pub inside : b < length tr
+  pub low : from ≤ b
+  pub space : 5 * (k + length (firsts tr from b b)) ≤ length list
+
+-- its entries are written from entry k on
+pub record Writes (tr : List Record) (b from k : ℕ) (list list′ : List ℕ) (r : ℕ) : Type 0 where
+  pub next : r ≡ k + length (firsts tr from b b)
+  pub list-is : list′ ≡ sets list (5 * k) (numbers tr (withSecond tr b (firsts tr from b b)))
+
+-- the work space is 0 over one byte for each event action
+pub record Clear (tr : List Record) (events : ℕ) (work : List ℕ) : Type 0 where
+  pub events-are : events ≡ rows tr
+  pub work-room : rows tr ≤ length work
+  pub zeros : work ≡ replicate (rows tr) 0 ++ drop (rows tr) work
+
+-- list space for all entries
+pub record AllRoom (tr : List Record) (ranks of : List ℕ) (width : ℕ) (clocks : List ℕ) (short : Bool) (list : List ℕ) : Type 0 where
+  pub filled : Filled tr ranks of width clocks
+  pub space : 5 * length (pairsBelow tr short (length tr)) ≤ length list

@@ -1,0 +1,28 @@
+-- Document 01's numbers and values for each case of the answers, and the promises of the lists. Assumes nothing.
+use Prim.Native.Nat.{ℕ}
+use mathlib.Core.Path.{_≡_}
+use mathlib.Core.Bool.{Bool}
+use mathlib.Core.List.{List}
+use lib.ListN.{length}
+use Rattle.trace.specs.declared.Record.{Record}
+use Rattle.trace.specs.Reading.{readReply}
+use Rattle.races.specs.declared.Listing.{Listing}
+use Rattle.races.specs.declared.Listing.the-variants.{Listed, Refused}
+use Rattle.races.specs.Lists.{pairsOf, ListReply, refused, listed, listFilled, listReply, listAfter, clocksRead, workRead, listAfterRead}
+
+abbrev pub listPaper : Listing → ListReply
+listPaper (Listed s) = listed (s .events) (s .records) (s .chains) (s .count)
+listPaper (Refused f) = refused (f .number) (f .place .0)
+
+-- a list, short or of all races: the answer and the lent clocks, work space and list space
+pub record Lists (short : Bool) (b : List ℕ) (width : ℕ) (clocks clocks′ work work′ list list′ : List ℕ) (r : Listing) : Type 0 where
+  pub answer : listPaper r ≡ listReply short b width (length clocks) (length work) (length list)
+  pub clocks-after : clocks′ ≡ clocksRead b (readReply b) width (length work) clocks
+  pub work-after : work′ ≡ workRead b (readReply b) width (length clocks) work
+  pub list-after : list′ ≡ listAfterRead short b (readReply b) width (length clocks) (length work) list
+
+-- the same of a trace whose clocks are filled
+pub record ListsFilled (short : Bool) (tr : List Record) (events : ℕ) (work work′ list list′ : List ℕ) (r : Listing) : Type 0 where
+  pub answer : listPaper r ≡ listFilled short tr events (length list)
+  pub work-after : work′ ≡ work
+  pub list-after : list′ ≡ listAfter tr (listFilled short tr events (length list)) (pairsOf tr short) list

@@ -1,0 +1,325 @@
+// Both lists: for each second access, the first accesses that race with it, counted and then written.
+use crate::Listing;
+use crate::Summary;
+use crate::leading;
+use crate::racing::is_race;
+use crate::workspace;
+use order::Filling;
+use order::ranks::ranks;
+use order::rows::has_space;
+use trace::Operation;
+use trace::Reading;
+use trace::Refusal;
+use trace::access;
+ghost use mathlib.Core.Path.{_≡_};
+ghost use mathlib.Core.List.{[], _∷_, _++_};
+ghost use Prim.Native.Nat.{_+_, _*_, _≤_, _<_};
+ghost use lib.ListN.{length, drop};
+ghost use lib.Seq.{sets};
+ghost use Rattle.trace.specs.Bytes.{decode};
+ghost use Rattle.trace.specs.Records.{at};
+ghost use Rattle.races.specs.Leading.{rows, leadingMarks};
+ghost use Rattle.order.specs.Ranks.{ranksOf};
+ghost use Rattle.order.specs.Fill.{chainsUsed};
+ghost use Rattle.races.specs.Lists.{entry, numbers, shapeOf, ListReply};
+ghost use Rattle.races.specs.Paper.{listPaper, ListsFilled, Lists};
+ghost use Rattle.races.specs.ListPass.{lastWrite, fromOf, firsts, pairsBelow, Marks, OneRoom, OneWrites, Clear, Room, Writes, AllRoom};
+ghost use Rattle.races.specs.Filled.{Filled};
+
+// The last record below i that writes the cell, or 0.
+fn last_write(recs: &[u8], cell: u16, i: usize) -> usize
+    ensures { λ r. ⌜ r ≡ lastWrite (decode (now (recs .entry))) cell i ⌝ }
+{
+    let mut j = i;
+    while 0 < j {
+        j -= 1;
+        if access::kind_at(recs, j) == 6 {
+            if access::second_at(recs, j) == cell {
+                return j;
+            }
+        }
+    }
+    j
+}
+
+// From where on the first accesses of second access b are looked for.
+fn first_from(recs: &[u8], short: bool, b: usize) -> usize
+    ensures { λ r. ⌜ r ≡ fromOf (decode (now (recs .entry))) short b ⌝ }
+{
+    if short {
+        return last_write(recs, access::second_at(recs, b), b);
+    }
+    0
+}
+
+// How many records from `from` on, before b, race with b.
+fn count_at(
+    recs: &[u8],
+    ranks: &[u16],
+    of: &[u16],
+    width: usize,
+    clocks: &[u16],
+    from: usize,
+    b: usize,
+) -> usize
+    requires { ⌜ Filled (decode (now recs)) (now ranks) (now of) width (now clocks) × (from ≤ b) × (b < length (decode (now recs))) ⌝ }
+    ensures { λ r. ⌜ (r ≡ length (firsts (decode (now (recs .entry))) from b b)) × (r ≤ b) ⌝ }
+{
+    if !leading::is_access(access::record_at(recs, b)) {
+        return 0;
+    }
+    let mut found = 0;
+    let mut a = from;
+    while a < b {
+        if is_race(recs, ranks, of, width, clocks, a, b) {
+            found += 1;
+        }
+        a += 1;
+    }
+    found
+}
+
+// How many entries the list has.
+fn count(recs: &[u8], ranks: &[u16], of: &[u16], width: usize, clocks: &[u16], short: bool) -> usize
+    requires { ⌜ Filled (decode (now recs)) (now ranks) (now of) width (now clocks) ⌝ }
+    ensures { λ r. ⌜ r ≡ length (pairsBelow (decode (now (recs .entry))) short (length (decode (now (recs .entry))))) ⌝ }
+{
+    let n = access::count(recs);
+    let mut found = 0;
+    let mut b = 0;
+    while b < n {
+        let from = first_from(recs, short, b);
+        found += count_at(recs, ranks, of, width, clocks, from, b);
+        b += 1;
+    }
+    found
+}
+
+// 1 for ww, 2 for wr, 3 for rw.
+fn shape_of(recs: &[u8], a: usize, b: usize) -> u16
+    ensures { λ r. ⌜ r ≡ shapeOf (decode (now (recs .entry))) a b ⌝ }
+{
+    if access::kind_at(recs, a) != 6 {
+        return 3;
+    }
+    if access::kind_at(recs, b) == 6 {
+        return 1;
+    }
+    2
+}
+
+// Entry k of the list: the race of records a and b, whose event actions that lead to b are marked.
+fn put_entry(
+    recs: &[u8],
+    ranks: &[u16],
+    work: &[u8],
+    a: usize,
+    b: usize,
+    list: &mut [u16],
+    k: usize,
+)
+    requires { ⌜ Marks (decode (now recs)) (now ranks) (now work) b × (a < b) × (b < 4096) × (5 * k + 5 ≤ length (now list)) ⌝ }
+    ensures { λ u. ⌜ now (list .exit) ≡ sets (now (list .entry)) (5 * k) (entry (decode (now (recs .entry))) a b) ⌝ }
+{
+    let at = 5 * k;
+    list[at] = (a + 1) as u16;
+    list[at + 1] = (b + 1) as u16;
+    list[at + 2] = access::second_at(recs, b);
+    list[at + 3] = shape_of(recs, a, b);
+    if leading::is_leading(recs, ranks, work, a) {
+        list[at + 4] = 0;
+        return;
+    }
+    list[at + 4] = 1;
+}
+
+// Records a and b: entry k where they are a race. The next entry.
+fn write_race(
+    recs: &[u8],
+    ranks: &[u16],
+    of: &[u16],
+    width: usize,
+    clocks: &[u16],
+    work: &[u8],
+    a: usize,
+    b: usize,
+    list: &mut [u16],
+    k: usize,
+) -> usize
+    requires { ⌜ OneRoom (decode (now recs)) (now ranks) (now of) width (now clocks) (now work) a b k (now list) ⌝ }
+    ensures { λ r. ⌜ OneWrites (decode (now (recs .entry))) a b k (now (list .entry)) (now (list .exit)) r ⌝ }
+{
+    if is_race(recs, ranks, of, width, clocks, a, b) {
+        put_entry(recs, ranks, work, a, b, list, k);
+        return k + 1;
+    }
+    k
+}
+
+// The races of second access b, whose leading event actions are marked, from entry k on.
+fn write_races(
+    recs: &[u8],
+    ranks: &[u16],
+    of: &[u16],
+    width: usize,
+    clocks: &[u16],
+    work: &[u8],
+    from: usize,
+    b: usize,
+    list: &mut [u16],
+    k: usize,
+) -> usize
+    requires { ⌜ Room (decode (now recs)) (now ranks) (now of) width (now clocks) b from k (now list) × Marks (decode (now recs)) (now ranks) (now work) b ⌝ }
+    ensures { λ r. ⌜ Writes (decode (now (recs .entry))) b from k (now (list .entry)) (now (list .exit)) r ⌝ }
+{
+    let mut next = k;
+    let mut a = from;
+    while a < b {
+        next = write_race(recs, ranks, of, width, clocks, work, a, b, list, next);
+        a += 1;
+    }
+    next
+}
+
+// The entries of second access b, from entry k on. The work space is 0 before and after.
+fn write_at(
+    recs: &[u8],
+    ranks: &[u16],
+    of: &[u16],
+    width: usize,
+    clocks: &[u16],
+    work: &mut [u8],
+    events: usize,
+    from: usize,
+    b: usize,
+    list: &mut [u16],
+    k: usize,
+) -> usize
+    requires { ⌜ Room (decode (now recs)) (now ranks) (now of) width (now clocks) b from k (now list) × Clear (decode (now recs)) events (now work) ⌝ }
+    ensures { λ r. ⌜ Writes (decode (now (recs .entry))) b from k (now (list .entry)) (now (list .exit)) r × (now (work .exit) ≡ now (work .entry)) ⌝ }
+{
+    if count_at(recs, ranks, of, width, clocks, from, b) == 0 {
+        return k;
+    }
+    leading::mark_leading(recs, ranks, b, work);
+    let next = write_races(recs, ranks, of, width, clocks, work, from, b, list, k);
+    workspace::clear_marks(work, events);
+    next
+}
+
+// All entries.
+fn write_all(
+    recs: &[u8],
+    ranks: &[u16],
+    of: &[u16],
+    width: usize,
+    clocks: &[u16],
+    work: &mut [u8],
+    events: usize,
+    list: &mut [u16],
+    short: bool,
+)
+    requires { ⌜ AllRoom (decode (now recs)) (now ranks) (now of) width (now clocks) short (now list) × Clear (decode (now recs)) events (now work) ⌝ }
+    ensures { λ u. ⌜ (now (list .exit) ≡ sets (now (list .entry)) 0 (numbers (decode (now (recs .entry))) (pairsBelow (decode (now (recs .entry))) short (length (decode (now (recs .entry))))))) × (now (work .exit) ≡ now (work .entry)) ⌝ }
+{
+    let n = access::count(recs);
+    let mut k = 0;
+    let mut b = 0;
+    while b < n {
+        let from = first_from(recs, short, b);
+        k = write_at(
+            recs,
+            ranks,
+            of,
+            width,
+            clocks,
+            work,
+            events,
+            from,
+            b,
+            list,
+            k,
+        );
+        b += 1;
+    }
+}
+
+fn refused(number: u16) -> Listing
+    ensures { λ r. ⌜ listPaper r ≡ ListReply.refused number 0 ⌝ }
+{
+    Listing::Refused(Refusal {
+        number: number,
+        place: Operation(0),
+    })
+}
+
+// The list of a trace whose clocks are filled.
+fn list_filled(
+    recs: &[u8],
+    events: usize,
+    width: usize,
+    clocks: &[u16],
+    of: &[u16],
+    chains: usize,
+    work: &mut [u8],
+    list: &mut [u16],
+    short: bool,
+) -> Listing
+    requires { ⌜ Filled (decode (now recs)) (ranksOf (decode (now recs))) (now of) width (now clocks) × Clear (decode (now recs)) events (now work) × (chains ≡ chainsUsed (decode (now recs))) ⌝ }
+    ensures { λ r. ⌜ ListsFilled short (decode (now (recs .entry))) events (now (work .entry)) (now (work .exit)) (now (list .entry)) (now (list .exit)) r ⌝ }
+{
+    let all = ranks(recs);
+    let found = count(recs, &all, of, width, clocks, short);
+    if list.len() / 5 < found {
+        return refused(trace::LIST_SPACE);
+    }
+    write_all(recs, &all, of, width, clocks, work, events, list, short);
+    Listing::Listed(Summary {
+        events: events,
+        records: access::count(recs),
+        chains: chains,
+        count: found,
+    })
+}
+
+// The short list, or the list of all races.
+pub(crate) fn list_races(
+    bytes: &[u8],
+    width: usize,
+    clocks: &mut [u16],
+    work: &mut [u8],
+    list: &mut [u16],
+    short: bool,
+) -> Listing
+    ensures { λ r. ⌜ Lists short (now (bytes .entry)) width (now (clocks .entry)) (now (clocks .exit)) (now (work .entry)) (now (work .exit)) (now (list .entry)) (now (list .exit)) r ⌝ }
+{
+    let reading = trace::read(bytes);
+    let Reading::Accepted(t) = reading else {
+        return Listing::Refused(trace::refusal_of(reading));
+    };
+    let events = t.events;
+    if !has_space(width, events, clocks.len()) {
+        return refused(trace::CLOCK_SPACE);
+    }
+    if work.len() < events {
+        return refused(trace::WORK_SPACE);
+    }
+    let filled = order::fill_chains(bytes, width, clocks);
+    workspace::clear_marks(work, events);
+    let of = filled.of;
+    let answer = filled.answer;
+    match answer {
+        Filling::Filled(chains) => list_filled(
+            access::records(bytes, t),
+            events,
+            width,
+            clocks,
+            &of,
+            chains,
+            work,
+            list,
+            short,
+        ),
+        Filling::Refused(why) => Listing::Refused(why),
+    }
+}

@@ -1,0 +1,151 @@
+-- Recorder and reader refuse the same records.
+-- Assumes nothing.
+use Prim.Native.Nat.{ℕ, zero, suc, _+_, _*_, _<_, _≤_}
+use mathlib.Core.Path.{_≡_, refl, sym, ap, _∙_}
+use mathlib.Core.Bool.{Bool, true, false, cond}
+use mathlib.Core.List.{List, [], _∷_, _++_, append-nil}
+use mathlib.Core.Logic.{_↔_, _⊎_, inl, inr}
+use native.Mathlib.Omega.{arith}
+use borrow.Author.Tests.{le-leb}
+use lib.Dec.{eqb}
+use lib.ListN.{length, drop, drop-of-length-le}
+use lib.Seq.{drop-cons}
+use Rattle.trace.specs.declared.Record.{Record}
+use Rattle.trace.specs.Records.{noRecord, at, past, begins}
+use Rattle.trace.specs.Place.{between, place}
+use Rattle.trace.specs.Rule.{situation, rule}
+use Rattle.trace.specs.Reading.{Reply, accepted, demand, orElse, walk, readReply}
+use Rattle.trace.specs.Reading.{refused as refuses}
+use Rattle.trace.specs.Reading.{closing as ending}
+use Rattle.trace.specs.Encoding.{traceOf}
+use Rattle.trace.proofs.Records.{past-length}
+use Rattle.trace.proofs.Encoded.{AllNarrow, read-narrow}
+use Rattle.recorder.specs.declared.Recorder.{Recorder}
+use Rattle.recorder.specs.Recording.{refused, taken, closes, Left, pass, full, stopsInside, noTrailer, stepLeft, closeLeft}
+use Rattle.recorder.specs.History.{Recording}
+use Rattle.recorder.proofs.Left.{stepping, closing, pass-out}
+use Rattle.recorder.proofs.Holds.{holds, step-is, narrow}
+use Rattle.recorder.proofs.Recorded.{close-is}
+
+-- records that pass are walked through
+module _ (tr ys : List Record) (start m : ℕ) (each : (i : ℕ) → i < length tr → rule (past tr i) (at tr i) ≡ 0) where
+  through : (k i : ℕ) → i + k ≡ length tr → walk start m (past tr i) (drop i tr ++ ys) ≡ walk start m (past tr (length tr)) ys
+  unfolding walk past orElse
+  through zero i l =
+      let f : i ≡ length tr = omega arith in
+      rw (f, drop-of-length-le tr {i = length tr} (omega arith))
+  through (suc k) i l =
+      let z : rule (past tr i) (at tr i) ≡ 0 = each i (omega arith) in
+      let w = through k (suc i) (omega arith) in
+      rw (drop-cons tr i noRecord (omega arith), z) w
+
+-- a refusal by the walk is a later record's, or 9 or 10
+late : (t u : Bool) (q : ℕ) (y : Reply) (n p : ℕ) → ((n p : ℕ) → y ≡ refuses n p → ⊥) → demand t 9 q (demand u 10 0 y) ≡ refuses n p → 9 ≤ n
+unfolding demand
+late true true q y n p f e = absurd (f n p e)
+late true false q y n p f e = let z : 10 ≡ n = cc in omega arith
+late false u q y n p f e = let z : 9 ≡ n = cc in omega arith
+
+later : (start m : ℕ) (rest done : List Record) (n p : ℕ) → walk start m done rest ≡ refuses n p → (9 ≤ n) ⊎ (length done < p)
+unfolding walk ending
+later start m [] done n p e = inl (late (eqb (situation done) between) (eqb (begins done) m) (length done) _ n p (λ n p q. let z : _≡_ {A = ℕ} 0 1 = cc in omega arith) e)
+later start m (x ∷ rest) done n p e = go (rule done x) e (later start m rest (x ∷ done) n p)
+  where
+    wider : (9 ≤ n) ⊎ (suc (length done) < p) → (9 ≤ n) ⊎ (length done < p)
+    wider (inl l) = inl l
+    wider (inr l) = inr (omega arith)
+
+    go : (v : ℕ) → orElse v (length done + 1) (walk start m (x ∷ done) rest) ≡ refuses n p → (walk start m (x ∷ done) rest ≡ refuses n p → (9 ≤ n) ⊎ (suc (length done) < p)) → (9 ≤ n) ⊎ (length done < p)
+    go zero q f = wider (f (unfold orElse in q))
+    go (suc v) q f = let z : length done + 1 ≡ p = unfold orElse in cc in inr (omega arith)
+
+-- a refusal by number and place, in the recorder and in the reader
+module _ (w : List ℕ) (r : Recorder) (k n : ℕ) (y : Left) (z : Reply) where
+  to-reader : (v : ℕ) → (y .answer ≡ refused n (k + 1) → ⊥) → pass w r v (k + 1) y .answer ≡ refused n (k + 1) → orElse v (k + 1) z ≡ refuses n (k + 1)
+  unfolding pass orElse
+  to-reader zero f e = absurd (f e)
+  to-reader (suc v) f e = let q : suc v ≡ n = cc in rw q
+
+  to-recorder : (v : ℕ) → (z ≡ refuses n (k + 1) → ⊥) → orElse v (k + 1) z ≡ refuses n (k + 1) → pass w r v (k + 1) y .answer ≡ refused n (k + 1)
+  unfolding pass orElse
+  to-recorder zero f e = absurd (f e)
+  to-recorder (suc v) f e = let q : suc v ≡ n = cc in rw q
+
+-- 25 has no record for its place
+no-place : (w : List ℕ) (r : Recorder) (y : Left) (v n k : ℕ) → y .answer ≡ taken → pass w r v 0 y .answer ≡ refused n (k + 1) → ⊥
+unfolding pass
+no-place w r y zero n k t e = let z : _≡_ {A = ℕ} 0 1 = cc in omega arith
+no-place w r y (suc v) n k t e = let z : 0 ≡ k + 1 = cc in omega arith
+
+-- A step is refused with 4 to 8 exactly when the reader would refuse the trace there, by the same number and place; whatever records follow.
+module _ {b : List ℕ} {tr : List Record} {w : List ℕ} {r : Recorder} (c : Recording b tr w r) (x : Record) (rest : List Record)
+    (few : length (tr ++ x ∷ rest) ≤ 4096) (narrow : AllNarrow (tr ++ x ∷ rest)) (p : List ℕ) where
+  abbrev m : ℕ
+  m = begins (past (tr ++ x ∷ rest) (length (tr ++ x ∷ rest)))
+
+  abbrev onwards : Reply
+  onwards = walk (length p) m (x ∷ past tr (length tr)) rest
+
+  reader-says : readReply (p ++ traceOf (tr ++ x ∷ rest)) ≡ orElse (rule (past tr (length tr)) x) (length tr + 1) onwards
+  unfolding walk past
+  reader-says =
+      read-narrow (tr ++ x ∷ rest) few p narrow
+      ∙ through tr (x ∷ rest) (length p) m (holds c .passes) (length tr) 0 (omega arith)
+      ∙ rw (past-length tr (length tr))
+
+  pub refused-alike : (n : ℕ) → n ≤ 8 → (stepLeft w r x .answer ≡ refused n (length tr + 1)) ↔ (readReply (p ++ traceOf (tr ++ x ∷ rest)) ≡ refuses n (length tr + 1))
+  refused-alike n l =
+      let h = holds c in
+      let v = rule (past tr (length tr)) x in
+      let y = pass w r (full w (length tr)) 0 (stepping w (length tr) x (place (r .situation) (x .kind))) in (
+        λ e. reader-says ∙ to-reader w r (length tr) n y onwards v (no-place w r _ (full w (length tr)) n (length tr) refl) (rw (step-is h x) at e),
+        λ e. rw (step-is h x) (to-recorder w r (length tr) n y onwards v (λ q. ahead (later (length p) m rest (x ∷ past tr (length tr)) n (length tr + 1) q)) (sym reader-says ∙ e)),
+      )
+    where
+      ahead : (9 ≤ n) ⊎ (suc (length (past tr (length tr))) < length tr + 1) → ⊥
+      ahead (inl k) = omega arith
+      ahead (inr k) = let q = past-length tr (length tr) in omega arith
+
+nine-answer : (w : List ℕ) (r : Recorder) (t : Bool) (v k : ℕ) (y : Left) → y .answer ≡ closes v → noTrailer w k ≡ 0 → pass w r (cond t 0 9) k (pass w r (noTrailer w k) 0 y) .answer ≡ refused 9 k → t ≡ false
+unfolding pass
+nine-answer w r true v k y a f e = let q : y .answer ≡ refused 9 k = rw f at e in let z : _≡_ {A = ℕ} 0 1 = cc in absurd (omega arith)
+nine-answer w r false v k y a f e = refl
+
+nine-reply : (t u : Bool) (k s n m : ℕ) → demand t 9 k (demand u 10 0 (accepted s n m)) ≡ refuses 9 k → t ≡ false
+unfolding demand
+nine-reply true true k s n m e = let z : _≡_ {A = ℕ} 0 1 = cc in absurd (omega arith)
+nine-reply true false k s n m e = let z : _≡_ {A = ℕ} 10 9 = cc in absurd (omega arith)
+nine-reply false u k s n m e = refl
+
+-- Closing is refused with 9 exactly when the reader would refuse the trace of the steps taken with 9, at the same place.
+module _ {b : List ℕ} {tr : List Record} {w : List ℕ} {r : Recorder} (c : Recording b tr w r) (p : List ℕ) where
+  abbrev between-now : Bool
+  between-now = eqb (situation (past tr (length tr))) between
+
+  reply-now : readReply (p ++ traceOf tr)
+      ≡ demand between-now 9 (length tr) (demand (eqb (begins (past tr (length tr))) (begins (past tr (length tr)))) 10 0 (accepted (length p) (length tr) (begins (past tr (length tr)))))
+  unfolding walk ending past
+  reply-now =
+      read-narrow tr (holds c .few) p (narrow (holds c))
+      ∙ rw (append-nil tr) at (through tr [] (length p) (begins (past tr (length tr))) (holds c .passes) (length tr) 0 (omega arith))
+      ∙ rw (past-length tr (length tr))
+
+  inside-out : between-now ≡ false → stopsInside r ≡ 9
+  unfolding stopsInside
+  inside-out e = rw (holds c .stands, e)
+
+  closing-left : closeLeft w r .answer ≡ refused 9 (length tr) → between-now ≡ false
+  unfolding stopsInside noTrailer
+  closing-left e =
+      let h = holds c in
+      let f : noTrailer w (length tr) ≡ 0 = rw (le-leb (5 * length tr + 8) (length w) (h .fits)) in
+      nine-answer w r between-now _ (length tr) (closing w (length tr) r) refl f (rw (← h .stands) (rw (close-is h) at e))
+
+  pub nine-alike : (closeLeft w r .answer ≡ refused 9 (length tr)) ↔ (readReply (p ++ traceOf tr) ≡ refuses 9 (length tr))
+  unfolding demand
+  nine-alike =
+      let m = begins (past tr (length tr)) in (
+        λ e. reply-now ∙ rw (closing-left e),
+        λ e. ap (λ (l : Left). l .answer)
+            (close-is (holds c) ∙ pass-out w r (stopsInside r) 8 (length tr) _ (inside-out (nine-reply between-now (eqb m m) (length tr) (length p) (length tr) m (sym reply-now ∙ e)))),
+      )

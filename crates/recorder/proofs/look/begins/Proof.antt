@@ -1,0 +1,21 @@
+-- `recorder::look::begins` meets its contract.
+-- Assumes nothing.
+use mathlib.Core.Path.{_∙_}
+use Rattle.trace.specs.Reading.{recordsIn}
+use Rattle.recorder.specs.Recording.{before}
+use borrow.Author.Needs.{needs}
+use Rattle.recorder.proofs.look.begins.Statement.{statement}
+use Rattle.recorder.proofs.look.begins.Tie as tie
+
+records-requires : tie.Need-records-requires
+records-requires c κs = search needs
+
+count-begins-requires : tie.Need-count-begins-requires
+count-begins-requires c κs = search needs
+
+returns : tie.Need-returns
+unfolding before recordsIn
+returns c = c .count-begins .ensures ∙ simp (c .before .records .ensures)
+
+pub begins-spec : {M : Type 1} → statement M
+begins-spec = tie.close (tie.spec records-requires count-begins-requires returns)

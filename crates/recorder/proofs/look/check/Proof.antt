@@ -1,0 +1,54 @@
+-- `recorder::look::check` meets its contract.
+-- Assumes nothing.
+use Rattle.recorder.proofs.Looking.{judge-asked}
+use Rattle.recorder.specs.Recording.{before, judged}
+use Rattle.trace.specs.Reading.{recordsIn}
+use Rattle.trace.specs.Records.{begun, ended}
+use mathlib.Core.Path.{_∙_}
+use borrow.Author.Needs.{needs}
+use Rattle.recorder.proofs.look.check.Statement.{statement}
+use Rattle.recorder.proofs.look.check.Tie as tie
+
+records-requires : tie.Need-records-requires
+records-requires c κs = search needs
+
+starts-requires : tie.Need-starts-requires
+starts-requires c κs = search needs
+
+seen-if-requires : tie.Need-seen-if-requires
+seen-if-requires c κs = search needs
+
+seen-if-requires-2 : tie.Need-seen-if-requires-2
+seen-if-requires-2 c κs = search needs
+
+seen-if-requires-3 : tie.Need-seen-if-requires-3
+seen-if-requires-3 c κs = search needs
+
+add-t11 : tie.Need-add-t11
+add-t11 c = search needs
+
+cast-t12 : tie.Need-cast-t12
+cast-t12 c = search needs
+
+check-requires : tie.Need-check-requires
+check-requires c κs = search needs
+
+returns : tie.Need-returns
+unfolding judged before recordsIn begun ended
+returns c =
+    let a = c .before .before .before .before .before .before .before .before .before .before .args in
+    c .check .ensures ∙ simp (c .before .before .before .before .before .before .seen-if .ensures, c .before .before .before .before .seen-if2 .ensures, c .before .before .seen-if3 .ensures, c .before .before .before .before .before .before .before .starts .ensures, c .before .before .before .before .before .before .before .before .records .ensures, judge-asked)
+
+pub check-spec : {M : Type 1} → statement M
+check-spec =
+    tie.close
+    (tie.spec
+    records-requires
+    starts-requires
+    seen-if-requires
+    seen-if-requires-2
+    seen-if-requires-3
+    add-t11
+    cast-t12
+    check-requires
+    returns)

@@ -1,0 +1,116 @@
+-- `recorder::step_on` meets its contract.
+-- Assumes nothing.
+use Rattle.recorder.proofs.Left.{full-none, full-not, spaced, step-closed, step-judged, step-full, step-taken}
+use Rattle.trace.specs.Paper.{checkedPaper}
+use borrow.Author.Tests.{not-true, not-false}
+use mathlib.Core.Path.{sym, ap, _∙_}
+use denote.Ref.{now}
+use native.Mathlib.Omega.{arith}
+use borrow.Author.Needs.{needs}
+use Rattle.recorder.proofs.step_on.Statement.{statement}
+use Rattle.recorder.proofs.step_on.Tie as tie
+
+refusal-requires : tie.Need-refusal-requires
+refusal-requires c κs = search needs
+
+not-taken-requires : tie.Need-not-taken-requires
+not-taken-requires c κs = search needs
+
+returns : tie.Need-returns
+returns c = simp (c .not-taken .ensures .0, c .not-taken .ensures .1, c .before .refusal .ensures .0, c .before .refusal .ensures .1) (step-closed (now (c .before .before .before .before .args .bytes)) (c .before .before .before .before .args .r) (c .before .before .before .before .args .rec) (c .before .before .if1 .taken))
+
+stored-records-requires : tie.Need-stored-records-requires
+stored-records-requires c κs = search needs
+
+check-requires : tie.Need-check-requires
+check-requires c κs = search needs
+
+enum-known-checked : tie.Need-enum-known-checked
+enum-known-checked c = search needs
+
+not-taken-requires-2 : tie.Need-not-taken-requires-2
+not-taken-requires-2 c κs = search needs
+
+enum-known-checked-2 : tie.Need-enum-known-checked-2
+enum-known-checked-2 c = search needs
+
+has-space-requires : tie.Need-has-space-requires
+has-space-requires c κs = search needs
+
+refusal-requires-2 : tie.Need-refusal-requires-2
+refusal-requires-2 c κs = search needs
+
+not-taken-requires-3 : tie.Need-not-taken-requires-3
+not-taken-requires-3 c κs = search needs
+
+same-length : tie.Need-same-length
+same-length c = search needs
+
+returns-2 : tie.Need-returns-2
+returns-2 c =
+    let a = c .before .before .before .before .before .before .before .before .before .before .before .before .before .args in
+    let g = c .before .before .before .before .before .before .checked2 .given in
+    let f = full-none (now (a .bytes)) (c .before .before .before .before .before .before .before .before .before .before .stored-records .result) (sym (c .before .before .before .has-space .ensures) ∙ not-true (c .before .before .before .has-space .result) (c .before .before .if2 .taken)) in
+    simp (c .not-taken3 .ensures .0, c .not-taken3 .ensures .1, c .before .refusal2 .ensures .0, c .before .refusal2 .ensures .1)
+    (step-full (now (a .bytes)) (a .r) (c .before .before .before .before .before .before .before .before .before .before .before .if1 .left) (c .before .before .before .before .before .before .before .before .before .before .stored-records .result) (c .before .before .before .before .before .before .before .before .before .before .stored-records .ensures .0) (a .rec) (g .0 .0) (sym (ap checkedPaper (g .1)) ∙ c .before .before .before .before .before .before .before .before .check .ensures) f)
+
+mul-put-record : tie.Need-mul-put-record
+mul-put-record c = search needs
+
+put-record-requires : tie.Need-put-record-requires
+put-record-requires c κs =
+    let p = spaced (now (c .before .before .before .before .before .before .before .before .before .before .before .before .args .bytes)) (c .before .before .before .before .before .before .before .before .before .stored-records .result) (sym (c .before .before .has-space .ensures) ∙ not-false (c .before .before .has-space .result) (c .before .if2 .left)) in
+    omega arith
+
+add-count : tie.Need-add-count
+add-count c = search needs
+
+cast-count : tie.Need-cast-count
+cast-count c = search needs
+
+same-length-2 : tie.Need-same-length-2
+same-length-2 c = search needs
+
+returns-3 : tie.Need-returns-3
+returns-3 c =
+    let a = c .before .before .before .before .before .before .before .before .before .args in
+    let g = c .before .before .checked .given in
+    simp (c .not-taken2 .ensures .0, c .not-taken2 .ensures .1)
+    (step-judged (now (a .bytes)) (a .r) (c .before .before .before .before .before .before .before .if1 .left) (c .before .before .before .before .before .before .stored-records .result) (c .before .before .before .before .before .before .stored-records .ensures .0) (a .rec) _ _ (sym (ap checkedPaper (g .1)) ∙ c .before .before .before .before .check .ensures))
+
+same-length-3 : tie.Need-same-length-3
+same-length-3 c = search needs
+
+returns-4 : tie.Need-returns-4
+returns-4 c =
+    let a = c .before .before .before .before .before .before .before .before .before .before .before .before .before .before .before .args in
+    let g = c .before .before .before .before .before .before .before .before .checked2 .given in
+    let f = full-not (now (a .bytes)) (c .before .before .before .before .before .before .before .before .before .before .before .before .stored-records .result) (sym (c .before .before .before .before .before .has-space .ensures) ∙ not-false (c .before .before .before .before .before .has-space .result) (c .before .before .before .before .if2 .left)) in
+    simp (c .before .before .put-record .ensures)
+    (step-taken (now (a .bytes)) (a .r) (c .before .before .before .before .before .before .before .before .before .before .before .before .before .if1 .left) (c .before .before .before .before .before .before .before .before .before .before .before .before .stored-records .result) (c .before .before .before .before .before .before .before .before .before .before .before .before .stored-records .ensures .0) (a .rec) (g .0 .0) (sym (ap checkedPaper (g .1)) ∙ c .before .before .before .before .before .before .before .before .before .before .check .ensures) f)
+
+pub step-on-spec : {M : Type 1} → statement M
+step-on-spec =
+    tie.close
+    (tie.spec
+    refusal-requires
+    not-taken-requires
+    returns
+    stored-records-requires
+    check-requires
+    enum-known-checked
+    not-taken-requires-2
+    enum-known-checked-2
+    has-space-requires
+    refusal-requires-2
+    not-taken-requires-3
+    same-length
+    returns-2
+    mul-put-record
+    put-record-requires
+    add-count
+    cast-count
+    same-length-2
+    returns-3
+    same-length-3
+    returns-4)

@@ -1,0 +1,56 @@
+-- `recorder::store::put_record` meets its contract.
+-- Assumes nothing.
+use denote.Ref.{now}
+use mathlib.Core.List.{[], _∷_}
+use native.Mathlib.Numerals.{towards-suc}
+use Rattle.recorder.proofs.Stored.{stored-sets}
+use Rattle.trace.specs.Encoding.{encode}
+use lib.ListN.{length-set}
+use native.Mathlib.Omega.{arith}
+use borrow.Author.Needs.{needs}
+use Rattle.recorder.proofs.store.put_record.Statement.{statement}
+use Rattle.recorder.proofs.store.put_record.Tie as tie
+
+slice-write-bytes : tie.Need-slice-write-bytes
+slice-write-bytes c = search needs
+
+add-put-two : tie.Need-add-put-two
+add-put-two c = search needs
+
+cast-put-two : tie.Need-cast-put-two
+cast-put-two c = search needs
+
+put-two-requires : tie.Need-put-two-requires
+put-two-requires c κs = simp length-set (omega arith)
+
+add-put-two-2 : tie.Need-add-put-two-2
+add-put-two-2 c = search needs
+
+cast-put-two-2 : tie.Need-cast-put-two-2
+cast-put-two-2 c = search needs
+
+put-two-requires-2 : tie.Need-put-two-requires-2
+put-two-requires-2 c κs = simp (c .before .before .before .before .put-two .ensures, length-set) (omega arith)
+
+same-length : tie.Need-same-length
+same-length c = omega (arith, length-set (now (c .before .before .before .before .before .before .before .before .before .before .before .args .bytes)) (c .before .before .before .before .before .before .before .before .before .before .before .args .at) (c .before .before .before .before .before .before .before .before .before .before .before .args .rec .kind))
+
+returns : tie.Need-returns
+unfolding encode
+returns c =
+    let a = c .before .before .before .before .before .before .before .before .before .before .before .args in
+    simp (c .before .before .before .before .before .before .before .put-two .ensures, c .before .before .put-two2 .ensures, towards-suc) (stored-sets (now (a .bytes)) (a .at) (encode (a .rec ∷ [])) (omega arith))
+
+pub put-record-spec : {M : Type 1} → statement M
+put-record-spec =
+    tie.close
+    (tie.spec
+    slice-write-bytes
+    add-put-two
+    cast-put-two
+    put-two-requires
+    add-put-two-2
+    cast-put-two-2
+    put-two-requires-2
+    same-length
+    returns)

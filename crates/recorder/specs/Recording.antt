@@ -1,0 +1,138 @@
+-- What opening, a step and closing answer and leave, for every state of the recorder and every content of the lent bytes.
+-- Assumes nothing.
+use Prim.Native.Nat.{ℕ, zero, suc, min, _+_, _*_}
+use mathlib.Core.Bool.{Bool, true, false, cond, _&&_}
+use mathlib.Core.List.{List, [], _∷_, _++_}
+use lib.Dec.{leb, ltb, eqb}
+use lib.ListN.{length, take, drop}
+use Rattle.trace.specs.declared.Record.{Record}
+use Rattle.trace.specs.Records.{past, begun, ended, begins}
+use Rattle.trace.specs.Place.{between, place}
+use Rattle.trace.specs.Rule.{judge}
+use Rattle.trace.specs.Reading.{recordsIn}
+use Rattle.trace.specs.Encoding.{encode, trailer}
+use Rattle.recorder.specs.declared.Recorder.{Recorder}
+use Rattle.recorder.specs.declared.Opened.{Opened}
+use Rattle.recorder.specs.declared.Opening.{Opening}
+use Rattle.recorder.specs.declared.Opening.the-variants.{Open}
+use Rattle.recorder.specs.declared.Opening.the-variants as opening
+use Rattle.recorder.specs.declared.Next.{Next}
+use Rattle.recorder.specs.declared.Stepped.{Stepped}
+use Rattle.recorder.specs.declared.Stepped.the-variants.{Taken}
+use Rattle.recorder.specs.declared.Stepped.the-variants as stepped
+use Rattle.recorder.specs.declared.Ended.{Ended}
+use Rattle.recorder.specs.declared.Closing.{Closing}
+use Rattle.recorder.specs.declared.Closing.the-variants.{Closed}
+use Rattle.recorder.specs.declared.Closing.the-variants as closing
+
+-- "A refusal gives its number and a record number, 0 where no record is concerned." Closing gives the trace's length.
+pub data Outcome : Type 0 where
+  refused : ℕ → ℕ → Outcome
+  opens : Outcome
+  taken : Outcome
+  closes : ℕ → Outcome
+
+abbrev pub openingPaper : Opening → Outcome
+openingPaper Open = opens
+openingPaper (opening.Refused f) = refused (f .number) (f .place .0)
+
+abbrev pub steppedPaper : Stepped → Outcome
+steppedPaper Taken = taken
+steppedPaper (stepped.Refused f) = refused (f .number) (f .place .0)
+
+abbrev pub closingPaper : Closing → Outcome
+closingPaper (Closed n) = closes n
+closingPaper (closing.Refused f) = refused (f .number) (f .place .0)
+
+-- What a call leaves: its answer, the recorder and the lent bytes.
+pub record Left : Type 0 where
+  pub answer : Outcome
+  pub recorder : Recorder
+  pub bytes : List ℕ
+
+abbrev pub left : Outcome → Recorder → List ℕ → Left
+left a r b = record { answer = a; recorder = r; bytes = b }
+
+abbrev pub ofOpening : Opened → List ℕ → Left
+ofOpening o b = left (openingPaper (o .answer)) (o .recorder) b
+
+abbrev pub ofStep : Next → List ℕ → Left
+ofStep n b = left (steppedPaper (n .answer)) (n .recorder) b
+
+abbrev pub ofClosing : Ended → List ℕ → Left
+ofClosing e b = left (closingPaper (e .answer)) (e .recorder) b
+
+-- "A refused step leaves recorder and bytes unchanged": the refusal with this number and place, or next where the number is 0.
+unfoldable pub pass : List ℕ → Recorder → ℕ → ℕ → Left → Left
+pass b r zero p next = next
+pass b r (suc n) p next = record { answer = refused (suc n) p; recorder = r; bytes = b }
+
+-- the bytes with vs from p on, all others unchanged
+unfoldable pub stored : List ℕ → ℕ → List ℕ → List ℕ
+stored b p vs = take p b ++ vs ++ drop (p + length vs) b
+
+-- How many records are stored: at most 4,096, whatever the state says.
+unfoldable pub held : Recorder → ℕ
+held r = min (r .count) 4096
+
+-- a record of that kind
+abbrev pub ofKind : ℕ → Record → Bool
+ofKind kind x = eqb (x .kind) kind
+
+-- "A trace is written from the first byte of the space lent": its first n records, the latest first; where the bytes hold fewer, those.
+unfoldable pub before : List ℕ → ℕ → List Record
+before b n = past (recordsIn b 0 n) (length (recordsIn b 0 n))
+
+-- 4 to 8, by the reader's rules: the refusal of record x after the first n records of the bytes, or 0
+unfoldable pub judged : List ℕ → ℕ → Recorder → Record → ℕ
+judged b n r x = judge (r .situation) (r .owner .0) x (begun (x .first) (before b n)) (begun (x .second) (before b n)) (ended (x .second) (before b n))
+
+-- "26: recorder only, closed already."
+unfoldable pub closedAlready : Recorder → ℕ
+closedAlready r = cond (r .closed) 26 0
+
+-- "25: recorder only, 4,096 records stored, or no space left for the record and a trailer"
+unfoldable pub space : List ℕ → ℕ → Bool
+space b n = ltb n 4096 && leb (5 * n + 5 + 8) (length b)
+
+unfoldable pub full : List ℕ → ℕ → ℕ
+full b n = cond (space b n) 0 25
+
+-- "9: the trace stops inside an event action or after a join."
+unfoldable pub stopsInside : Recorder → ℕ
+stopsInside r = cond (eqb (r .situation) between) 0 9
+
+-- "25 if the bytes lent to it are too few for the trailer"
+unfoldable pub noTrailer : List ℕ → ℕ → ℕ
+noTrailer b n = cond (leb (5 * n + 8) (length b)) 0 25
+
+-- "opening over fewer than 8 bytes also"; "a refused opening gives a closed recorder"
+unfoldable pub openLeft : List ℕ → Left
+openLeft b =
+    cond (leb 8 (length b))
+    (record { answer = opens; recorder = record { count = 0; situation = between; owner = record { 0 = 0 }; closed = false }; bytes = b })
+    (record { answer = refused 25 0; recorder = record { count = 0; situation = between; owner = record { 0 = 0 }; closed = true }; bytes = b })
+
+-- "The recorder gives 26, then 4 to 8, then 25"; the place of 4 to 8 is the number that the record would have had.
+unfoldable pub stepLeft : List ℕ → Recorder → Record → Left
+stepLeft b r x =
+    pass b r (closedAlready r) 0
+    (pass b r (judged b (held r) r x) (held r + 1)
+    (pass b r (full b (held r)) 0
+    (record {
+      answer = taken;
+      recorder = record { count = held r + 1; situation = place (r .situation) (x .kind); owner = record { 0 = x .first }; closed = false };
+      bytes = stored b (5 * held r) (encode (x ∷ []));
+    })))
+
+-- "closing gives 26, then 9, then 25 if the bytes lent to it are too few for the trailer"; "its length is given". The place of 9 is the last record.
+unfoldable pub closeLeft : List ℕ → Recorder → Left
+closeLeft b r =
+    pass b r (closedAlready r) 0
+    (pass b r (stopsInside r) (held r)
+    (pass b r (noTrailer b (held r)) 0
+    (record {
+      answer = closes (5 * held r + 8);
+      recorder = record { count = r .count; situation = r .situation; owner = r .owner; closed = true };
+      bytes = stored b (5 * held r) (trailer (5 * held r) (begins (before b (held r))));
+    })))

@@ -1,0 +1,196 @@
+// The recorder: a trace written step by step into lent bytes, each step checked by the reader's rules. Nothing in its state or in the bytes is trusted:
+// over altered bytes, or with a state made up by somebody, every call is still without fault.
+mod look;
+mod store;
+
+use trace::Checked;
+use trace::EventId;
+use trace::Operation;
+use trace::Record;
+use trace::Refusal;
+ghost use mathlib.Core.Path.{_≡_};
+ghost use Prim.Native.Nat.{_≤_};
+ghost use Rattle.recorder.specs.Recording.{steppedPaper, closingPaper, left, ofOpening, ofStep, ofClosing, held, openLeft, stepLeft, closeLeft};
+
+// The recorder's one state: how many records are stored, the situation, the open or joining event, and whether the trace is closed.
+pub struct Recorder {
+    pub count: u16,
+    pub situation: u8,
+    pub owner: EventId,
+    pub closed: bool,
+}
+
+pub enum Opening {
+    Open,
+    Refused(Refusal),
+}
+
+pub struct Opened {
+    pub recorder: Recorder,
+    pub answer: Opening,
+}
+
+pub enum Stepped {
+    Taken,
+    Refused(Refusal),
+}
+
+pub struct Next {
+    pub recorder: Recorder,
+    pub answer: Stepped,
+}
+
+// The length of the closed trace, from the first byte of the space lent.
+pub enum Closing {
+    Closed(usize),
+    Refused(Refusal),
+}
+
+pub struct Ended {
+    pub recorder: Recorder,
+    pub answer: Closing,
+}
+
+// How many records are stored: at most 4,096, whatever the state says.
+fn stored_records(r: Recorder) -> usize
+    ensures { λ n. ⌜ (n ≡ held r) × (n ≤ 4096) ⌝ }
+{
+    if r.count < 4096 {
+        return r.count as usize;
+    }
+    4096
+}
+
+// A refusal that concerns no record.
+fn refusal(number: u16) -> Refusal
+    ensures { λ f. ⌜ (f .number ≡ number) × (f .place .0 ≡ 0) ⌝ }
+{
+    Refusal {
+        number: number,
+        place: Operation(0),
+    }
+}
+
+// A refused step leaves the recorder as it was.
+fn not_taken(kept: Recorder, f: Refusal) -> Next
+    ensures { λ n. ⌜ (n .recorder ≡ kept) × (n .answer ≡ Stepped.Refused f) ⌝ }
+{
+    Next {
+        recorder: kept,
+        answer: Stepped::Refused(f),
+    }
+}
+
+// So does a refused closing.
+fn not_closed(r: Recorder, f: Refusal) -> Ended
+    ensures { λ e. ⌜ (e .recorder ≡ r) × (e .answer ≡ Closing.Refused f) ⌝ }
+{
+    Ended {
+        recorder: r,
+        answer: Closing::Refused(f),
+    }
+}
+
+// A recorder over the bytes, with no record yet.
+pub fn open_on(bytes: &[u8]) -> Opened
+    ensures { λ o. ⌜ ofOpening o (now (bytes .entry)) ≡ openLeft (now (bytes .entry)) ⌝ }
+{
+    let short = bytes.len() < 8;
+    let recorder = Recorder {
+        count: 0,
+        situation: 0,
+        owner: EventId(0),
+        closed: short,
+    };
+    if short {
+        return Opened {
+            recorder: recorder,
+            answer: Opening::Refused(refusal(trace::NO_SPACE)),
+        };
+    }
+    Opened {
+        recorder: recorder,
+        answer: Opening::Open,
+    }
+}
+
+// One step: the record is checked, and stored where there is space for it and a trailer.
+pub fn step_on(bytes: &mut [u8], r: Recorder, rec: Record) -> Next
+    ensures { λ n. ⌜ ofStep n (now (bytes .exit)) ≡ stepLeft (now (bytes .entry)) r rec ⌝ }
+{
+    if r.closed {
+        return not_taken(r, refusal(trace::CLOSED));
+    }
+    let n = stored_records(r);
+    let checked = look::check(bytes, n, r, rec);
+    match checked {
+        Checked::Refused(f) => not_taken(r, f),
+        Checked::Next(situation) => {
+            if !store::has_space(bytes, n) {
+                return not_taken(r, refusal(trace::NO_SPACE));
+            }
+            store::put_record(bytes, 5 * n, rec);
+            let count = (n + 1) as u16;
+            Next {
+                recorder: Recorder {
+                    count: count,
+                    situation: situation,
+                    owner: EventId(rec.first),
+                    closed: false,
+                },
+                answer: Stepped::Taken,
+            }
+        }
+    }
+}
+
+// The trailer is stored, and the recorder is closed.
+pub fn close_on(bytes: &mut [u8], r: Recorder) -> Ended
+    ensures { λ e. ⌜ ofClosing e (now (bytes .exit)) ≡ closeLeft (now (bytes .entry)) r ⌝ }
+{
+    if r.closed {
+        return not_closed(r, refusal(trace::CLOSED));
+    }
+    let n = stored_records(r);
+    if r.situation != 0 {
+        let last = Refusal {
+            number: trace::STOPS_INSIDE,
+            place: Operation(n as u16),
+        };
+        return not_closed(r, last);
+    }
+    let at = 5 * n;
+    if bytes.len() < at + 8 {
+        return not_closed(r, refusal(trace::NO_SPACE));
+    }
+    let begins = look::begins(bytes, n);
+    store::put_trailer(bytes, at, begins);
+    let owner = r.owner;
+    Ended {
+        recorder: Recorder {
+            count: r.count,
+            situation: r.situation,
+            owner: owner,
+            closed: true,
+        },
+        answer: Closing::Closed(at + 8),
+    }
+}
+
+// One step of the recorder that is lent.
+pub fn step(r: &mut Recorder, bytes: &mut [u8], rec: Record) -> Stepped
+    ensures { λ a. ⌜ left (steppedPaper a) (now (r .exit)) (now (bytes .exit)) ≡ stepLeft (now (bytes .entry)) (now (r .entry)) rec ⌝ }
+{
+    let next = step_on(bytes, *r, rec);
+    *r = next.recorder;
+    next.answer
+}
+
+// Closes the recorder that is lent.
+pub fn close(r: &mut Recorder, bytes: &mut [u8]) -> Closing
+    ensures { λ a. ⌜ left (closingPaper a) (now (r .exit)) (now (bytes .exit)) ≡ closeLeft (now (bytes .entry)) (now (r .entry)) ⌝ }
+{
+    let ended = close_on(bytes, *r);
+    *r = ended.recorder;
+    ended.answer
+}

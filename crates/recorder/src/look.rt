@@ -1,0 +1,100 @@
+// Looking back through the records that stand in the bytes.
+use crate::Recorder;
+use trace::Checked;
+use trace::Operation;
+use trace::Record;
+use trace::Trace;
+use trace::access;
+use trace::rule;
+ghost use mathlib.Core.Path.{_≡_};
+ghost use mathlib.Core.Bool.{_&&_, _||_};
+ghost use Prim.Native.Nat.{_+_, _≤_};
+ghost use lib.Dec.{eqb};
+ghost use lib.ListN.{length};
+ghost use Rattle.trace.specs.Bytes.{decode};
+ghost use Rattle.trace.specs.Records.{past, has};
+ghost use Rattle.trace.specs.Records.{begins as begin-count};
+ghost use Rattle.trace.specs.Place.{place};
+ghost use Rattle.trace.specs.Reading.{part};
+ghost use Rattle.trace.specs.Paper.{checkedPaper, verdict};
+ghost use Rattle.recorder.specs.Recording.{ofKind, before, judged};
+
+// The bytes of the first n records.
+fn records(bytes: &[u8], n: usize) -> &[u8]
+    ensures { λ r. ⌜ now r ≡ part (now (bytes .entry)) 0 n ⌝ }
+{
+    access::records(
+        bytes,
+        Trace {
+            start: 0,
+            records: n,
+            events: 0,
+        },
+    )
+}
+
+// Is one of the records of that kind, for event e?
+fn seen(recs: &[u8], kind: u8, e: u16) -> bool
+    ensures { λ b. ⌜ b ≡ has (ofKind kind) e (past (decode (now (recs .entry))) (length (decode (now (recs .entry))))) ⌝ }
+{
+    let mut i = access::count(recs);
+    while 0 < i {
+        i -= 1;
+        let k = access::kind_at(recs, i);
+        if k == kind {
+            let f = access::first_at(recs, i);
+            if f == e {
+                return true;
+            }
+        }
+    }
+    false
+}
+
+// The same where it is wanted, else false.
+fn seen_if(wanted: bool, recs: &[u8], kind: u8, e: u16) -> bool
+    ensures { λ b. ⌜ b ≡ (wanted && has (ofKind kind) e (past (decode (now (recs .entry))) (length (decode (now (recs .entry)))))) ⌝ }
+{
+    if !wanted {
+        return false;
+    }
+    seen(recs, kind, e)
+}
+
+// A begin or a join: a record before its event's others.
+fn starts(kind: u8) -> bool
+    ensures { λ b. ⌜ b ≡ (eqb kind 1 || eqb kind 4) ⌝ }
+{
+    if kind == 1 {
+        return true;
+    }
+    kind == 4
+}
+
+// The check of a record after the first n; what has begun and ended is looked for only where the rules ask.
+pub(crate) fn check(bytes: &[u8], n: usize, r: Recorder, rec: Record) -> Checked
+    requires { ⌜ n ≤ 4096 ⌝ }
+    ensures { λ c. ⌜ checkedPaper c ≡ verdict (judged (now (bytes .entry)) n r rec) (n + 1) (place (r .situation) (rec .kind)) ⌝ }
+{
+    let recs = records(bytes, n);
+    let first_begun = seen_if(starts(rec.kind), recs, 1, rec.first);
+    let second_begun = seen_if(rec.kind == 3, recs, 1, rec.second);
+    let second_ended = seen_if(rec.kind == 4, recs, 2, rec.second);
+    let owner = r.owner;
+    rule::check(
+        r.situation,
+        owner,
+        Operation((n + 1) as u16),
+        rec,
+        first_begun,
+        second_begun,
+        second_ended,
+    )
+}
+
+// How many of the first n records are begins.
+pub(crate) fn begins(bytes: &[u8], n: usize) -> usize
+    ensures { λ m. ⌜ m ≡ begin-count (before (now (bytes .entry)) n) ⌝ }
+{
+    access::count_begins(records(bytes, n))
+}
