@@ -12,3 +12,4 @@ pub mod PairEnds
 pub mod ListLaws
 pub mod EntryStores
 pub mod ListEnds
+pub mod PairCases
