@@ -15,3 +15,4 @@ pub mod PairEnds
 pub mod DemandLaws
 pub mod ThirdDemand
 pub mod Cases
+pub mod PairCases

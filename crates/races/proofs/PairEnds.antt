@@ -18,14 +18,17 @@ use Rattle.order.proofs.Filling.{enum}
 use denote.Enum.Declared.{tagOf, declared}
 use Rattle.order.specs.Ranks.{ranksOf}
 use Rattle.order.specs.Fill as fill
-use Rattle.order.specs.Fill.{FillReply, filled, eventsIn, shortRow, beginPosition, chainsUsed, traceClocks, spaceFor, fillTrace, fillRead, fillReply, clocksAfterTrace, clocksAfterRead, clocksAfter, chainsAfterReply, chainsAfterRead, chainsAfter}
+use Rattle.order.specs.Fill.{FillReply, filled, pickList, eventsIn, shortRow, beginPosition, chainsUsed, traceClocks, spaceFor, fillTrace, fillRead, fillReply, clocksAfterTrace, clocksAfterRead, clocksAfter, chainsAfterReply, chainsAfterRead, chainsAfter}
 use Rattle.order.specs.Paper.{fillPaper, FillsChains, FillsTrace}
-use Rattle.order.proofs.SpaceLaws.{has-room}
+use Rattle.order.proofs.SpaceLaws.{has-room, cleared-length}
+use Rattle.order.proofs.SpaceLaws.{cleared as cleared-zeros}
 use Rattle.races.specs.declared.pair.PairAnswer.{PairAnswer}
 use Rattle.races.specs.Filled as hand
 use Rattle.races.specs.Leading.{rows}
-use Rattle.races.specs.Pair.{PairReply, refused, pairPaper, entriesGiven, demand, isRecord, areRecords, pairFilled, pairTrace, passes22, pairClocks, pairWork, AnswersFilled, AnswersTrace, pairRead, pairReply, clocksAfterPair, workAfterPair, ListAfterPair, PairPromise}
-use Rattle.races.specs.PairSearch.{Cleared, ReadAs}
+use Rattle.races.specs.Pair.{PairReply, refused, pairPaper, entriesGiven, demand, isRecord, areRecords, pairFilled, pairTrace, pairClocks, pairWork, AnswersFilled, AnswersTrace, pairRead, pairReply, clocksAfterPair, workAfterPair, ListAfterPair, PairPromise}
+use Rattle.races.specs.PairSearch.{ReadAs}
+use Rattle.races.specs.Lists.{workFor, clocksTrace, workTrace}
+use Rattle.races.specs.ListPass.{Clear}
 
 -- the two records are in the trace
 pub record InTrace (tr : List Record) (a b : ℕ) : Type 0 where
@@ -119,33 +122,36 @@ module _ {tr : List Record} {events width : ℕ} {clocks clocks′ of : List ℕ
     clocks-are = fills .clocks-after ∙ rw (f, enough) refl;
   }
 
-pub clear-work : (tr : List Record) (events : ℕ) (work work′ : List ℕ) → events ≡ eventsIn tr → work′ ≡ replicate events 0 ++ drop events work → Cleared tr events work′
+pub clear-work : (tr : List Record) (events : ℕ) (work work′ : List ℕ) → events ≡ eventsIn tr → events ≤ length work → work′ ≡ replicate events 0 ++ drop events work → Clear tr events work′
 unfolding eventsIn
-clear-work tr events work work′ are zeros = record {
-  rows-are = are;
-  room = rw zeros (simp (length-append, length-drop) (omega (arith, length-replicate {A = ℕ} events 0)));
-  zeros = zeros ∙ ap (λ (x : List ℕ). replicate events 0 ++ x) (sym (ap (drop events) zeros ∙ drop-at (replicate {A = ℕ} events 0) (drop events work) events (length-replicate {A = ℕ} events 0)));
+clear-work tr events work work′ are room zeros = record {
+  events-are = are;
+  work-room = rw (← are) (omega (arith, cleared-length events work work′ room zeros));
+  zeros = rw (← are) (cleared-zeros events work work′ room zeros);
 }
+
+pick-same : (x : Bool) (l : List ℕ) → l ≡ pickList x l l
+pick-same true l = refl
+pick-same false l = refl
 
 module _ (tr : List Record) (events width : ℕ) (clocks work list : List ℕ) (a b : ℕ) (r : PairAnswer) where
   abbrev Unchanged : Type 0
   Unchanged = AnswersTrace tr events width clocks clocks work work list list a b r
 
-  unchanged : (n : ℕ) → passes22 tr events width (length clocks) (length work) a b ≡ false → pairTrace tr events width (length clocks) (length work) (length list) a b ≡ refused n 0 → pairPaper r ≡ refused n 0 → Unchanged
-  unfolding pairClocks pairWork
-  unchanged n e f g = record { answer = g ∙ sym f; clocks-after = rw e refl; work-after = rw e refl; list-after = rw f refl }
+  unchanged : (n : ℕ) → clocks ≡ pairClocks tr events width clocks (length work) a b → work ≡ pairWork tr events width (length clocks) work a b → pairTrace tr events width (length clocks) (length work) (length list) a b ≡ refused n 0 → pairPaper r ≡ refused n 0 → Unchanged
+  unchanged n c w f g = record { answer = g ∙ sym f; clocks-after = c; work-after = w; list-after = rw f refl }
 
   pub no-records : areRecords tr a b ≡ false → pairPaper r ≡ refused 11 0 → Unchanged
-  unfolding passes22 pairTrace demand
-  no-records e = unchanged 11 (rw e) (rw e)
+  unfolding pairClocks pairWork pairTrace demand
+  no-records e = unchanged 11 (rw e refl) (rw e refl) (rw e)
 
   pub no-clocks : areRecords tr a b ≡ true → spaceFor width events (length clocks) ≡ false → pairPaper r ≡ refused 21 0 → Unchanged
-  unfolding passes22 pairTrace demand
-  no-clocks e f = unchanged 21 (rw (e, f)) (rw (e, f))
+  unfolding pairClocks clocksTrace clocksAfterTrace pairWork workTrace pairTrace demand
+  no-clocks e f = unchanged 21 (rw (e, f) (pick-same (workFor events (length work)) clocks)) (rw (e, f) refl) (rw (e, f))
 
   pub no-work : areRecords tr a b ≡ true → spaceFor width events (length clocks) ≡ true → length work < events → pairPaper r ≡ refused 22 0 → Unchanged
-  unfolding passes22 pairTrace demand
-  no-work e f l = let g = lt-leb events (length work) l in unchanged 22 (rw (e, f, g)) (rw (e, f, g))
+  unfolding pairClocks clocksTrace pairWork workTrace pairTrace demand
+  no-work e f l = let g = lt-leb events (length work) l in unchanged 22 (rw (e, g) refl) (rw (e, f, g) refl) (rw (e, f, g))
 
   -- past 22: the work space is cleared, and the clocks are as filling leaves them
   module _ (e : areRecords tr a b ≡ true) (f : spaceFor width events (length clocks) ≡ true) (room : events ≤ length work) (work′ : List ℕ) (zeros : work′ ≡ replicate events 0 ++ drop events work)
@@ -153,17 +159,13 @@ module _ (tr : List Record) (events width : ℕ) (clocks work list : List ℕ) (
     g : leb events (length work) ≡ true
     g = le-leb events (length work) room
 
-    past22 : passes22 tr events width (length clocks) (length work) a b ≡ true
-    unfolding passes22
-    past22 = rw (e, f, g)
-
     after-clocks : clocks′ ≡ pairClocks tr events width clocks (length work) a b
-    unfolding pairClocks
-    after-clocks = rw past22 (fills .clocks-after)
+    unfolding pairClocks clocksTrace
+    after-clocks = rw (e, g) (fills .clocks-after)
 
     after-work : work′ ≡ pairWork tr events width (length clocks) work a b
-    unfolding pairWork
-    after-work = rw past22 zeros
+    unfolding pairWork workTrace
+    after-work = rw (e, f, g) zeros
 
     -- 23
     pub too-few : (n p : ℕ) → fillPaper said ≡ FillReply.refused n p → pairPaper r ≡ refused n p → AnswersTrace tr events width clocks clocks′ work work′ list list a b r

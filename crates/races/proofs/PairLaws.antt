@@ -1,18 +1,19 @@
 -- How the pair question on an accepted trace ends. Assumes nothing.
 use Prim.Native.Nat.{ℕ, zero, suc, _+_, _*_, _-_, _/_, _≤_, _<_}
-use mathlib.Core.Path.{_≡_, refl, sym, ap, _∙_, subst}
+use mathlib.Core.Path.{_≡_, refl, sym, ap, ap₂, _∙_, subst}
 use mathlib.Core.Bool.{Bool, true, false, _&&_}
 use mathlib.Core.List.{List, _++_}
 use native.Mathlib.Omega.{arith}
 use borrow.Author.Tests.{eqb-true, le-leb, lt-leb, le-ltb}
 use lib.Dec.{T, leb, ltb, eqb}
 use lib.ListN.{length, take, drop, replicate}
+use lib.Seq.{drop-at}
 use Rattle.trace.specs.declared.Record.{Record}
-use Rattle.trace.specs.Records.{at}
+use Rattle.trace.specs.Records.{at, eventOf}
 use Rattle.trace.specs.Reading.{Acceptable}
 use Rattle.order.specs.Ranks.{ranksOf}
 use Rattle.coverage.specs.Race.{Race, raceb}
-use Rattle.coverage.specs.Leading.{coveredb, entries}
+use Rattle.coverage.specs.Leading.{leads, coveredb, entries}
 use Rattle.coverage.specs.Neighbours.{conflicts}
 use Rattle.coverage.proofs.Tests.{both}
 use Rattle.coverage.proofs.Order.{race-of}
@@ -22,9 +23,14 @@ use Rattle.races.specs.Traces.{isAccess, cellsOf, settingOf}
 use Rattle.races.specs.Filled.{Filled}
 use Rattle.races.specs.Leading.{rows, leadingMarks, Ready}
 use Rattle.races.specs.Pair.{PairReply, refused, isOpen, isCovered, pairPaper, entriesGiven, demand, answered, withEntries, keptEntries, pairFilled, GivesCover, ListAfter, AnswersRace, AnswersFilled}
-use Rattle.races.specs.PairSearch.{MarksOf, Cleared}
+use Rattle.races.specs.LeadingPass.{markedEvent}
+use Rattle.races.specs.ListPass.{Marks, Clear}
 use Rattle.races.proofs.PassLaws.{marked-covered}
-use Rattle.races.proofs.WorkLaws.{cleared, zeros-front, marked-room}
+use Rattle.races.proofs.WorkLaws.{leading-long, cleared, zeros-front, marked-room}
+
+-- The marks, read.
+pub marks-tell : {tr : List Record} {ranks work : List ℕ} {b : ℕ} → Marks tr ranks work b → (x : ℕ) → x < length tr → markedEvent ranks work (eventOf (at tr x)) ≡ leads (settingOf tr) b (eventOf (at tr x))
+marks-tell {tr} {ranks} {work} {b} m x l = ap₂ (λ (r w : List ℕ). markedEvent r w (eventOf (at tr x))) (m .ranks-are) (m .work-is) ∙ marked-covered (m .acceptable) b (drop (rows tr) work) x l
 
 -- A race, by its mark.
 module _ (tr : List Record) (a b : ℕ) (list list′ : List ℕ) (k : ℕ) where
@@ -58,7 +64,7 @@ unfolding raceb
 out-of-order tr a b l = rw (le-ltb a b l)
 
 -- The work space: ready to be marked, marked, and clear again.
-module _ {tr : List Record} (acc : Acceptable tr) {events : ℕ} {work : List ℕ} (w : Cleared tr events work) where
+module _ {tr : List Record} (acc : Acceptable tr) {events : ℕ} {work : List ℕ} (w : Clear tr events work) where
   pub ready : (a b : ℕ) → raceb (settingOf tr) a b ≡ true → (ranks : List ℕ) → ranks ≡ ranksOf tr → Ready tr ranks b work
   unfolding conflicts
   ready a b e ranks are =
@@ -68,16 +74,16 @@ module _ {tr : List Record} (acc : Acceptable tr) {events : ℕ} {work : List �
         acceptable = acc;
         ranked = are;
         access = both (isAccess (at tr a)) (isAccess (at tr b)) (p .0) .1;
-        room = rw (← w .rows-are) (w .room);
-        clear = rw (← w .rows-are) (ap (take events) (w .zeros) ∙ zeros-front events (drop events work));
+        room = w .work-room;
+        clear = ap (take (rows tr)) (w .zeros) ∙ zeros-front (rows tr) (drop (rows tr) work);
       }
 
   module _ (b : ℕ) (marked : List ℕ) (e : marked ≡ leadingMarks tr b ++ drop (rows tr) work) where
-    pub marks-of : b < length tr → (ranks : List ℕ) → ranks ≡ ranksOf tr → MarksOf tr ranks b marked
-    marks-of h ranks are = record { acceptable = acc; inside = h; tells = λ x l. rw (are, e) (marked-covered acc b (drop (rows tr) work) x l) }
+    pub marks-of : b < length tr → (ranks : List ℕ) → ranks ≡ ranksOf tr → Marks tr ranks marked b
+    marks-of h ranks are = record { acceptable = acc; ranks-are = are; inside = h; work-is = e ∙ ap (λ (x : List ℕ). leadingMarks tr b ++ x) (sym (ap (drop (rows tr)) e ∙ drop-at (leadingMarks tr b) (drop (rows tr) work) (rows tr) (leading-long tr b))) }
 
     pub marked-long : length marked ≡ length work
-    marked-long = ap length e ∙ marked-room tr b work (rw (← w .rows-are) (w .room))
+    marked-long = ap length e ∙ marked-room tr b work (w .work-room)
 
     pub clear-again : (after : List ℕ) → after ≡ replicate events 0 ++ drop events marked → after ≡ work
-    clear-again after f = f ∙ rw (e, w .rows-are) (cleared tr b work) ∙ sym (rw (w .rows-are) at (w .zeros))
+    clear-again after f = f ∙ rw (e, w .events-are) (cleared tr b work) ∙ sym (w .zeros)

@@ -4,17 +4,18 @@ use mathlib.Core.Path.{_≡_}
 use mathlib.Core.Bool.{Bool, true, false, _&&_}
 use mathlib.Core.List.{List, [], _∷_, _++_, map}
 use lib.Dec.{leb, eqb}
-use lib.ListN.{length, drop, replicate}
+use lib.ListN.{length, drop}
 use Rattle.trace.specs.declared.Record.{Record}
 use Rattle.trace.specs.Reading as reading
 use Rattle.trace.specs.Reading.{Reply, recordsIn, readReply}
-use Rattle.order.specs.Fill.{shortRow, beginPosition, spaceFor, pickList, clocksAfterTrace}
+use Rattle.order.specs.Fill.{shortRow, beginPosition, spaceFor, pickList}
 use Rattle.coverage.specs.Race.{raceb}
 use Rattle.coverage.specs.Cover.{Covers}
 use Rattle.coverage.specs.Leading.{coveredb, entries}
 use Rattle.races.specs.declared.pair.PairAnswer.{PairAnswer}
 use Rattle.races.specs.declared.pair.PairAnswer.the-variants.{Open, Covered, Refused}
 use Rattle.races.specs.Traces.{settingOf}
+use Rattle.races.specs.Lists.{workFor, clocksTrace, workTrace}
 
 -- a refusal's number and place; open, with the number of entries; or covered, where "Only one part is free, the cover given for a covered pair"
 pub data PairReply : Type 0 where
@@ -64,22 +65,16 @@ unfoldable pub pairTrace : List Record → ℕ → ℕ → ℕ → ℕ → ℕ �
 pairTrace tr events width clockSpace workSpace listSpace a b =
     demand (areRecords tr a b) 11 0
     (demand (spaceFor width events clockSpace) 21 0
-    (demand (leb events workSpace) 22 0
+    (demand (workFor events workSpace) 22 0
     (demand (eqb (shortRow tr width) events) 23 (beginPosition tr (shortRow tr width) + 1)
     (pairFilled tr events listSpace (a - 1) (b - 1)))))
 
--- does the call pass 11, 21 and 22?
-unfoldable pub passes22 : List Record → ℕ → ℕ → ℕ → ℕ → ℕ → ℕ → Bool
-passes22 tr events width clockSpace workSpace a b = areRecords tr a b && (spaceFor width events clockSpace && leb events workSpace)
-
--- "23: .. The first event actions × width clocks are then 0"; "12: .. The clocks stay filled."; "24: .. The clocks stay filled."; "Except where stated,
--- lent memory is unchanged."
+-- Clocks and work space end as those of a list do, once 11 is passed. "12: .. The clocks stay filled."; "Except where stated, lent memory is unchanged."
 unfoldable pub pairClocks : List Record → ℕ → ℕ → List ℕ → ℕ → ℕ → ℕ → List ℕ
-pairClocks tr events width clocks workSpace a b = pickList (passes22 tr events width (length clocks) workSpace a b) (clocksAfterTrace tr events width clocks) clocks
+pairClocks tr events width clocks workSpace a b = pickList (areRecords tr a b) (clocksTrace tr events width workSpace clocks) clocks
 
--- "After any call that passes 22 the work space is 0 over one byte per event action; .. all other bytes are unchanged."
 unfoldable pub pairWork : List Record → ℕ → ℕ → ℕ → List ℕ → ℕ → ℕ → List ℕ
-pairWork tr events width clockSpace work a b = pickList (passes22 tr events width clockSpace (length work) a b) (replicate events 0 ++ drop events work) work
+pairWork tr events width clockSpace work a b = pickList (areRecords tr a b) (workTrace tr events width clockSpace work) work
 
 -- entries in the list space, two numbers for each
 abbrev pub flat : List (ℕ × ℕ) → List ℕ

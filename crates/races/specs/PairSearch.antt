@@ -4,31 +4,17 @@ use mathlib.Core.Path.{_≡_}
 use mathlib.Core.Bool.{Bool, _&&_}
 use mathlib.Core.List.{List, _++_, map}
 use lib.Dec.{T}
-use lib.ListN.{length, drop, replicate}
+use lib.ListN.{length}
 use Rattle.trace.specs.declared.Record.{Record}
 use Rattle.trace.specs.Records.{at, eventOf}
-use Rattle.trace.specs.Reading.{accepted, recordsIn, readReply, Acceptable}
+use Rattle.trace.specs.Reading.{accepted, recordsIn, readReply}
 use Rattle.order.specs.HappensBefore.{rank, happensBefore}
 use Rattle.coverage.specs.Below.{upto}
 use Rattle.coverage.specs.Race.{before, Race, raceb}
 use Rattle.coverage.specs.Cover.{CoversFrom}
 use Rattle.coverage.specs.Leading.{leads, lastKept}
 use Rattle.races.specs.Traces.{settingOf}
-use Rattle.races.specs.Leading.{rows}
-use Rattle.races.specs.LeadingPass.{markedEvent}
 use Rattle.races.specs.Pair.{withEntries, raceEntries}
-
--- the work space holds the marks of the event actions that lead to b
-pub record MarksOf (tr : List Record) (ranks : List ℕ) (b : ℕ) (work : List ℕ) : Type 0 where
-  pub acceptable : Acceptable tr
-  pub inside : b < length tr
-  pub tells : (x : ℕ) → x < length tr → markedEvent ranks work (eventOf (at tr x)) ≡ leads (settingOf tr) b (eventOf (at tr x))
-
--- the work space is 0 over one byte for each event action
-pub record Cleared (tr : List Record) (events : ℕ) (work : List ℕ) : Type 0 where
-  pub rows-are : events ≡ rows tr
-  pub room : events ≤ length work
-  pub zeros : work ≡ replicate events 0 ++ drop events work
 
 -- the trace that was read in the bytes
 pub record ReadAs (bytes : List ℕ) (tr : List Record) (events : ℕ) : Type 0 where

@@ -12,7 +12,8 @@ ghost use Rattle.races.specs.Traces.{settingOf};
 ghost use Rattle.races.specs.Filled.{Filled};
 ghost use Rattle.races.specs.Leading.{rows};
 ghost use Rattle.races.specs.Pair.{GivesCover};
-ghost use Rattle.races.specs.PairSearch.{MarksOf, racesOn, Second, Sought, Next};
+ghost use Rattle.races.specs.PairSearch.{racesOn, Second, Sought, Next};
+ghost use Rattle.races.specs.ListPass.{Marks};
 ghost use lib.Dec.{T};
 
 // A race: its two records.
@@ -33,7 +34,7 @@ fn races_on(
     c: usize,
     d: usize,
 ) -> bool
-    requires { ⌜ Filled (decode (now recs)) (now ranks) (now of) width (now clocks) × MarksOf (decode (now recs)) (now ranks) b (now work) ⌝ }
+    requires { ⌜ Filled (decode (now recs)) (now ranks) (now of) width (now clocks) × Marks (decode (now recs)) (now ranks) (now work) b ⌝ }
     requires { ⌜ (c < d) × (d < b) ⌝ }
     ensures { λ r. ⌜ r ≡ racesOn (decode (now (recs .entry))) b c d ⌝ }
 {
@@ -55,7 +56,7 @@ fn find_second(
     b: usize,
     c: usize,
 ) -> usize
-    requires { ⌜ Filled (decode (now recs)) (now ranks) (now of) width (now clocks) × MarksOf (decode (now recs)) (now ranks) b (now work) ⌝ }
+    requires { ⌜ Filled (decode (now recs)) (now ranks) (now of) width (now clocks) × Marks (decode (now recs)) (now ranks) (now work) b ⌝ }
     requires { ⌜ (t < b) × (c < b) ⌝ }
     ensures { λ r. ⌜ Second (decode (now (recs .entry))) b t c r ⌝ }
 {
@@ -83,7 +84,7 @@ fn find_race(
     t: usize,
     b: usize,
 ) -> Step
-    requires { ⌜ Filled (decode (now recs)) (now ranks) (now of) width (now clocks) × MarksOf (decode (now recs)) (now ranks) b (now work) ⌝ }
+    requires { ⌜ Filled (decode (now recs)) (now ranks) (now of) width (now clocks) × Marks (decode (now recs)) (now ranks) (now work) b ⌝ }
     requires { ⌜ Sought (decode (now recs)) b t ⌝ }
     ensures { λ r. ⌜ Next (decode (now (recs .entry))) b t (r .first) (r .second) ⌝ }
 {
@@ -116,7 +117,7 @@ pub(crate) fn put_cover(
     a: usize,
     b: usize,
 ) -> usize
-    requires { ⌜ Filled (decode (now recs)) (now ranks) (now of) width (now clocks) × MarksOf (decode (now recs)) (now ranks) b (now work) ⌝ }
+    requires { ⌜ Filled (decode (now recs)) (now ranks) (now of) width (now clocks) × Marks (decode (now recs)) (now ranks) (now work) b ⌝ }
     requires { ⌜ Race (settingOf (decode (now recs))) a b × T (coveredb (settingOf (decode (now recs))) a b) × (2 * rows (decode (now recs)) ≤ length (now list)) ⌝ }
     ensures { λ r. ⌜ GivesCover (decode (now (recs .entry))) a b r (now (list .entry)) (now (list .exit)) ⌝ }
 {

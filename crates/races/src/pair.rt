@@ -5,6 +5,7 @@ use crate::racing;
 use crate::workspace;
 use order::Filling;
 use order::ranks;
+use order::rows::has_space;
 use trace::Operation;
 use trace::Reading;
 use trace::Refusal;
@@ -16,7 +17,7 @@ ghost use lib.Dec.{leb};
 ghost use lib.ListN.{length, set, drop, replicate};
 ghost use Rattle.trace.specs.Bytes.{decode};
 ghost use Rattle.trace.specs.Reading.{Acceptable};
-ghost use Rattle.order.specs.Fill.{eventsIn, spaceFor};
+ghost use Rattle.order.specs.Fill.{eventsIn};
 ghost use Rattle.order.specs.Ranks.{ranksOf};
 ghost use Rattle.coverage.specs.Race.{Race, raceb};
 ghost use Rattle.coverage.specs.Leading.{lastKept, entries};
@@ -24,7 +25,8 @@ ghost use Rattle.races.specs.Traces.{settingOf};
 ghost use Rattle.races.specs.Filled.{Filled};
 ghost use Rattle.races.specs.Leading.{rows};
 ghost use Rattle.races.specs.Pair.{isRecord, areRecords, pairPaper, PairReply, withEntries, keptEntries, AnswersRace, AnswersFilled, AnswersTrace, PairPromise};
-ghost use Rattle.races.specs.PairSearch.{MarksOf, keptBelow, Cleared, ReadAs};
+ghost use Rattle.races.specs.PairSearch.{keptBelow, ReadAs};
+ghost use Rattle.races.specs.ListPass.{Marks, Clear};
 
 // What the pair question finds: open or covered, with the number of entries given, or why it is refused.
 pub enum PairAnswer {
@@ -44,7 +46,7 @@ pub(crate) fn put_entry(list: &mut [u16], k: usize, first: u16, second: u16)
 
 // Is record i, not after b, the last one kept of its event action?
 fn is_last_kept(recs: &[u8], ranks: &[u16], work: &[u8], b: usize, i: usize) -> bool
-    requires { ⌜ MarksOf (decode (now recs)) (now ranks) b (now work) × (i ≤ b) ⌝ }
+    requires { ⌜ Marks (decode (now recs)) (now ranks) (now work) b × (i ≤ b) ⌝ }
     ensures { λ r. ⌜ r ≡ lastKept (settingOf (decode (now (recs .entry)))) b i ⌝ }
 {
     if !leading::is_leading(recs, ranks, work, i) {
@@ -66,7 +68,7 @@ fn put_kept_at(
     list: &mut [u16],
     k: usize,
 ) -> usize
-    requires { ⌜ MarksOf (decode (now recs)) (now ranks) b (now work) × (i ≤ b) ⌝ }
+    requires { ⌜ Marks (decode (now recs)) (now ranks) (now work) b × (i ≤ b) ⌝ }
     requires { ⌜ (k ≡ length (keptBelow (decode (now recs)) b i)) × (2 * rows (decode (now recs)) ≤ length (now list)) ⌝ }
     ensures { λ r. ⌜ (r ≡ length (keptBelow (decode (now (recs .entry))) b (suc i))) × ((entry : List ℕ) → now (list .entry) ≡ withEntries (keptBelow (decode (now (recs .entry))) b i) entry → now (list .exit) ≡ withEntries (keptBelow (decode (now (recs .entry))) b (suc i)) entry) ⌝ }
 {
@@ -79,7 +81,7 @@ fn put_kept_at(
 
 // Writes the entries of an open pair whose second record is b; gives their number.
 fn put_kept(recs: &[u8], ranks: &[u16], work: &[u8], b: usize, list: &mut [u16]) -> usize
-    requires { ⌜ MarksOf (decode (now recs)) (now ranks) b (now work) × (2 * rows (decode (now recs)) ≤ length (now list)) ⌝ }
+    requires { ⌜ Marks (decode (now recs)) (now ranks) (now work) b × (2 * rows (decode (now recs)) ≤ length (now list)) ⌝ }
     ensures { λ r. ⌜ (r ≡ length (entries (settingOf (decode (now (recs .entry)))) b)) × (now (list .exit) ≡ withEntries (keptEntries (decode (now (recs .entry))) b) (now (list .entry))) ⌝ }
 {
     let mut k = 0;
@@ -103,7 +105,7 @@ fn put_entries(
     a: usize,
     b: usize,
 ) -> PairAnswer
-    requires { ⌜ Filled (decode (now recs)) (now ranks) (now of) width (now clocks) × MarksOf (decode (now recs)) (now ranks) b (now work) ⌝ }
+    requires { ⌜ Filled (decode (now recs)) (now ranks) (now of) width (now clocks) × Marks (decode (now recs)) (now ranks) (now work) b ⌝ }
     requires { ⌜ Race (settingOf (decode (now recs))) a b × (2 * rows (decode (now recs)) ≤ length (now list)) ⌝ }
     ensures { λ r. ⌜ AnswersRace (decode (now (recs .entry))) a b (now (list .entry)) (now (list .exit)) r ⌝ }
 {
@@ -164,7 +166,7 @@ fn ask_filled(
     b: usize,
 ) -> PairAnswer
     requires { ⌜ Filled (decode (now recs)) (ranksOf (decode (now recs))) (now of) width (now clocks) × (b < length (decode (now recs))) ⌝ }
-    requires { ⌜ Cleared (decode (now recs)) events (now work) ⌝ }
+    requires { ⌜ Clear (decode (now recs)) events (now work) ⌝ }
     ensures { λ r. ⌜ AnswersFilled (decode (now (recs .entry))) events a b (now (list .entry)) (now (list .exit)) r × (now (work .exit) ≡ now (work .entry)) ⌝ }
 {
     let all = ranks::ranks(recs);
@@ -198,20 +200,6 @@ fn are_records(recs: &[u8], a: u16, b: u16) -> bool
     is_record(recs, b)
 }
 
-// Is the width 1 to 1,024, and are there clocks enough for the event actions?
-fn has_clocks(width: usize, events: usize, space: usize) -> bool
-    requires { ⌜ events ≤ 1024 ⌝ }
-    ensures { λ r. ⌜ r ≡ spaceFor width events space ⌝ }
-{
-    if width < 1 {
-        return false;
-    }
-    if 1024 < width {
-        return false;
-    }
-    events * width <= space
-}
-
 // Records a and b of an accepted trace.
 fn ask_trace(
     bytes: &[u8],
@@ -230,7 +218,7 @@ fn ask_trace(
     if !are_records(recs, a, b) {
         return refused(trace::NOT_IN_TRACE);
     }
-    if !has_clocks(width, events, clocks.len()) {
+    if !has_space(width, events, clocks.len()) {
         return refused(trace::CLOCK_SPACE);
     }
     if work.len() < events {

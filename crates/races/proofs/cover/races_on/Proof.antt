@@ -1,5 +1,6 @@
 -- `races::cover::races_on` meets its contract.
 -- Assumes nothing.
+use Rattle.races.proofs.PairLaws.{marks-tell}
 use denote.Ref.{now}
 use native.Mathlib.Omega.{arith}
 use Prim.Native.Nat.{_<_}
@@ -23,7 +24,7 @@ returns : tie.Need-returns
 unfolding racesOn
 returns c =
     let l : c .before .before .before .before .before .before .before .args .d < length (decode (now (c .before .before .before .before .before .before .before .args .recs))) = omega (arith, c .before .before .before .before .before .before .before .pre .0 .1 .inside, c .before .before .before .before .before .before .before .pre .1 .1) in
-    let e : leads (settingOf (decode (now (c .before .before .before .before .before .before .before .args .recs)))) (c .before .before .before .before .before .before .before .args .b) (eventOf (at (decode (now (c .before .before .before .before .before .before .before .args .recs))) (c .before .before .before .before .before .before .before .args .d))) ≡ false = sym (c .before .before .before .before .before .before .before .pre .0 .1 .tells (c .before .before .before .before .before .before .before .args .d) l) ∙ (sym (c .before .is-leading .ensures) ∙ not-true (c .before .is-leading .result) (c .if1 .taken)) in
+    let e : leads (settingOf (decode (now (c .before .before .before .before .before .before .before .args .recs)))) (c .before .before .before .before .before .before .before .args .b) (eventOf (at (decode (now (c .before .before .before .before .before .before .before .args .recs))) (c .before .before .before .before .before .before .before .args .d))) ≡ false = sym (marks-tell (c .before .before .before .before .before .before .before .pre .0 .1) (c .before .before .before .before .before .before .before .args .d) l) ∙ (sym (c .before .is-leading .ensures) ∙ not-true (c .before .is-leading .result) (c .if1 .taken)) in
     rw e
 
 is-race-requires : tie.Need-is-race-requires
@@ -35,7 +36,7 @@ returns-2 : tie.Need-returns-2
 unfolding racesOn
 returns-2 c =
     let l : c .before .before .before .before .before .before .before .before .args .d < length (decode (now (c .before .before .before .before .before .before .before .before .args .recs))) = omega (arith, c .before .before .before .before .before .before .before .before .pre .0 .1 .inside, c .before .before .before .before .before .before .before .before .pre .1 .1) in
-    let e : leads (settingOf (decode (now (c .before .before .before .before .before .before .before .before .args .recs)))) (c .before .before .before .before .before .before .before .before .args .b) (eventOf (at (decode (now (c .before .before .before .before .before .before .before .before .args .recs))) (c .before .before .before .before .before .before .before .before .args .d))) ≡ true = sym (c .before .before .before .before .before .before .before .before .pre .0 .1 .tells (c .before .before .before .before .before .before .before .before .args .d) l) ∙ (sym (c .before .before .is-leading .ensures) ∙ not-false (c .before .before .is-leading .result) (c .before .if1 .left)) in
+    let e : leads (settingOf (decode (now (c .before .before .before .before .before .before .before .before .args .recs)))) (c .before .before .before .before .before .before .before .before .args .b) (eventOf (at (decode (now (c .before .before .before .before .before .before .before .before .args .recs))) (c .before .before .before .before .before .before .before .before .args .d))) ≡ true = sym (marks-tell (c .before .before .before .before .before .before .before .before .pre .0 .1) (c .before .before .before .before .before .before .before .before .args .d) l) ∙ (sym (c .before .before .is-leading .ensures) ∙ not-false (c .before .before .is-leading .result) (c .before .if1 .left)) in
     rw e (c .is-race .ensures)
 
 pub races-on-spec : {M : Type 1} → statement M

@@ -8,7 +8,6 @@ use mathlib.Core.Bool.{true}
 use mathlib.Core.Path.{_≡_, refl, sym, ap, _∙_}
 use borrow.Author.Tests.{not-true, not-false}
 use Rattle.trace.specs.Bytes.{decode}
-use Rattle.order.proofs.AskLaws.{events-few}
 use Rattle.order.specs.Paper.{fillPaper}
 use Rattle.order.specs.Fill.{spaceFor}
 use Rattle.races.specs.Pair.{areRecords}
@@ -26,20 +25,20 @@ refused-requires c κs = search needs
 returns : tie.Need-returns
 returns c = no-records (decode (now (c .before .before .before .before .before .before .before .before .args .recs))) (c .before .before .before .before .before .before .before .before .args .events) (c .before .before .before .before .before .before .before .before .args .width) (now (c .before .before .before .before .before .before .before .before .args .clocks)) (now (c .before .before .before .before .before .before .before .before .args .work)) (now (c .before .before .before .before .before .before .before .before .args .list)) (c .before .before .before .before .before .before .before .before .args .a) (c .before .before .before .before .before .before .before .before .args .b) (c .refused .result) (sym (c .before .before .are-records .ensures) ∙ not-true (c .before .before .are-records .result) (c .before .if1 .taken)) (c .refused .ensures)
 
-has-clocks-requires : tie.Need-has-clocks-requires
-has-clocks-requires c κs = omega (arith, read-events (c .before .before .before .before .before .before .before .pre), events-few (read-acceptable (c .before .before .before .before .before .before .before .pre)))
+has-space-requires : tie.Need-has-space-requires
+has-space-requires c κs = search needs
 
 refused-requires-2 : tie.Need-refused-requires-2
 refused-requires-2 c κs = search needs
 
 returns-2 : tie.Need-returns-2
-returns-2 c = no-clocks (decode (now (c .before .before .before .before .before .before .before .before .before .before .args .recs))) (c .before .before .before .before .before .before .before .before .before .before .args .events) (c .before .before .before .before .before .before .before .before .before .before .args .width) (now (c .before .before .before .before .before .before .before .before .before .before .args .clocks)) (now (c .before .before .before .before .before .before .before .before .before .before .args .work)) (now (c .before .before .before .before .before .before .before .before .before .before .args .list)) (c .before .before .before .before .before .before .before .before .before .before .args .a) (c .before .before .before .before .before .before .before .before .before .before .args .b) (c .refused2 .result) (sym (c .before .before .before .before .are-records .ensures) ∙ not-false (c .before .before .before .before .are-records .result) (c .before .before .before .if1 .left)) (sym (c .before .before .has-clocks .ensures) ∙ not-true (c .before .before .has-clocks .result) (c .before .if2 .taken)) (c .refused2 .ensures)
+returns-2 c = no-clocks (decode (now (c .before .before .before .before .before .before .before .before .before .before .args .recs))) (c .before .before .before .before .before .before .before .before .before .before .args .events) (c .before .before .before .before .before .before .before .before .before .before .args .width) (now (c .before .before .before .before .before .before .before .before .before .before .args .clocks)) (now (c .before .before .before .before .before .before .before .before .before .before .args .work)) (now (c .before .before .before .before .before .before .before .before .before .before .args .list)) (c .before .before .before .before .before .before .before .before .before .before .args .a) (c .before .before .before .before .before .before .before .before .before .before .args .b) (c .refused2 .result) (sym (c .before .before .before .before .are-records .ensures) ∙ not-false (c .before .before .before .before .are-records .result) (c .before .before .before .if1 .left)) (sym (c .before .before .has-space .ensures) ∙ not-true (c .before .before .has-space .result) (c .before .if2 .taken)) (c .refused2 .ensures)
 
 refused-requires-3 : tie.Need-refused-requires-3
 refused-requires-3 c κs = search needs
 
 returns-3 : tie.Need-returns-3
-returns-3 c = no-work (decode (now (c .before .before .before .before .before .before .before .before .before .before .before .args .recs))) (c .before .before .before .before .before .before .before .before .before .before .before .args .events) (c .before .before .before .before .before .before .before .before .before .before .before .args .width) (now (c .before .before .before .before .before .before .before .before .before .before .before .args .clocks)) (now (c .before .before .before .before .before .before .before .before .before .before .before .args .work)) (now (c .before .before .before .before .before .before .before .before .before .before .before .args .list)) (c .before .before .before .before .before .before .before .before .before .before .before .args .a) (c .before .before .before .before .before .before .before .before .before .before .before .args .b) (c .refused3 .result) (sym (c .before .before .before .before .before .are-records .ensures) ∙ not-false (c .before .before .before .before .before .are-records .result) (c .before .before .before .before .if1 .left)) (sym (c .before .before .before .has-clocks .ensures) ∙ not-false (c .before .before .before .has-clocks .result) (c .before .before .if2 .left)) (c .before .if3 .taken) (c .refused3 .ensures)
+returns-3 c = no-work (decode (now (c .before .before .before .before .before .before .before .before .before .before .before .args .recs))) (c .before .before .before .before .before .before .before .before .before .before .before .args .events) (c .before .before .before .before .before .before .before .before .before .before .before .args .width) (now (c .before .before .before .before .before .before .before .before .before .before .before .args .clocks)) (now (c .before .before .before .before .before .before .before .before .before .before .before .args .work)) (now (c .before .before .before .before .before .before .before .before .before .before .before .args .list)) (c .before .before .before .before .before .before .before .before .before .before .before .args .a) (c .before .before .before .before .before .before .before .before .before .before .before .args .b) (c .refused3 .result) (sym (c .before .before .before .before .before .are-records .ensures) ∙ not-false (c .before .before .before .before .before .are-records .result) (c .before .before .before .before .if1 .left)) (sym (c .before .before .before .has-space .ensures) ∙ not-false (c .before .before .before .has-space .result) (c .before .before .if2 .left)) (c .before .if3 .taken) (c .refused3 .ensures)
 
 clear-marks-requires : tie.Need-clear-marks-requires
 clear-marks-requires c κs = search needs
@@ -73,12 +72,12 @@ ask-filled-requires c κs =
     let tr = decode (now (c .before .before .before .before .before .before .before .before .before .before .before .before .before .before .before .before .before .before .before .before .before .before .before .before .before .args .recs)) in
     let t = c .before .before .before .before .before .before .before .before .before .before .before .before .before .before .before .before .before .before .before .before .before .before .before .before .before .pre in
     let e : areRecords tr (c .before .before .before .before .before .before .before .before .before .before .before .before .before .before .before .before .before .before .before .before .before .before .before .before .before .args .a) (c .before .before .before .before .before .before .before .before .before .before .before .before .before .before .before .before .before .before .before .before .before .before .before .before .before .args .b) ≡ true = sym (c .before .before .before .before .before .before .before .before .before .before .before .before .before .before .before .before .before .before .before .are-records .ensures) ∙ not-false (c .before .before .before .before .before .before .before .before .before .before .before .before .before .before .before .before .before .before .before .are-records .result) (c .before .before .before .before .before .before .before .before .before .before .before .before .before .before .before .before .before .before .if1 .left) in
-    let f : spaceFor (c .before .before .before .before .before .before .before .before .before .before .before .before .before .before .before .before .before .before .before .before .before .before .before .before .before .args .width) (c .before .before .before .before .before .before .before .before .before .before .before .before .before .before .before .before .before .before .before .before .before .before .before .before .before .args .events) (length (now (c .before .before .before .before .before .before .before .before .before .before .before .before .before .before .before .before .before .before .before .before .before .before .before .before .before .args .clocks))) ≡ true = sym (c .before .before .before .before .before .before .before .before .before .before .before .before .before .before .before .before .before .has-clocks .ensures) ∙ not-false (c .before .before .before .before .before .before .before .before .before .before .before .before .before .before .before .before .before .has-clocks .result) (c .before .before .before .before .before .before .before .before .before .before .before .before .before .before .before .before .if2 .left) in
+    let f : spaceFor (c .before .before .before .before .before .before .before .before .before .before .before .before .before .before .before .before .before .before .before .before .before .before .before .before .before .args .width) (c .before .before .before .before .before .before .before .before .before .before .before .before .before .before .before .before .before .before .before .before .before .before .before .before .before .args .events) (length (now (c .before .before .before .before .before .before .before .before .before .before .before .before .before .before .before .before .before .before .before .before .before .before .before .before .before .args .clocks))) ≡ true = sym (c .before .before .before .before .before .before .before .before .before .before .before .before .before .before .before .before .before .has-space .ensures) ∙ not-false (c .before .before .before .before .before .before .before .before .before .before .before .before .before .before .before .before .before .has-space .result) (c .before .before .before .before .before .before .before .before .before .before .before .before .before .before .before .before .if2 .left) in
     let fills = fills-trace t (c .before .before .before .before .before .before .before .before .before .before .before .before .before .before .before .before .before .before .before .before .before .before .before .before .before .args .width) (now (c .before .before .before .before .before .before .before .before .before .before .before .before .before .before .before .before .before .before .before .before .before .before .before .before .before .args .clocks)) _ (c .before .before .before .before .before .before .before .before .before .fill-chains .result .answer) (c .before .before .before .before .before .before .before .before .before .fill-chains .result .of) (c .before .before .before .before .before .before .before .before .before .fill-chains .ensures) in
     let k = is-filled (c .before .before .before .before .before .before .before .before .before .fill-chains .result .answer) (c .before .before .before .before .before .match .keys2) in
     let i = in-trace tr (c .before .before .before .before .before .before .before .before .before .before .before .before .before .before .before .before .before .before .before .before .before .before .before .before .before .args .a) (c .before .before .before .before .before .before .before .before .before .before .before .before .before .before .before .before .before .before .before .before .before .before .before .before .before .args .b) e in
     let l : c .before .before .before .before .before .before .before .before .before .before .before .before .before .before .before .before .before .before .before .before .before .before .before .before .before .args .b - 1 < length tr = omega (arith, i .second, i .second-inside) in
-    ((at-hand f fills (k .0) (k .1) (read-acceptable t) (read-events t), l), clear-work tr _ _ _ (read-events t) (c .before .before .before .before .before .before .before .before .before .before .before .before .before .clear-marks .ensures))
+    ((at-hand f fills (k .0) (k .1) (read-acceptable t) (read-events t), l), clear-work tr _ _ _ (read-events t) (c .before .before .before .before .before .before .before .before .before .before .before .before .before .before .before .if3 .left) (c .before .before .before .before .before .before .before .before .before .before .before .before .before .clear-marks .ensures))
 
 same-length : tie.Need-same-length
 same-length c = search needs
@@ -91,7 +90,7 @@ returns-4 c =
     let tr = decode (now (c .before .before .before .before .before .before .before .before .before .before .before .before .before .before .before .before .before .before .before .before .before .before .args .recs)) in
     let t = c .before .before .before .before .before .before .before .before .before .before .before .before .before .before .before .before .before .before .before .before .before .before .pre in
     let e : areRecords tr (c .before .before .before .before .before .before .before .before .before .before .before .before .before .before .before .before .before .before .before .before .before .before .args .a) (c .before .before .before .before .before .before .before .before .before .before .before .before .before .before .before .before .before .before .before .before .before .before .args .b) ≡ true = sym (c .before .before .before .before .before .before .before .before .before .before .before .before .before .before .before .before .are-records .ensures) ∙ not-false (c .before .before .before .before .before .before .before .before .before .before .before .before .before .before .before .before .are-records .result) (c .before .before .before .before .before .before .before .before .before .before .before .before .before .before .before .if1 .left) in
-    let f : spaceFor (c .before .before .before .before .before .before .before .before .before .before .before .before .before .before .before .before .before .before .before .before .before .before .args .width) (c .before .before .before .before .before .before .before .before .before .before .before .before .before .before .before .before .before .before .before .before .before .before .args .events) (length (now (c .before .before .before .before .before .before .before .before .before .before .before .before .before .before .before .before .before .before .before .before .before .before .args .clocks))) ≡ true = sym (c .before .before .before .before .before .before .before .before .before .before .before .before .before .before .has-clocks .ensures) ∙ not-false (c .before .before .before .before .before .before .before .before .before .before .before .before .before .before .has-clocks .result) (c .before .before .before .before .before .before .before .before .before .before .before .before .before .if2 .left) in
+    let f : spaceFor (c .before .before .before .before .before .before .before .before .before .before .before .before .before .before .before .before .before .before .before .before .before .before .args .width) (c .before .before .before .before .before .before .before .before .before .before .before .before .before .before .before .before .before .before .before .before .before .before .args .events) (length (now (c .before .before .before .before .before .before .before .before .before .before .before .before .before .before .before .before .before .before .before .before .before .before .args .clocks))) ≡ true = sym (c .before .before .before .before .before .before .before .before .before .before .before .before .before .before .has-space .ensures) ∙ not-false (c .before .before .before .before .before .before .before .before .before .before .before .before .before .before .has-space .result) (c .before .before .before .before .before .before .before .before .before .before .before .before .before .if2 .left) in
     let fills = fills-trace t (c .before .before .before .before .before .before .before .before .before .before .before .before .before .before .before .before .before .before .before .before .before .before .args .width) (now (c .before .before .before .before .before .before .before .before .before .before .before .before .before .before .before .before .before .before .before .before .before .before .args .clocks)) _ (c .before .before .before .before .before .before .fill-chains .result .answer) (c .before .before .before .before .before .before .fill-chains .result .of) (c .before .before .before .before .before .before .fill-chains .ensures) in
     too-few tr (c .before .before .before .before .before .before .before .before .before .before .before .before .before .before .before .before .before .before .before .before .before .before .args .events) (c .before .before .before .before .before .before .before .before .before .before .before .before .before .before .before .before .before .before .before .before .before .before .args .width) (now (c .before .before .before .before .before .before .before .before .before .before .before .before .before .before .before .before .before .before .before .before .before .before .args .clocks)) (now (c .before .before .before .before .before .before .before .before .before .before .before .before .before .before .before .before .before .before .before .before .before .before .args .work)) (now (c .before .before .before .before .before .before .before .before .before .before .before .before .before .before .before .before .before .before .before .before .before .before .args .list)) (c .before .before .before .before .before .before .before .before .before .before .before .before .before .before .before .before .before .before .before .before .before .before .args .a) (c .before .before .before .before .before .before .before .before .before .before .before .before .before .before .before .before .before .before .before .before .before .before .args .b) _ e f (c .before .before .before .before .before .before .before .before .before .before .before .before .if3 .left) _ (c .before .before .before .before .before .before .before .before .before .before .clear-marks .ensures) _ _ _ fills _ _ (ap fillPaper (c .before .answer .given .1)) refl
 
@@ -109,7 +108,7 @@ returns-5 c =
     let tr = decode (now (c .before .before .before .before .before .before .before .before .before .before .before .before .before .before .before .before .before .before .before .before .before .before .before .before .before .before .before .before .before .before .args .recs)) in
     let t = c .before .before .before .before .before .before .before .before .before .before .before .before .before .before .before .before .before .before .before .before .before .before .before .before .before .before .before .before .before .before .pre in
     let e : areRecords tr (c .before .before .before .before .before .before .before .before .before .before .before .before .before .before .before .before .before .before .before .before .before .before .before .before .before .before .before .before .before .before .args .a) (c .before .before .before .before .before .before .before .before .before .before .before .before .before .before .before .before .before .before .before .before .before .before .before .before .before .before .before .before .before .before .args .b) ≡ true = sym (c .before .before .before .before .before .before .before .before .before .before .before .before .before .before .before .before .before .before .before .before .before .before .before .before .are-records .ensures) ∙ not-false (c .before .before .before .before .before .before .before .before .before .before .before .before .before .before .before .before .before .before .before .before .before .before .before .before .are-records .result) (c .before .before .before .before .before .before .before .before .before .before .before .before .before .before .before .before .before .before .before .before .before .before .before .if1 .left) in
-    let f : spaceFor (c .before .before .before .before .before .before .before .before .before .before .before .before .before .before .before .before .before .before .before .before .before .before .before .before .before .before .before .before .before .before .args .width) (c .before .before .before .before .before .before .before .before .before .before .before .before .before .before .before .before .before .before .before .before .before .before .before .before .before .before .before .before .before .before .args .events) (length (now (c .before .before .before .before .before .before .before .before .before .before .before .before .before .before .before .before .before .before .before .before .before .before .before .before .before .before .before .before .before .before .args .clocks))) ≡ true = sym (c .before .before .before .before .before .before .before .before .before .before .before .before .before .before .before .before .before .before .before .before .before .before .has-clocks .ensures) ∙ not-false (c .before .before .before .before .before .before .before .before .before .before .before .before .before .before .before .before .before .before .before .before .before .before .has-clocks .result) (c .before .before .before .before .before .before .before .before .before .before .before .before .before .before .before .before .before .before .before .before .before .if2 .left) in
+    let f : spaceFor (c .before .before .before .before .before .before .before .before .before .before .before .before .before .before .before .before .before .before .before .before .before .before .before .before .before .before .before .before .before .before .args .width) (c .before .before .before .before .before .before .before .before .before .before .before .before .before .before .before .before .before .before .before .before .before .before .before .before .before .before .before .before .before .before .args .events) (length (now (c .before .before .before .before .before .before .before .before .before .before .before .before .before .before .before .before .before .before .before .before .before .before .before .before .before .before .before .before .before .before .args .clocks))) ≡ true = sym (c .before .before .before .before .before .before .before .before .before .before .before .before .before .before .before .before .before .before .before .before .before .before .has-space .ensures) ∙ not-false (c .before .before .before .before .before .before .before .before .before .before .before .before .before .before .before .before .before .before .before .before .before .before .has-space .result) (c .before .before .before .before .before .before .before .before .before .before .before .before .before .before .before .before .before .before .before .before .before .if2 .left) in
     let fills = fills-trace t (c .before .before .before .before .before .before .before .before .before .before .before .before .before .before .before .before .before .before .before .before .before .before .before .before .before .before .before .before .before .before .args .width) (now (c .before .before .before .before .before .before .before .before .before .before .before .before .before .before .before .before .before .before .before .before .before .before .before .before .before .before .before .before .before .before .args .clocks)) _ (c .before .before .before .before .before .before .before .before .before .before .before .before .before .before .fill-chains .result .answer) (c .before .before .before .before .before .before .before .before .before .before .before .before .before .before .fill-chains .result .of) (c .before .before .before .before .before .before .before .before .before .before .before .before .before .before .fill-chains .ensures) in
     let k = is-filled (c .before .before .before .before .before .before .before .before .before .before .before .before .before .before .fill-chains .result .answer) (c .before .before .before .before .before .before .before .before .before .before .match .keys2) in
     answers-trace tr (c .before .before .before .before .before .before .before .before .before .before .before .before .before .before .before .before .before .before .before .before .before .before .before .before .before .before .before .before .before .before .args .events) (c .before .before .before .before .before .before .before .before .before .before .before .before .before .before .before .before .before .before .before .before .before .before .before .before .before .before .before .before .before .before .args .width) (now (c .before .before .before .before .before .before .before .before .before .before .before .before .before .before .before .before .before .before .before .before .before .before .before .before .before .before .before .before .before .before .args .clocks)) (now (c .before .before .before .before .before .before .before .before .before .before .before .before .before .before .before .before .before .before .before .before .before .before .before .before .before .before .before .before .before .before .args .work)) (now (c .before .before .before .before .before .before .before .before .before .before .before .before .before .before .before .before .before .before .before .before .before .before .before .before .before .before .before .before .before .before .args .list)) (c .before .before .before .before .before .before .before .before .before .before .before .before .before .before .before .before .before .before .before .before .before .before .before .before .before .before .before .before .before .before .args .a) (c .before .before .before .before .before .before .before .before .before .before .before .before .before .before .before .before .before .before .before .before .before .before .before .before .before .before .before .before .before .before .args .b) (c .before .before .before .before .ask-filled .result) e f (c .before .before .before .before .before .before .before .before .before .before .before .before .before .before .before .before .before .before .before .before .if3 .left) _ (c .before .before .before .before .ask-filled .ensures .1 ∙ c .before .before .before .before .before .before .before .before .before .before .before .before .before .before .before .before .before .before .clear-marks .ensures) _ _ _ fills (k .0) (k .1) _ (c .before .before .before .before .ask-filled .ensures .0)
@@ -121,7 +120,7 @@ ask-trace-spec =
     are-records-requires
     refused-requires
     returns
-    has-clocks-requires
+    has-space-requires
     refused-requires-2
     returns-2
     refused-requires-3

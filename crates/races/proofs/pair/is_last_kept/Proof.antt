@@ -1,5 +1,6 @@
 -- `races::pair::is_last_kept` meets its contract.
 -- Assumes nothing.
+use Rattle.races.proofs.PairLaws.{marks-tell}
 use denote.Ref.{now}
 use native.Mathlib.Numerals.{add-one}
 use native.Mathlib.Omega.{arith}
@@ -24,14 +25,14 @@ returns : tie.Need-returns
 unfolding lastKept
 returns c =
     let l : c .before .before .before .before .before .args .i < length (decode (now (c .before .before .before .before .before .args .recs))) = omega (arith, c .before .before .before .before .before .pre .0 .inside) in
-    let e : leads (settingOf (decode (now (c .before .before .before .before .before .args .recs)))) (c .before .before .before .before .before .args .b) (eventOf (at (decode (now (c .before .before .before .before .before .args .recs))) (c .before .before .before .before .before .args .i))) ≡ false = sym (c .before .before .before .before .before .pre .0 .tells (c .before .before .before .before .before .args .i) l) ∙ (sym (c .before .is-leading .ensures) ∙ not-true (c .before .is-leading .result) (c .if1 .taken)) in
+    let e : leads (settingOf (decode (now (c .before .before .before .before .before .args .recs)))) (c .before .before .before .before .before .args .b) (eventOf (at (decode (now (c .before .before .before .before .before .args .recs))) (c .before .before .before .before .before .args .i))) ≡ false = sym (marks-tell (c .before .before .before .before .before .pre .0) (c .before .before .before .before .before .args .i) l) ∙ (sym (c .before .is-leading .ensures) ∙ not-true (c .before .is-leading .result) (c .if1 .taken)) in
     rw e
 
 returns-2 : tie.Need-returns-2
 unfolding lastKept
 returns-2 c =
     let l : c .before .before .before .before .before .before .args .i < length (decode (now (c .before .before .before .before .before .before .args .recs))) = omega (arith, c .before .before .before .before .before .before .pre .0 .inside) in
-    let e : leads (settingOf (decode (now (c .before .before .before .before .before .before .args .recs)))) (c .before .before .before .before .before .before .args .b) (eventOf (at (decode (now (c .before .before .before .before .before .before .args .recs))) (c .before .before .before .before .before .before .args .i))) ≡ true = sym (c .before .before .before .before .before .before .pre .0 .tells (c .before .before .before .before .before .before .args .i) l) ∙ (sym (c .before .before .is-leading .ensures) ∙ not-false (c .before .before .is-leading .result) (c .before .if1 .left)) in
+    let e : leads (settingOf (decode (now (c .before .before .before .before .before .before .args .recs)))) (c .before .before .before .before .before .before .args .b) (eventOf (at (decode (now (c .before .before .before .before .before .before .args .recs))) (c .before .before .before .before .before .before .args .i))) ≡ true = sym (marks-tell (c .before .before .before .before .before .before .pre .0) (c .before .before .before .before .before .before .args .i) l) ∙ (sym (c .before .before .is-leading .ensures) ∙ not-false (c .before .before .is-leading .result) (c .before .if1 .left)) in
     rw (e, eq-eqb (c .before .before .before .before .before .before .args .i) (c .before .before .before .before .before .before .args .b) (c .if2 .taken))
 
 add-first-at : tie.Need-add-first-at
@@ -47,7 +48,7 @@ returns-3 : tie.Need-returns-3
 unfolding lastKept
 returns-3 c =
     let l : c .before .before .before .before .before .before .before .before .args .i < length (decode (now (c .before .before .before .before .before .before .before .before .args .recs))) = omega (arith, c .before .before .before .before .before .before .before .before .pre .0 .inside) in
-    let e : leads (settingOf (decode (now (c .before .before .before .before .before .before .before .before .args .recs)))) (c .before .before .before .before .before .before .before .before .args .b) (eventOf (at (decode (now (c .before .before .before .before .before .before .before .before .args .recs))) (c .before .before .before .before .before .before .before .before .args .i))) ≡ true = sym (c .before .before .before .before .before .before .before .before .pre .0 .tells (c .before .before .before .before .before .before .before .before .args .i) l) ∙ (sym (c .before .before .before .before .is-leading .ensures) ∙ not-false (c .before .before .before .before .is-leading .result) (c .before .before .before .if1 .left)) in
+    let e : leads (settingOf (decode (now (c .before .before .before .before .before .before .before .before .args .recs)))) (c .before .before .before .before .before .before .before .before .args .b) (eventOf (at (decode (now (c .before .before .before .before .before .before .before .before .args .recs))) (c .before .before .before .before .before .before .before .before .args .i))) ≡ true = sym (marks-tell (c .before .before .before .before .before .before .before .before .pre .0) (c .before .before .before .before .before .before .before .before .args .i) l) ∙ (sym (c .before .before .before .before .is-leading .ensures) ∙ not-false (c .before .before .before .before .is-leading .result) (c .before .before .before .if1 .left)) in
     rw (e, ne-eqb (c .before .before .before .before .before .before .before .before .args .i) (c .before .before .before .before .before .before .before .before .args .b) (c .before .before .if2 .left)) (ap₂ (λ (x y : ℕ). not (eqb x y)) (c .before .first-at .ensures ∙ ap (λ (n : ℕ). at (decode (now (c .before .before .before .before .before .before .before .before .args .recs))) n .first) (add-one (c .before .before .before .before .before .before .before .before .args .i))) (c .first-at2 .ensures))
 
 pub is-last-kept-spec : {M : Type 1} → statement M

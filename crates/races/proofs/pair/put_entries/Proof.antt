@@ -1,5 +1,6 @@
 -- `races::pair::put_entries` meets its contract.
 -- Assumes nothing.
+use Rattle.races.proofs.PairLaws.{marks-tell}
 use denote.Ref.{now}
 use native.Mathlib.Omega.{arith}
 use Prim.Native.Nat.{_<_}
@@ -21,7 +22,7 @@ is-leading-requires c κs = search needs
 put-cover-requires : tie.Need-put-cover-requires
 put-cover-requires c κs =
     let l : c .before .before .before .before .before .before .before .before .before .args .a < length (decode (now (c .before .before .before .before .before .before .before .before .before .args .recs))) = omega (arith, c .before .before .before .before .before .before .before .before .before .pre .1 .0 .first, c .before .before .before .before .before .before .before .before .before .pre .1 .0 .inside) in
-    let e : coveredb (settingOf (decode (now (c .before .before .before .before .before .before .before .before .before .args .recs)))) (c .before .before .before .before .before .before .before .before .before .args .a) (c .before .before .before .before .before .before .before .before .before .args .b) ≡ true = sym (c .before .before .before .before .before .before .before .before .before .pre .0 .1 .tells (c .before .before .before .before .before .before .before .before .before .args .a) l) ∙ (sym (c .before .before .is-leading .ensures) ∙ c .before .if1 .taken) in
+    let e : coveredb (settingOf (decode (now (c .before .before .before .before .before .before .before .before .before .args .recs)))) (c .before .before .before .before .before .before .before .before .before .args .a) (c .before .before .before .before .before .before .before .before .before .args .b) ≡ true = sym (marks-tell (c .before .before .before .before .before .before .before .before .before .pre .0 .1) (c .before .before .before .before .before .before .before .before .before .args .a) l) ∙ (sym (c .before .before .is-leading .ensures) ∙ c .before .if1 .taken) in
     (c .before .before .before .before .before .before .before .before .before .pre .0, (c .before .before .before .before .before .before .before .before .before .pre .1 .0, subst T (sym e) tt, c .before .before .before .before .before .before .before .before .before .pre .1 .1))
 
 same-length : tie.Need-same-length
@@ -30,7 +31,7 @@ same-length c = search needs
 returns : tie.Need-returns
 returns c =
     let l : c .before .before .before .before .before .before .before .before .before .before .before .before .args .a < length (decode (now (c .before .before .before .before .before .before .before .before .before .before .before .before .args .recs))) = omega (arith, c .before .before .before .before .before .before .before .before .before .before .before .before .pre .1 .0 .first, c .before .before .before .before .before .before .before .before .before .before .before .before .pre .1 .0 .inside) in
-    let e : coveredb (settingOf (decode (now (c .before .before .before .before .before .before .before .before .before .before .before .before .args .recs)))) (c .before .before .before .before .before .before .before .before .before .before .before .before .args .a) (c .before .before .before .before .before .before .before .before .before .before .before .before .args .b) ≡ true = sym (c .before .before .before .before .before .before .before .before .before .before .before .before .pre .0 .1 .tells (c .before .before .before .before .before .before .before .before .before .before .before .before .args .a) l) ∙ (sym (c .before .before .before .before .before .is-leading .ensures) ∙ c .before .before .before .before .if1 .taken) in
+    let e : coveredb (settingOf (decode (now (c .before .before .before .before .before .before .before .before .before .before .before .before .args .recs)))) (c .before .before .before .before .before .before .before .before .before .before .before .before .args .a) (c .before .before .before .before .before .before .before .before .before .before .before .before .args .b) ≡ true = sym (marks-tell (c .before .before .before .before .before .before .before .before .before .before .before .before .pre .0 .1) (c .before .before .before .before .before .before .before .before .before .before .before .before .args .a) l) ∙ (sym (c .before .before .before .before .before .is-leading .ensures) ∙ c .before .before .before .before .if1 .taken) in
     answers-covered (decode (now (c .before .before .before .before .before .before .before .before .before .before .before .before .args .recs))) (c .before .before .before .before .before .before .before .before .before .before .before .before .args .a) (c .before .before .before .before .before .before .before .before .before .before .before .before .args .b) (now (c .before .before .before .before .before .before .before .before .before .before .before .before .args .list)) _ (c .before .before .put-cover .result) e (c .before .before .put-cover .ensures)
 
 put-kept-requires : tie.Need-put-kept-requires
@@ -42,7 +43,7 @@ same-length-2 c = search needs
 returns-2 : tie.Need-returns-2
 returns-2 c =
     let l : c .before .before .before .before .before .before .before .before .before .before .before .before .args .a < length (decode (now (c .before .before .before .before .before .before .before .before .before .before .before .before .args .recs))) = omega (arith, c .before .before .before .before .before .before .before .before .before .before .before .before .pre .1 .0 .first, c .before .before .before .before .before .before .before .before .before .before .before .before .pre .1 .0 .inside) in
-    let e : coveredb (settingOf (decode (now (c .before .before .before .before .before .before .before .before .before .before .before .before .args .recs)))) (c .before .before .before .before .before .before .before .before .before .before .before .before .args .a) (c .before .before .before .before .before .before .before .before .before .before .before .before .args .b) ≡ false = sym (c .before .before .before .before .before .before .before .before .before .before .before .before .pre .0 .1 .tells (c .before .before .before .before .before .before .before .before .before .before .before .before .args .a) l) ∙ (sym (c .before .before .before .before .before .is-leading .ensures) ∙ c .before .before .before .before .if1 .left) in
+    let e : coveredb (settingOf (decode (now (c .before .before .before .before .before .before .before .before .before .before .before .before .args .recs)))) (c .before .before .before .before .before .before .before .before .before .before .before .before .args .a) (c .before .before .before .before .before .before .before .before .before .before .before .before .args .b) ≡ false = sym (marks-tell (c .before .before .before .before .before .before .before .before .before .before .before .before .pre .0 .1) (c .before .before .before .before .before .before .before .before .before .before .before .before .args .a) l) ∙ (sym (c .before .before .before .before .before .is-leading .ensures) ∙ c .before .before .before .before .if1 .left) in
     answers-open (decode (now (c .before .before .before .before .before .before .before .before .before .before .before .before .args .recs))) (c .before .before .before .before .before .before .before .before .before .before .before .before .args .a) (c .before .before .before .before .before .before .before .before .before .before .before .before .args .b) (now (c .before .before .before .before .before .before .before .before .before .before .before .before .args .list)) _ (c .before .before .put-kept .result) e (c .before .before .put-kept .ensures .0) (c .before .before .put-kept .ensures .1)
 
 pub put-entries-spec : {M : Type 1} → statement M

@@ -1,0 +1,84 @@
+-- The test traces of document 01 that concern the pair question, and its refusals in order, proved of its definitions. Assumes nothing.
+use Prim.Native.Nat.{ℕ, _-_}
+use mathlib.Core.Path.{_≡_, refl}
+use mathlib.Core.List.{List, [], _∷_, map}
+use Rattle.trace.specs.declared.Record.{Record}
+use Rattle.trace.specs.Bytes.{recordAt, recordsFrom, decode}
+use Rattle.trace.specs.Records.{past, has, begun, ended, begins}
+use Rattle.trace.specs.Place.{place}
+use Rattle.trace.specs.Rule.{situation, owner, numbered, wellFormed, misplaced, again, early, judge, rule}
+use Rattle.trace.specs.Reading as reading
+use Rattle.trace.specs.Reading.{orElse, closing, walk, distance, trailerReply, frameReply, part, recordsIn, recordsReply, readReply}
+use Rattle.trace.specs.Encoding.{encode, trailer, traceOf}
+use Rattle.trace.proofs.Cases.{recordsT, exchanged, oneCell}
+use Rattle.order.specs.Links.{within, along, some, leq}
+use Rattle.order.specs.Schedule.{linked}
+use Rattle.order.specs.HappensBefore.{rankIn, rank, opOf, opAt, happensBefore}
+use Rattle.order.specs.Chains.{firstFrom, pick, put, lasts, chain, needs}
+use Rattle.order.specs.Fill.{eventsIn, beginPosition, shortRow, spaceFor}
+use Rattle.coverage.specs.Below as below
+use Rattle.coverage.specs.Race.{before, raceb}
+use Rattle.coverage.specs.Neighbours.{conflicts}
+use Rattle.coverage.specs.Leading.{reach, leads, lastKept, entries}
+use Rattle.races.specs.Pair.{PairReply, refused, isOpen, isCovered, demand, isRecord, areRecords, answered, pairFilled, pairTrace, pairRead, pairReply, keptEntries}
+
+-- a question: trace, width, clock space, work space, list space, and two records by number
+pub record Asked : Type 0 where
+  pub trace : List Record
+  pub width : ℕ
+  pub clocks : ℕ
+  pub work : ℕ
+  pub list : ℕ
+  pub first : ℕ
+  pub second : ℕ
+
+-- with its reply, and the entries kept for an open pair
+pub record Case : Type 0 where
+  pub asked : Asked
+  pub reply : PairReply
+  pub kept : List (ℕ × ℕ)
+
+-- width 2, and spaces that just suffice for three event actions
+abbrev pair : List Record → ℕ → ℕ → Asked
+pair tr a b = record { trace = tr; width = 2; clocks = 6; work = 3; list = 6; first = a; second = b }
+
+abbrev spaces : ℕ → ℕ → ℕ → ℕ → ℕ → ℕ → Asked
+spaces width clocks work list a b = record { trace = recordsT; width = width; clocks = clocks; work = work; list = list; first = a; second = b }
+
+abbrev given : Asked → PairReply → List (ℕ × ℕ) → Case
+given q r es = record { asked = q; reply = r; kept = es }
+
+abbrev keptIn : List Record → ℕ → PairReply → List (ℕ × ℕ)
+keptIn tr b (refused n p) = []
+keptIn tr b (isOpen n) = keptEntries tr b
+keptIn tr b isCovered = []
+
+-- what the definitions say
+abbrev said : Asked → Case
+said q = let r = pairReply (traceOf (q .trace)) (q .width) (q .clocks) (q .work) (q .list) (q .first) (q .second) in given q r (keptIn (q .trace) (q .second - 1) r)
+
+abbrev pub cases : List Case
+cases =
+    given (pair recordsT 6 11) isCovered []
+    ∷ given (pair recordsT 7 10) (isOpen 2) ((1, 4) ∷ (3, 10) ∷ [])
+    ∷ given (pair recordsT 6 10) (refused 12 0) []
+    ∷ given (pair exchanged 6 10) (isOpen 2) ((1, 4) ∷ (3, 10) ∷ [])
+    ∷ given (pair exchanged 7 11) isCovered []
+    ∷ given (pair oneCell 7 10) (isOpen 2) ((1, 4) ∷ (3, 10) ∷ [])
+    ∷ given (pair oneCell 7 11) isCovered []
+    ∷ given (pair oneCell 6 10) (isOpen 2) ((1, 4) ∷ (3, 10) ∷ [])
+    ∷ given (pair recordsT 10 7) (refused 12 0) []
+    ∷ given (pair recordsT 0 10) (refused 11 0) []
+    ∷ given (spaces 0 0 0 0 7 13) (refused 11 0) []
+    ∷ given (spaces 0 6 0 0 7 10) (refused 21 0) []
+    ∷ given (spaces 2 5 0 0 7 10) (refused 21 0) []
+    ∷ given (spaces 1 3 2 0 7 10) (refused 22 0) []
+    ∷ given (spaces 1 3 3 0 6 10) (refused 23 9) []
+    ∷ given (spaces 2 6 3 0 6 10) (refused 12 0) []
+    ∷ given (spaces 2 6 3 5 7 10) (refused 24 0) []
+    ∷ []
+
+-- every case gets the reply and the entries that it expects
+pub hold : map (λ (c : Case). said (c .asked)) cases ≡ cases
+unfolding encode trailer traceOf recordAt recordsFrom decode past has begun ended begins place situation owner numbered wellFormed misplaced again early judge rule reading.demand orElse closing walk distance trailerReply frameReply part recordsIn recordsReply readReply firstFrom pick put lasts chain needs eventsIn beginPosition shortRow spaceFor demand isRecord areRecords answered pairFilled pairTrace pairRead pairReply keptEntries entries lastKept below.upto leads reach below.some raceb before conflicts happensBefore rank rankIn opAt opOf linked leq along within some
+hold = refl
