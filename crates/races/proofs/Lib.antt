@@ -13,3 +13,4 @@ pub mod ListLaws
 pub mod EntryStores
 pub mod ListEnds
 pub mod PairCases
+pub mod PairTheorems
