@@ -17,6 +17,7 @@ pub mod PartLaws
 pub mod MarkLaws
 pub mod MarkListLaws
 pub mod Examples
+pub mod Cases
 -- Traces: their links, ranks and order
 pub mod TraceOrder
 pub mod TraceLaws

@@ -37,7 +37,7 @@ sets-append l i (x ∷ xs) ys =
     rw e (sets-append (set l i x) (suc i) xs ys)
 
 module _ (tr : List Record) where
-  entry-length : (a b : ℕ) → length (entry tr a b) ≡ 5
+  pub entry-length : (a b : ℕ) → length (entry tr a b) ≡ 5
   unfolding entry
   entry-length a b = refl
 

@@ -1,4 +1,5 @@
--- The test traces of document 01 that concern the pair question, and its refusals in order, proved of its definitions. Assumes nothing.
+-- Cases of the pair question beside those that document 01 marks as proved: pairs of T's variants, the refusals in order, and that the pair 6 11 of T has one
+-- cover. Assumes nothing.
 use Prim.Native.Nat.{ℕ, _-_}
 use mathlib.Core.Path.{_≡_, refl, ap, subst}
 use mathlib.Core.Logic.{_⊎_, inl, inr}
@@ -25,7 +26,6 @@ use Rattle.coverage.specs.Leading.{reach, leads, lastKept, entries}
 use Rattle.coverage.specs.Below.{Listed}
 use Rattle.coverage.specs.Cover.{Covers, CoversFrom, one, more}
 use Rattle.coverage.specs.Lists.{allRaces}
-use Rattle.coverage.proofs.Order.{race-of}
 use Rattle.coverage.proofs.Pairs.{in-all}
 use Rattle.races.specs.Traces.{settingOf}
 use Rattle.races.specs.Pair.{PairReply, refused, isOpen, isCovered, demand, isRecord, areRecords, answered, pairFilled, pairTrace, pairRead, pairReply, keptEntries}
@@ -67,14 +67,10 @@ said q = let r = pairReply (traceOf (q .trace)) (q .width) (q .clocks) (q .work)
 
 abbrev pub cases : List Case
 cases =
-    given (pair recordsT 6 11) isCovered []
-    ∷ given (pair recordsT 7 10) (isOpen 2) ((1, 4) ∷ (3, 10) ∷ [])
-    ∷ given (pair recordsT 6 10) (refused 12 0) []
-    ∷ given (pair exchanged 6 10) (isOpen 2) ((1, 4) ∷ (3, 10) ∷ [])
+    given (pair exchanged 6 10) (isOpen 2) ((1, 4) ∷ (3, 10) ∷ [])
     ∷ given (pair exchanged 7 11) isCovered []
     ∷ given (pair oneCell 7 10) (isOpen 2) ((1, 4) ∷ (3, 10) ∷ [])
     ∷ given (pair oneCell 7 11) isCovered []
-    ∷ given (pair oneCell 6 10) (isOpen 2) ((1, 4) ∷ (3, 10) ∷ [])
     ∷ given (pair recordsT 10 7) (refused 12 0) []
     ∷ given (pair recordsT 0 10) (refused 11 0) []
     ∷ given (spaces 0 0 0 0 7 13) (refused 11 0) []
@@ -95,10 +91,6 @@ hold = refl
 races-T : allRaces (settingOf recordsT) ≡ (6, 9) ∷ (5, 10) ∷ []
 unfolding allRaces below.pairs below.upto raceb before conflicts happensBefore rank rankIn opAt opOf linked leq along within some past begins
 races-T = refl
-
-pub covered-by : Covers (settingOf recordsT) ((6, 9) ∷ []) 5 10
-unfolding raceb before conflicts happensBefore rank rankIn opAt opOf linked leq along within some past begins
-covered-by = one tt (race-of (settingOf recordsT) 6 9 tt) tt
 
 abbrev Either : ℕ → ℕ → Type 0
 Either c d = (_≡_ {A = ℕ × ℕ} (c, d) (6, 9)) ⊎ (_≡_ {A = ℕ × ℕ} (c, d) (5, 10))

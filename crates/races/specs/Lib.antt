@@ -2,8 +2,9 @@ pub mod Traces
 pub mod Leading
 pub mod LeadingPass
 pub mod Filled
-pub mod Pair
-pub mod PairSearch
 pub mod Lists
 pub mod Paper
 pub mod ListPass
+pub mod Pair
+pub mod PairSearch
+pub mod Demand

@@ -1,0 +1,48 @@
+-- `racecheck::print_pairs` meets its contract.
+-- Assumes nothing.
+use Prim.Native.Nat.{_≤_, _-_}
+use native.Mathlib.Omega.{arith}
+use borrow.Author.Needs.{needs}
+use Rattle.racecheck.proofs.print_pairs.Statement.{statement}
+use Rattle.racecheck.proofs.print_pairs.Tie as tie
+
+abbrev Inv-loop : tie.InvT-loop
+Inv-loop list count i₀ i = i ≤ count
+
+abbrev μ-loop : tie.MeasureT-loop
+μ-loop list count i₀ i = count - i
+
+loop-holds : tie.Need-loop-holds Inv-loop μ-loop
+loop-holds c = search needs
+
+mul-print-pair : tie.Need-mul-print-pair Inv-loop μ-loop
+mul-print-pair c = omega arith
+
+print-pair-requires : tie.Need-print-pair-requires Inv-loop μ-loop
+print-pair-requires c κs = search needs
+
+add-i : tie.Need-add-i Inv-loop μ-loop
+add-i c = omega arith
+
+loop-less : tie.Need-loop-less Inv-loop μ-loop
+loop-less c = omega arith
+
+loop-again : tie.Need-loop-again Inv-loop μ-loop
+loop-again c = omega arith
+
+returns : tie.Need-returns Inv-loop μ-loop
+returns c = search needs
+
+pub print-pairs-spec : {M : Type 1} → statement M
+print-pairs-spec =
+    tie.close
+    (tie.spec
+    Inv-loop
+    μ-loop
+    loop-holds
+    mul-print-pair
+    print-pair-requires
+    add-i
+    loop-less
+    loop-again
+    returns)
