@@ -1,10 +1,13 @@
--- The test traces of document 01 that concern the pair question, and its refusals in order, proved of its definitions. Assumes nothing.
+-- Cases of the pair question beside those that document 01 marks as proved: pairs of T's variants, the refusals in order, and that the pair 6 11 of T has one
+-- cover. Assumes nothing.
 use Prim.Native.Nat.{ℕ, _-_}
-use mathlib.Core.Path.{_≡_, refl}
-use mathlib.Core.List.{List, [], _∷_, map}
+use mathlib.Core.Path.{_≡_, refl, ap, subst}
+use mathlib.Core.Logic.{_⊎_, inl, inr}
+use mathlib.Core.List.{List, [], _∷_, map, List·Memᴰ·head, List·Memᴰ·tail, List·Memᴰ·not-nil}
+use lib.Dec.{T}
 use Rattle.trace.specs.declared.Record.{Record}
 use Rattle.trace.specs.Bytes.{recordAt, recordsFrom, decode}
-use Rattle.trace.specs.Records.{past, has, begun, ended, begins}
+use Rattle.trace.specs.Records.{at, eventOf, past, has, begun, ended, begins}
 use Rattle.trace.specs.Place.{place}
 use Rattle.trace.specs.Rule.{situation, owner, numbered, wellFormed, misplaced, again, early, judge, rule}
 use Rattle.trace.specs.Reading as reading
@@ -17,9 +20,14 @@ use Rattle.order.specs.HappensBefore.{rankIn, rank, opOf, opAt, happensBefore}
 use Rattle.order.specs.Chains.{firstFrom, pick, put, lasts, chain, needs}
 use Rattle.order.specs.Fill.{eventsIn, beginPosition, shortRow, spaceFor}
 use Rattle.coverage.specs.Below as below
-use Rattle.coverage.specs.Race.{before, raceb}
+use Rattle.coverage.specs.Race.{before, Race, raceb}
 use Rattle.coverage.specs.Neighbours.{conflicts}
 use Rattle.coverage.specs.Leading.{reach, leads, lastKept, entries}
+use Rattle.coverage.specs.Below.{Listed}
+use Rattle.coverage.specs.Cover.{Covers, CoversFrom, one, more}
+use Rattle.coverage.specs.Lists.{allRaces}
+use Rattle.coverage.proofs.Pairs.{in-all}
+use Rattle.races.specs.Traces.{settingOf}
 use Rattle.races.specs.Pair.{PairReply, refused, isOpen, isCovered, demand, isRecord, areRecords, answered, pairFilled, pairTrace, pairRead, pairReply, keptEntries}
 
 -- a question: trace, width, clock space, work space, list space, and two records by number
@@ -59,14 +67,10 @@ said q = let r = pairReply (traceOf (q .trace)) (q .width) (q .clocks) (q .work)
 
 abbrev pub cases : List Case
 cases =
-    given (pair recordsT 6 11) isCovered []
-    ∷ given (pair recordsT 7 10) (isOpen 2) ((1, 4) ∷ (3, 10) ∷ [])
-    ∷ given (pair recordsT 6 10) (refused 12 0) []
-    ∷ given (pair exchanged 6 10) (isOpen 2) ((1, 4) ∷ (3, 10) ∷ [])
+    given (pair exchanged 6 10) (isOpen 2) ((1, 4) ∷ (3, 10) ∷ [])
     ∷ given (pair exchanged 7 11) isCovered []
     ∷ given (pair oneCell 7 10) (isOpen 2) ((1, 4) ∷ (3, 10) ∷ [])
     ∷ given (pair oneCell 7 11) isCovered []
-    ∷ given (pair oneCell 6 10) (isOpen 2) ((1, 4) ∷ (3, 10) ∷ [])
     ∷ given (pair recordsT 10 7) (refused 12 0) []
     ∷ given (pair recordsT 0 10) (refused 11 0) []
     ∷ given (spaces 0 0 0 0 7 13) (refused 11 0) []
@@ -82,3 +86,42 @@ cases =
 pub hold : map (λ (c : Case). said (c .asked)) cases ≡ cases
 unfolding encode trailer traceOf recordAt recordsFrom decode past has begun ended begins place situation owner numbered wellFormed misplaced again early judge rule reading.demand orElse closing walk distance trailerReply frameReply part recordsIn recordsReply readReply firstFrom pick put lasts chain needs eventsIn beginPosition shortRow spaceFor demand isRecord areRecords answered pairFilled pairTrace pairRead pairReply keptEntries entries lastKept below.upto leads reach below.some raceb before conflicts happensBefore rank rankIn opAt opOf linked leq along within some
 hold = refl
+
+-- "T, pair 6 11: covered by 7 10": that is its one cover, by position
+races-T : allRaces (settingOf recordsT) ≡ (6, 9) ∷ (5, 10) ∷ []
+unfolding allRaces below.pairs below.upto raceb before conflicts happensBefore rank rankIn opAt opOf linked leq along within some past begins
+races-T = refl
+
+abbrev Either : ℕ → ℕ → Type 0
+Either c d = (_≡_ {A = ℕ × ℕ} (c, d) (6, 9)) ⊎ (_≡_ {A = ℕ × ℕ} (c, d) (5, 10))
+
+only-races : (c d : ℕ) → Race (settingOf recordsT) c d → Either c d
+only-races c d r = go (rw races-T at (in-all (settingOf recordsT) c d .1 r))
+  where
+    go : Listed c d ((6, 9) ∷ (5, 10) ∷ []) → Either c d
+    go (List·Memᴰ·head e) = inl e
+    go (List·Memᴰ·tail (List·Memᴰ·head e)) = inr e
+    go (List·Memᴰ·tail (List·Memᴰ·tail m)) = absurd (List·Memᴰ·not-nil m)
+
+-- its second record is of the third event action, and its first is not
+second-third : {c d : ℕ} → Either c d → eventOf (at recordsT d) ≡ 3
+second-third (inl e) = ap (λ (p : ℕ × ℕ). eventOf (at recordsT (p .1))) e
+second-third (inr e) = ap (λ (p : ℕ × ℕ). eventOf (at recordsT (p .1))) e
+
+not-third : {c d : ℕ} → Either c d → T (happensBefore recordsT 3 (eventOf (at recordsT c))) → ⊥
+unfolding happensBefore rank rankIn opAt opOf linked leq along within some past begins
+not-third (inl e) h = subst (λ (p : ℕ × ℕ). T (happensBefore recordsT 3 (eventOf (at recordsT (p .0))))) e h
+not-third (inr e) h = subst (λ (p : ℕ × ℕ). T (happensBefore recordsT 3 (eventOf (at recordsT (p .0))))) e h
+
+no-more : {cs : List (ℕ × ℕ)} → CoversFrom (settingOf recordsT) 10 3 cs → ⊥
+no-more (one {c = c} {d = d} h r q) = not-third (only-races c d r) h
+no-more (more {c = c} {d = d} h r k) = not-third (only-races c d r) h
+
+pub only-cover : {cs : List (ℕ × ℕ)} → Covers (settingOf recordsT) cs 5 10 → cs ≡ (6, 9) ∷ []
+unfolding before
+only-cover (one {c = c} {d = d} h r q) = go (only-races c d r)
+  where
+    go : Either c d → _≡_ {A = List (ℕ × ℕ)} ((c, d) ∷ []) ((6, 9) ∷ [])
+    go (inl e) = ap (λ (p : ℕ × ℕ). p ∷ []) e
+    go (inr e) = absurd (subst (λ (p : ℕ × ℕ). T (before (settingOf recordsT) (p .1) 10)) e q)
+only-cover (more {c = c} {d = d} {cs = cs} h r k) = absurd (no-more (subst (λ (u : ℕ). CoversFrom (settingOf recordsT) 10 u cs) (second-third (only-races c d r)) k))
