@@ -4,6 +4,7 @@ pub mod LeadingLaws
 pub mod PassLaws
 pub mod WorkLaws
 pub mod Examples
+pub mod Cases
 pub mod FilledLaws
 pub mod ListLaws
 pub mod EntryStores
