@@ -4,6 +4,7 @@ pub mod LeadingLaws
 pub mod PassLaws
 pub mod WorkLaws
 pub mod Examples
+pub mod Cases
 pub mod FilledLaws
 pub mod ListLaws
 pub mod EntryStores
@@ -14,5 +15,4 @@ pub mod PairLaws
 pub mod PairEnds
 pub mod DemandLaws
 pub mod ThirdDemand
-pub mod Cases
 pub mod PairCases
