@@ -1,0 +1,60 @@
+// Random traces, accepted and damaged: every answer is compared with a plain path search.
+mod cases;
+mod chains;
+mod chance;
+mod damage;
+mod draft;
+mod order_cases;
+mod paths;
+mod show;
+mod slots;
+mod tally;
+
+fn tally_space() -> [usize; 64] {
+    [0; 64]
+}
+
+fn run_whole(tally: &mut [usize]) {
+    let mut seed = 0;
+    while seed < 2000 {
+        cases::whole(seed, tally);
+        seed += 1;
+    }
+}
+
+fn run_damaged(tally: &mut [usize]) {
+    let mut other = 0;
+    while other < 6000 {
+        cases::damaged(other / 3, other, tally);
+        other += 1;
+    }
+}
+
+fn show_groups(tally: &[usize]) {
+    tally::show_group(tally, b"reading", tally::READING);
+    tally::show_group(tally, b"chains", tally::CHAINS);
+    tally::show_group(tally, b"clocks", tally::CLOCKS);
+    tally::show_group(tally, b"order", tally::ORDER);
+    tally::show_group(tally, b"width", tally::WIDTH);
+    tally::show_group(tally, b"no begin", tally::NO_BEGIN);
+}
+
+fn show_totals(tally: &[usize]) {
+    tally::show_total(tally, b"traces", tally::TRACES);
+    tally::show_total(tally, b"damaged", tally::DAMAGED);
+    tally::show_total(tally, b"damaged, accepted", tally::STILL_ACCEPTED);
+    tally::show_refusals(tally);
+    tally::show_total(tally, b"event actions", tally::EVENTS);
+    tally::show_total(tally, b"records", tally::RECORDS);
+    tally::show_total(tally, b"ordered pairs", tally::ORDERED);
+    tally::show_total(tally, b"most chains", tally::MOST_CHAINS);
+}
+
+fn main() {
+    let mut space = tally_space();
+    let tally: &mut [usize] = &mut space;
+    run_whole(tally);
+    run_damaged(tally);
+    show_groups(tally);
+    show_totals(tally);
+}

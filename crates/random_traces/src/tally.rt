@@ -1,0 +1,98 @@
+// What was counted. Each group has two counts: agreements, then disagreements.
+use crate::show::line_end;
+use crate::show::number;
+use crate::show::word;
+
+pub(crate) const READING: usize = 0;
+
+pub(crate) const CHAINS: usize = 1;
+
+pub(crate) const CLOCKS: usize = 2;
+
+pub(crate) const ORDER: usize = 3;
+
+pub(crate) const WIDTH: usize = 4;
+
+pub(crate) const NO_BEGIN: usize = 5;
+
+// Totals.
+pub(crate) const TRACES: usize = 40;
+
+pub(crate) const EVENTS: usize = 41;
+
+pub(crate) const RECORDS: usize = 42;
+
+pub(crate) const ORDERED: usize = 43;
+
+pub(crate) const MOST_CHAINS: usize = 44;
+
+pub(crate) const DAMAGED: usize = 45;
+
+pub(crate) const STILL_ACCEPTED: usize = 46;
+
+// Refusal n of a damaged trace is counted at REFUSED + n.
+pub(crate) const REFUSED: usize = 50;
+
+pub(crate) fn count(tally: &[usize], k: usize) -> usize {
+    if k < tally.len() {
+        return tally[k];
+    }
+    0
+}
+
+pub(crate) fn add(tally: &mut [usize], k: usize, n: usize) {
+    if k < tally.len() {
+        let x = tally[k];
+        if x < 1000000000000 {
+            if n < 1000000000000 {
+                tally[k] = x + n;
+            }
+        }
+    }
+}
+
+pub(crate) fn at_least(tally: &mut [usize], k: usize, n: usize) {
+    if k < tally.len() {
+        if tally[k] < n {
+            tally[k] = n;
+        }
+    }
+}
+
+// One comparison of a group.
+pub(crate) fn note(tally: &mut [usize], group: usize, agrees: bool) {
+    if 1000 < group {
+        return;
+    }
+    if agrees {
+        add(tally, 2 * group, 1);
+        return;
+    }
+    add(tally, 2 * group + 1, 1);
+}
+
+pub(crate) fn show_group(tally: &[usize], text: &[u8], group: usize) {
+    if 1000 < group {
+        return;
+    }
+    word(text);
+    number(count(tally, 2 * group));
+    number(count(tally, 2 * group + 1));
+    line_end();
+}
+
+pub(crate) fn show_total(tally: &[usize], text: &[u8], k: usize) {
+    word(text);
+    number(count(tally, k));
+    line_end();
+}
+
+pub(crate) fn show_refusals(tally: &[usize]) {
+    word(b"damaged, refusals 1 to 10");
+    let mut n = 1;
+    while n <= 10 {
+        number(count(tally, REFUSED + n));
+        n += 1;
+    }
+    line_end();
+}
