@@ -3,10 +3,14 @@ use crate::chains;
 use crate::damage;
 use crate::draft;
 use crate::draft::Draft;
+use crate::expected;
+use crate::list_cases;
 use crate::order_cases;
+use crate::pairs;
 use crate::paths;
 use crate::tally;
 use trace::Reading;
+use trace::Refusal;
 use trace::Trace;
 use trace::access;
 
@@ -22,27 +26,107 @@ fn table() -> [u16; 1024] {
     [0; 1024]
 }
 
+// At most 5,120 races, as entries of two numbers.
+fn pair_space() -> [u16; 10240] {
+    [0; 10240]
+}
+
 fn note_sizes(tally: &mut [usize], events: usize, records: usize, chains: usize) {
     tally::add(tally, tally::EVENTS, events);
     tally::add(tally, tally::RECORDS, records);
     tally::at_least(tally, tally::MOST_CHAINS, chains);
 }
 
-fn compare_trace(bytes: &[u8], t: Trace, tally: &mut [usize]) {
+fn compare_lists(
+    bytes: &[u8],
+    t: Trace,
+    chains: usize,
+    all: &[u16],
+    races: usize,
+    short: &[u16],
+    entries: usize,
+    tally: &mut [usize],
+) {
+    let mut clock_array = order_cases::clock_space();
+    let clocks: &mut [u16] = &mut clock_array;
+    order::fill(bytes, chains::width_for(chains), clocks);
+    list_cases::compare(false, bytes, t, chains, clocks, all, races, tally);
+    list_cases::compare(true, bytes, t, chains, clocks, short, entries, tally);
+}
+
+fn compare_races(
+    bytes: &[u8],
+    t: Trace,
+    ev: &[u16],
+    reach: &[u16],
+    chains: usize,
+    tally: &mut [usize],
+) {
     let recs = access::records(bytes, t);
+    let mut pair_array = pair_space();
+    let pairs: &mut [u16] = &mut pair_array;
+    let mut lead_array = record_space();
+    let leads: &mut [u16] = &mut lead_array;
+    let mut all_array = list_cases::list_space();
+    let all: &mut [u16] = &mut all_array;
+    let mut short_array = list_cases::list_space();
+    let short: &mut [u16] = &mut short_array;
+    let races = pairs::find_races(recs, ev, reach, pairs);
+    let entries = expected::put_lists(recs, ev, reach, pairs, races, leads, all, short);
+    compare_lists(bytes, t, chains, all, races, short, entries, tally);
+}
+
+fn compare_answers(
+    bytes: &[u8],
+    t: Trace,
+    events: &[u16],
+    count: usize,
+    ev: &[u16],
+    reach: &[u16],
+    chains: usize,
+    tally: &mut [usize],
+) {
+    order_cases::compare(bytes, events, count, reach, chains, tally);
+    compare_races(bytes, t, ev, reach, chains, tally);
+}
+
+// Finds the event actions, the paths and the chains; how many chains.
+fn search(
+    recs: &[u8],
+    count: usize,
+    events: &mut [u16],
+    ev: &mut [u16],
+    reach: &mut [u16],
+) -> usize {
+    paths::find_actions(recs, events, count, ev);
+    paths::find_paths(recs, events, count, reach);
+    chains::find_chains(events, count, reach)
+}
+
+fn compare_in(
+    bytes: &[u8],
+    t: Trace,
+    events: &mut [u16],
+    ev: &mut [u16],
+    reach: &mut [u16],
+    tally: &mut [usize],
+) {
+    let recs = access::records(bytes, t);
+    let count = paths::find_begins(recs, events);
+    let chains = search(recs, count, events, ev, reach);
+    tally::note(tally, tally::READING, count == t.events);
+    note_sizes(tally, count, access::count(recs), chains);
+    compare_answers(bytes, t, events, count, ev, reach, chains, tally);
+}
+
+fn compare_trace(bytes: &[u8], t: Trace, tally: &mut [usize]) {
     let mut events_space = record_space();
     let events: &mut [u16] = &mut events_space;
     let mut ev_space = record_space();
     let ev: &mut [u16] = &mut ev_space;
     let mut reach_space = table();
     let reach: &mut [u16] = &mut reach_space;
-    let count = paths::find_begins(recs, events);
-    tally::note(tally, tally::READING, count == t.events);
-    paths::find_actions(recs, events, count, ev);
-    paths::find_paths(recs, events, count, reach);
-    let chains = chains::find_chains(events, count, reach);
-    note_sizes(tally, count, access::count(recs), chains);
-    order_cases::compare(bytes, events, count, reach, chains, tally);
+    compare_in(bytes, t, events, ev, reach, tally);
 }
 
 fn is_as_drafted(t: Trace, d: Draft) -> bool {
@@ -66,6 +150,16 @@ fn check_draft(bytes: &[u8], d: Draft, tally: &mut [usize]) {
     compare_trace(bytes, t, tally);
 }
 
+fn note_refusal(bytes: &[u8], f: Refusal, tally: &mut [usize]) {
+    tally::add(
+        tally,
+        std::num::wrapping_add_usize(tally::REFUSED, f.number as usize),
+        1,
+    );
+    list_cases::compare_refused(false, bytes, f.number, f.place.0, tally);
+    list_cases::compare_refused(true, bytes, f.number, f.place.0, tally);
+}
+
 // A damaged trace.
 fn check_damaged(bytes: &[u8], tally: &mut [usize]) {
     let reading = trace::read(bytes);
@@ -76,11 +170,7 @@ fn check_damaged(bytes: &[u8], tally: &mut [usize]) {
             compare_trace(bytes, t, tally);
         }
         Reading::Refused(f) => {
-            tally::add(
-                tally,
-                std::num::wrapping_add_usize(tally::REFUSED, f.number as usize),
-                1,
-            );
+            note_refusal(bytes, f, tally);
         }
     }
 }

@@ -4,14 +4,17 @@ mod chains;
 mod chance;
 mod damage;
 mod draft;
+mod expected;
+mod list_cases;
 mod order_cases;
+mod pairs;
 mod paths;
 mod show;
 mod slots;
 mod tally;
 
-fn tally_space() -> [usize; 64] {
-    [0; 64]
+fn tally_space() -> [usize; 96] {
+    [0; 96]
 }
 
 fn run_whole(tally: &mut [usize]) {
@@ -39,6 +42,14 @@ fn show_groups(tally: &[usize]) {
     tally::show_group(tally, b"no begin", tally::NO_BEGIN);
 }
 
+fn show_list_groups(tally: &[usize]) {
+    tally::show_group(tally, b"all races", tally::ALL_RACES);
+    tally::show_group(tally, b"short list", tally::SHORT_LIST);
+    tally::show_group(tally, b"list space", tally::LIST_SPACE);
+    tally::show_group(tally, b"work space", tally::WORK_SPACE);
+    tally::show_group(tally, b"lent memory", tally::LENT);
+}
+
 fn show_totals(tally: &[usize]) {
     tally::show_total(tally, b"traces", tally::TRACES);
     tally::show_total(tally, b"damaged", tally::DAMAGED);
@@ -50,11 +61,20 @@ fn show_totals(tally: &[usize]) {
     tally::show_total(tally, b"most chains", tally::MOST_CHAINS);
 }
 
+fn show_race_totals(tally: &[usize]) {
+    tally::show_total(tally, b"races", tally::RACES);
+    tally::show_total(tally, b"open races", tally::OPEN);
+    tally::show_total(tally, b"short list entries", tally::SHORT_ENTRIES);
+    tally::show_total(tally, b"open entries", tally::SHORT_OPEN);
+}
+
 fn main() {
     let mut space = tally_space();
     let tally: &mut [usize] = &mut space;
     run_whole(tally);
     run_damaged(tally);
     show_groups(tally);
+    show_list_groups(tally);
     show_totals(tally);
+    show_race_totals(tally);
 }

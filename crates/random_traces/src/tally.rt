@@ -15,6 +15,16 @@ pub(crate) const WIDTH: usize = 4;
 
 pub(crate) const NO_BEGIN: usize = 5;
 
+pub(crate) const ALL_RACES: usize = 6;
+
+pub(crate) const SHORT_LIST: usize = 7;
+
+pub(crate) const LIST_SPACE: usize = 8;
+
+pub(crate) const WORK_SPACE: usize = 9;
+
+pub(crate) const LENT: usize = 10;
+
 // Totals.
 pub(crate) const TRACES: usize = 40;
 
@@ -29,6 +39,14 @@ pub(crate) const MOST_CHAINS: usize = 44;
 pub(crate) const DAMAGED: usize = 45;
 
 pub(crate) const STILL_ACCEPTED: usize = 46;
+
+pub(crate) const RACES: usize = 61;
+
+pub(crate) const OPEN: usize = 62;
+
+pub(crate) const SHORT_ENTRIES: usize = 63;
+
+pub(crate) const SHORT_OPEN: usize = 64;
 
 // Refusal n of a damaged trace is counted at REFUSED + n.
 pub(crate) const REFUSED: usize = 50;
