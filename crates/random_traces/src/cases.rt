@@ -6,6 +6,7 @@ use crate::draft::Draft;
 use crate::expected;
 use crate::list_cases;
 use crate::order_cases;
+use crate::pair_cases;
 use crate::pairs;
 use crate::paths;
 use crate::tally;
@@ -57,6 +58,8 @@ fn compare_lists(
 fn compare_races(
     bytes: &[u8],
     t: Trace,
+    events: &[u16],
+    count: usize,
     ev: &[u16],
     reach: &[u16],
     chains: usize,
@@ -74,6 +77,18 @@ fn compare_races(
     let races = pairs::find_races(recs, ev, reach, pairs);
     let entries = expected::put_lists(recs, ev, reach, pairs, races, leads, all, short);
     compare_lists(bytes, t, chains, all, races, short, entries, tally);
+    pair_cases::compare(
+        bytes,
+        recs,
+        events,
+        count,
+        ev,
+        reach,
+        chains,
+        pairs,
+        races,
+        tally,
+    );
 }
 
 fn compare_answers(
@@ -87,7 +102,7 @@ fn compare_answers(
     tally: &mut [usize],
 ) {
     order_cases::compare(bytes, events, count, reach, chains, tally);
-    compare_races(bytes, t, ev, reach, chains, tally);
+    compare_races(bytes, t, events, count, ev, reach, chains, tally);
 }
 
 // Finds the event actions, the paths and the chains; how many chains.

@@ -7,6 +7,7 @@ mod draft;
 mod expected;
 mod list_cases;
 mod order_cases;
+mod pair_cases;
 mod pairs;
 mod paths;
 mod show;
@@ -50,6 +51,14 @@ fn show_list_groups(tally: &[usize]) {
     tally::show_group(tally, b"lent memory", tally::LENT);
 }
 
+fn show_pair_groups(tally: &[usize]) {
+    tally::show_group(tally, b"pair question", tally::PAIR);
+    tally::show_group(tally, b"kept event actions", tally::KEPT);
+    tally::show_group(tally, b"arrangements", tally::ARRANGED);
+    tally::show_group(tally, b"covers", tally::COVER);
+    tally::show_group(tally, b"no race", tally::NO_RACE);
+}
+
 fn show_totals(tally: &[usize]) {
     tally::show_total(tally, b"traces", tally::TRACES);
     tally::show_total(tally, b"damaged", tally::DAMAGED);
@@ -66,6 +75,8 @@ fn show_race_totals(tally: &[usize]) {
     tally::show_total(tally, b"open races", tally::OPEN);
     tally::show_total(tally, b"short list entries", tally::SHORT_ENTRIES);
     tally::show_total(tally, b"open entries", tally::SHORT_OPEN);
+    tally::show_total(tally, b"covers of several races", tally::LONGER);
+    tally::show_total(tally, b"longest cover", tally::LONGEST);
 }
 
 fn main() {
@@ -75,6 +86,7 @@ fn main() {
     run_damaged(tally);
     show_groups(tally);
     show_list_groups(tally);
+    show_pair_groups(tally);
     show_totals(tally);
     show_race_totals(tally);
 }

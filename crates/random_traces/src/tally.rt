@@ -25,6 +25,16 @@ pub(crate) const WORK_SPACE: usize = 9;
 
 pub(crate) const LENT: usize = 10;
 
+pub(crate) const PAIR: usize = 11;
+
+pub(crate) const KEPT: usize = 12;
+
+pub(crate) const ARRANGED: usize = 13;
+
+pub(crate) const COVER: usize = 14;
+
+pub(crate) const NO_RACE: usize = 15;
+
 // Totals.
 pub(crate) const TRACES: usize = 40;
 
@@ -47,6 +57,10 @@ pub(crate) const OPEN: usize = 62;
 pub(crate) const SHORT_ENTRIES: usize = 63;
 
 pub(crate) const SHORT_OPEN: usize = 64;
+
+pub(crate) const LONGER: usize = 65;
+
+pub(crate) const LONGEST: usize = 66;
 
 // Refusal n of a damaged trace is counted at REFUSED + n.
 pub(crate) const REFUSED: usize = 50;
