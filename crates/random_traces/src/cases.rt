@@ -4,11 +4,13 @@ use crate::damage;
 use crate::draft;
 use crate::draft::Draft;
 use crate::expected;
+use crate::judge;
 use crate::list_cases;
 use crate::order_cases;
 use crate::pair_cases;
 use crate::pairs;
 use crate::paths;
+use crate::slots::narrow;
 use crate::tally;
 use trace::Reading;
 use trace::Refusal;
@@ -30,6 +32,26 @@ fn table() -> [u16; 1024] {
 // At most 5,120 races, as entries of two numbers.
 fn pair_space() -> [u16; 10240] {
     [0; 10240]
+}
+
+// The reader's answer against the words of document 01; number 0 for an accepted trace.
+fn compare_judged(bytes: &[u8], number: u16, place: u16, tally: &mut [usize]) {
+    let v = judge::judge(bytes);
+    tally::note(
+        tally,
+        tally::JUDGED,
+        v.number == number && narrow(v.place) == place,
+    );
+}
+
+fn note_links(recs: &[u8], events: &[u16], count: usize, tally: &mut [usize]) {
+    tally::add(tally, tally::JOINS, judge::count_kind(recs, 4));
+    tally::add(tally, tally::FORKS, judge::count_kind(recs, 3));
+    tally::add(
+        tally,
+        tally::FORKED,
+        paths::count_forked(recs, events, count),
+    );
 }
 
 fn note_sizes(tally: &mut [usize], events: usize, records: usize, chains: usize) {
@@ -101,6 +123,7 @@ fn compare_answers(
     chains: usize,
     tally: &mut [usize],
 ) {
+    note_links(access::records(bytes, t), events, count, tally);
     order_cases::compare(bytes, events, count, reach, chains, tally);
     compare_races(bytes, t, events, count, ev, reach, chains, tally);
 }
@@ -141,6 +164,7 @@ fn compare_trace(bytes: &[u8], t: Trace, tally: &mut [usize]) {
     let ev: &mut [u16] = &mut ev_space;
     let mut reach_space = table();
     let reach: &mut [u16] = &mut reach_space;
+    compare_judged(bytes, 0, 0, tally);
     compare_in(bytes, t, events, ev, reach, tally);
 }
 
@@ -171,6 +195,7 @@ fn note_refusal(bytes: &[u8], f: Refusal, tally: &mut [usize]) {
         std::num::wrapping_add_usize(tally::REFUSED, f.number as usize),
         1,
     );
+    compare_judged(bytes, f.number, f.place.0, tally);
     list_cases::compare_refused(false, bytes, f.number, f.place.0, tally);
     list_cases::compare_refused(true, bytes, f.number, f.place.0, tally);
 }

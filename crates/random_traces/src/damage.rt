@@ -1,10 +1,8 @@
 // A trace with one thing changed.
 use crate::chance::roll;
 use crate::draft::Draft;
-use crate::draft::put_record;
 use crate::draft::put_trailer;
 use crate::slots::get_byte;
-use crate::slots::narrow;
 use crate::slots::put_byte;
 
 fn byte(x: usize) -> u8 {
@@ -25,7 +23,7 @@ fn some_record(d: Draft, seed: usize, purpose: usize) -> usize {
     start + 5 * i
 }
 
-// Copies byte by byte, the two records exchanged.
+// Exchanges two records.
 fn exchange(bytes: &mut [u8], p: usize, q: usize) {
     let mut i = 0;
     while i < 5 {

@@ -5,6 +5,7 @@ mod chance;
 mod damage;
 mod draft;
 mod expected;
+mod judge;
 mod list_cases;
 mod order_cases;
 mod pair_cases;
@@ -36,6 +37,7 @@ fn run_damaged(tally: &mut [usize]) {
 
 fn show_groups(tally: &[usize]) {
     tally::show_group(tally, b"reading", tally::READING);
+    tally::show_group(tally, b"refusals", tally::JUDGED);
     tally::show_group(tally, b"chains", tally::CHAINS);
     tally::show_group(tally, b"clocks", tally::CLOCKS);
     tally::show_group(tally, b"order", tally::ORDER);
@@ -66,6 +68,9 @@ fn show_totals(tally: &[usize]) {
     tally::show_refusals(tally);
     tally::show_total(tally, b"event actions", tally::EVENTS);
     tally::show_total(tally, b"records", tally::RECORDS);
+    tally::show_total(tally, b"joins", tally::JOINS);
+    tally::show_total(tally, b"forks", tally::FORKS);
+    tally::show_total(tally, b"forks of events that begin", tally::FORKED);
     tally::show_total(tally, b"ordered pairs", tally::ORDERED);
     tally::show_total(tally, b"most chains", tally::MOST_CHAINS);
 }

@@ -282,6 +282,27 @@ fn compare_answer(
     }
 }
 
+// The pair question of the records at positions a and b.
+fn ask(
+    bytes: &[u8],
+    width: usize,
+    clocks: &mut [u16],
+    work: &mut [u8],
+    list: &mut [u16],
+    a: usize,
+    b: usize,
+) -> PairAnswer {
+    races::pair::ask_pair(
+        bytes,
+        width,
+        clocks,
+        work,
+        list,
+        record_number(a),
+        record_number(b),
+    )
+}
+
 fn compare_pair(
     bytes: &[u8],
     recs: &[u8],
@@ -301,15 +322,7 @@ fn compare_pair(
     let work: &mut [u8] = &mut work_array;
     let mut list_array = answer_space();
     let list: &mut [u16] = &mut list_array;
-    let answer = races::pair::ask_pair(
-        bytes,
-        width,
-        clocks,
-        work,
-        list,
-        record_number(a),
-        record_number(b),
-    );
+    let answer = ask(bytes, width, clocks, work, list, a, b);
     compare_answer(
         recs,
         events,
@@ -417,15 +430,7 @@ fn ask_refused(bytes: &[u8], width: usize, a: usize, b: usize) -> PairAnswer {
     let work: &mut [u8] = &mut work_array;
     let mut list_array = answer_space();
     let list: &mut [u16] = &mut list_array;
-    races::pair::ask_pair(
-        bytes,
-        width,
-        clocks,
-        work,
-        list,
-        record_number(a),
-        record_number(b),
-    )
+    ask(bytes, width, clocks, work, list, a, b)
 }
 
 // Records a and b, where they are no race.

@@ -102,7 +102,7 @@ fn clear(leads: &mut [u16]) {
     }
 }
 
-// Whether race r carries t to record b: ev(t) ≼ ev(c), and d ≼ b or d's event action leads to b already.
+// Whether race r (c, d) carries t to record b: t ≼ ev(c), and d ≼ b or d's event action leads to b already.
 fn carries(
     pairs: &[u16],
     ev: &[u16],

@@ -86,6 +86,23 @@ fn link(recs: &[u8], events: &[u16], count: usize, i: usize, reach: &mut [u16]) 
     put_if(reach, kind == 4, slot(y, x), 1);
 }
 
+// How many forks start an event that begins.
+pub(crate) fn count_forked(recs: &[u8], events: &[u16], count: usize) -> usize {
+    let n = access::count(recs);
+    let mut found = 0;
+    let mut i = 0;
+    while i < n {
+        let begins = rank(events, count, second(recs, i)) < count;
+        found = more(found, both(access::kind_at(recs, i) == 3, begins));
+        i += 1;
+    }
+    found
+}
+
+fn both(a: bool, b: bool) -> bool {
+    a && b
+}
+
 fn find_links(recs: &[u8], events: &[u16], count: usize, reach: &mut [u16]) {
     let n = access::count(recs);
     let mut i = 0;

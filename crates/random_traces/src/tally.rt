@@ -35,6 +35,8 @@ pub(crate) const COVER: usize = 14;
 
 pub(crate) const NO_RACE: usize = 15;
 
+pub(crate) const JUDGED: usize = 16;
+
 // Totals.
 pub(crate) const TRACES: usize = 40;
 
@@ -61,6 +63,12 @@ pub(crate) const SHORT_OPEN: usize = 64;
 pub(crate) const LONGER: usize = 65;
 
 pub(crate) const LONGEST: usize = 66;
+
+pub(crate) const JOINS: usize = 67;
+
+pub(crate) const FORKS: usize = 68;
+
+pub(crate) const FORKED: usize = 69;
 
 // Refusal n of a damaged trace is counted at REFUSED + n.
 pub(crate) const REFUSED: usize = 50;
