@@ -1,0 +1,51 @@
+-- `random_traces::chains::choose` meets its contract.
+-- Assumes nothing.
+use borrow.Author.Needs.{needs}
+use Prim.Native.Nat.{_≤_, _-_}
+use Rattle.random_traces.proofs.chains.choose.Statement.{statement}
+use Rattle.random_traces.proofs.chains.choose.Tie as tie
+
+abbrev Inv-loop : tie.InvT-loop
+Inv-loop last reach chains u c₀ c = c₀ ≤ c
+
+abbrev μ-loop : tie.MeasureT-loop
+μ-loop last reach chains u c₀ c = chains - c
+
+loop-holds : tie.Need-loop-holds Inv-loop μ-loop
+loop-holds c = search needs
+
+get-requires : tie.Need-get-requires Inv-loop μ-loop
+get-requires c κs = search needs
+
+reaches-requires : tie.Need-reaches-requires Inv-loop μ-loop
+reaches-requires c κs = search needs
+
+returns : tie.Need-returns Inv-loop μ-loop
+returns c = search needs
+
+add-c : tie.Need-add-c Inv-loop μ-loop
+add-c c = search needs
+
+loop-less : tie.Need-loop-less Inv-loop μ-loop
+loop-less c = search needs
+
+loop-again : tie.Need-loop-again Inv-loop μ-loop
+loop-again c = search needs
+
+returns-2 : tie.Need-returns-2 Inv-loop μ-loop
+returns-2 c = search needs
+
+pub choose-spec : {M : Type 1} → statement M
+choose-spec =
+    tie.close
+    (tie.spec
+    Inv-loop
+    μ-loop
+    loop-holds
+    get-requires
+    reaches-requires
+    returns
+    add-c
+    loop-less
+    loop-again
+    returns-2)

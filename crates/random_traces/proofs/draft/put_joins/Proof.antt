@@ -1,0 +1,53 @@
+-- `random_traces::draft::put_joins` meets its contract.
+-- Assumes nothing.
+use borrow.Author.Needs.{needs}
+use Prim.Native.Nat.{_-_}
+use lib.ListN.{length}
+use mathlib.Core.Path.{_≡_}
+use Rattle.random_traces.proofs.draft.put_joins.Statement.{statement}
+use Rattle.random_traces.proofs.draft.put_joins.Tie as tie
+
+abbrev Inv-loop : tie.InvT-loop
+Inv-loop bytes₀ from s j n at₀ i₀ bytes at i = length bytes ≡ length bytes₀
+
+abbrev μ-loop : tie.MeasureT-loop
+μ-loop bytes₀ from s j n at₀ i₀ bytes at i = n - i
+
+join-count-requires : tie.Need-join-count-requires Inv-loop μ-loop
+join-count-requires c κs = search needs
+
+loop-holds : tie.Need-loop-holds Inv-loop μ-loop
+loop-holds c = search needs
+
+put-join-requires : tie.Need-put-join-requires Inv-loop μ-loop
+put-join-requires c κs = search needs
+
+add-i : tie.Need-add-i Inv-loop μ-loop
+add-i c = search needs
+
+loop-less : tie.Need-loop-less Inv-loop μ-loop
+loop-less c = search needs
+
+loop-again : tie.Need-loop-again Inv-loop μ-loop
+loop-again c = search needs
+
+same-length : tie.Need-same-length Inv-loop μ-loop
+same-length c = search needs
+
+returns : tie.Need-returns Inv-loop μ-loop
+returns c = search needs
+
+pub put-joins-spec : {M : Type 1} → statement M
+put-joins-spec =
+    tie.close
+    (tie.spec
+    Inv-loop
+    μ-loop
+    join-count-requires
+    loop-holds
+    put-join-requires
+    add-i
+    loop-less
+    loop-again
+    same-length
+    returns)

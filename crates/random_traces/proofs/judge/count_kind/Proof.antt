@@ -1,0 +1,51 @@
+-- `random_traces::judge::count_kind` meets its contract.
+-- Assumes nothing.
+use borrow.Author.Needs.{needs}
+use Prim.Native.Nat.{_≤_, _-_}
+use Rattle.random_traces.proofs.judge.count_kind.Statement.{statement}
+use Rattle.random_traces.proofs.judge.count_kind.Tie as tie
+
+abbrev Inv-loop : tie.InvT-loop
+Inv-loop recs kind n found₀ i₀ found i = i₀ ≤ i
+
+abbrev μ-loop : tie.MeasureT-loop
+μ-loop recs kind n found₀ i₀ found i = n - i
+
+count-requires : tie.Need-count-requires Inv-loop μ-loop
+count-requires c κs = search needs
+
+loop-holds : tie.Need-loop-holds Inv-loop μ-loop
+loop-holds c = search needs
+
+kind-at-requires : tie.Need-kind-at-requires Inv-loop μ-loop
+kind-at-requires c κs = search needs
+
+more-requires : tie.Need-more-requires Inv-loop μ-loop
+more-requires c κs = search needs
+
+add-i : tie.Need-add-i Inv-loop μ-loop
+add-i c = search needs
+
+loop-less : tie.Need-loop-less Inv-loop μ-loop
+loop-less c = search needs
+
+loop-again : tie.Need-loop-again Inv-loop μ-loop
+loop-again c = search needs
+
+returns : tie.Need-returns Inv-loop μ-loop
+returns c = search needs
+
+pub count-kind-spec : {M : Type 1} → statement M
+count-kind-spec =
+    tie.close
+    (tie.spec
+    Inv-loop
+    μ-loop
+    count-requires
+    loop-holds
+    kind-at-requires
+    more-requires
+    add-i
+    loop-less
+    loop-again
+    returns)

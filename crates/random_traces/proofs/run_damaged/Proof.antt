@@ -1,0 +1,49 @@
+-- `random_traces::run_damaged` meets its contract.
+-- Assumes nothing.
+use borrow.Author.Needs.{needs}
+use Prim.Native.Nat.{_-_}
+use lib.ListN.{length}
+use mathlib.Core.Path.{_≡_}
+use Rattle.random_traces.proofs.run_damaged.Statement.{statement}
+use Rattle.random_traces.proofs.run_damaged.Tie as tie
+
+abbrev Inv-loop : tie.InvT-loop
+Inv-loop tally₀ other₀ tally other = length tally ≡ length tally₀
+
+abbrev μ-loop : tie.MeasureT-loop
+μ-loop tally₀ other₀ tally other = 6000 - other
+
+loop-holds : tie.Need-loop-holds Inv-loop μ-loop
+loop-holds c = search needs
+
+damaged-requires : tie.Need-damaged-requires Inv-loop μ-loop
+damaged-requires c κs = search needs
+
+add-other : tie.Need-add-other Inv-loop μ-loop
+add-other c = search needs
+
+loop-less : tie.Need-loop-less Inv-loop μ-loop
+loop-less c = search needs
+
+loop-again : tie.Need-loop-again Inv-loop μ-loop
+loop-again c = search needs
+
+same-length : tie.Need-same-length Inv-loop μ-loop
+same-length c = search needs
+
+returns : tie.Need-returns Inv-loop μ-loop
+returns c = search needs
+
+pub run-damaged-spec : {M : Type 1} → statement M
+run-damaged-spec =
+    tie.close
+    (tie.spec
+    Inv-loop
+    μ-loop
+    loop-holds
+    damaged-requires
+    add-other
+    loop-less
+    loop-again
+    same-length
+    returns)
