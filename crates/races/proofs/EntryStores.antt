@@ -4,23 +4,23 @@ use Prim.Native.Nat.{ℕ, zero, suc, _+_, _*_, _-_, _≤_, _<_}
 use mathlib.Core.Path.{_≡_, refl, sym, ap, ap₂, _∙_, subst}
 use mathlib.Core.Bool.{Bool, true, false, cond}
 use mathlib.Core.List.{List, [], _∷_, _++_, append-assoc, append-nil, map}
-use mathlib.Core.Logic.{_≢_}
+use mathlib.Core.Logic.{_⊎_, inl, inr}
+use Rattle.trace.proofs.Positions.{lt-or-ge}
 use lib.Dec.{T}
 use native.Mathlib.Omega.{arith}
 use native.Mathlib.Nat.{add-zero}
-use lib.ListN.{length, drop, set, length-append, length-set, length-map}
+use lib.ListN.{length, set, length-append, length-map}
 use lib.Seq.{sets, length-sets}
 use Rattle.trace.specs.declared.Record.{Record}
-use Rattle.trace.specs.Records.{at, eventOf}
+use Rattle.trace.specs.Records.{at}
 use Rattle.coverage.specs.Race.{raceb}
 use Rattle.coverage.specs.Leading.{coveredb}
 use Rattle.races.specs.Traces.{isAccess, settingOf}
-use Rattle.races.specs.Leading.{rows, leadingMarks}
-use Rattle.races.specs.LeadingPass.{markedEvent}
 use Rattle.races.specs.Lists.{shapeOf, markOf, entry, numbers}
-use Rattle.races.specs.ListPass.{fromOf, firsts, withSecond, pairsBelow, Marks, entryIf, OneWrites, Room, Writes}
-use Rattle.races.proofs.PassLaws.{marked-covered}
-use Rattle.races.proofs.ListLaws.{firsts-start, firsts-yes, firsts-no, firsts-none, firsts-grow, below-more, below-length}
+use Rattle.races.specs.Candidates.{Jump, Range, FirstRace}
+use Rattle.races.specs.ListPass.{fromOf, firsts, withSecond, pairsBelow, entryIf, OneWrites, Room, Writes, Ranges}
+use Rattle.races.proofs.CandidateLaws.{racing}
+use Rattle.races.proofs.ListLaws.{firsts-start, firsts-yes, firsts-no, firsts-grow, firsts-skip, firsts-low, firsts-empty, below-more, below-length}
 
 pub five-stores : (l : List ℕ) (i a b c d e : ℕ) → set (set (set (set (set l i a) (i + 1) b) (i + 2) c) (i + 3) d) (i + 4) e ≡ sets l i (a ∷ b ∷ c ∷ d ∷ e ∷ [])
 five-stores l i a b c d e =
@@ -87,12 +87,6 @@ module _ (tr : List Record) where
       let p : 5 * length ps ≡ 0 + length (numbers tr ps) = omega (arith, numbers-length ps) in
       rw (below-more tr short b, numbers-append ps qs, sets-append list 0 (numbers tr ps) (numbers tr qs), p)
 
--- the mark of an entry, from the marks of the event actions that lead to its second access
-pub mark-covered : {tr : List Record} {ranks work : List ℕ} {b : ℕ} → Marks tr ranks work b → (a : ℕ) → a < b → markedEvent ranks work (eventOf (at tr a)) ≡ coveredb (settingOf tr) a b
-mark-covered {tr} {ranks} {work} {b} m a l =
-    let h : a < length tr = omega (arith, m .inside) in
-    ap₂ (λ r w. markedEvent r w (eventOf (at tr a))) (m .ranks-are) (m .work-is) ∙ marked-covered (m .acceptable) b (drop (rows tr) work) a h
-
 pub entry-stores : (tr : List Record) (l : List ℕ) (i a b x y z : ℕ) → x ≡ at tr b .second → y ≡ shapeOf tr a b → z ≡ markOf tr a b
     → set (set (set (set (set l i (a + 1)) (i + 1) (b + 1)) (i + 2) x) (i + 3) y) (i + 4) z ≡ sets l i (entry tr a b)
 unfolding entry
@@ -144,34 +138,70 @@ module _ {tr : List Record} {b from k : ℕ} {list₀ list : List ℕ} {next a :
     high = omega arith;
   }
 
-  pub writing-next : a < b → (list′ : List ℕ) (r : ℕ) → OneWrites tr a b next list list′ r → Writing tr b from k list₀ list′ r (a + 1)
-  writing-next l list′ r o = go (raceb (settingOf tr) a b) refl (o .next) (o .list-is)
+  pub writing-one : a < b → (list′ : List ℕ) (r : ℕ) → OneWrites tr a b next list list′ r → Writing tr b from k list₀ list′ r (a + 1)
+  writing-one l list′ r o = go (raceb (settingOf tr) a b) refl (o .next) (o .list-is)
     where
       go : (t : Bool) → raceb (settingOf tr) a b ≡ t → r ≡ cond t (next + 1) next → list′ ≡ entryIf t tr a b next list → Writing tr b from k list₀ list′ r (a + 1)
       go true e p q = rw (p, q) (writing-yes l e)
       go false e p q = rw (p, q) (writing-no l e)
 
-  pub writing-end : b ≤ a → Writes tr b from k list₀ list next
-  writing-end h =
-      let u = w .high in
-      let e : a ≡ b = omega arith in
-      record { next = w .next-is ∙ ap (λ i. k + length (firsts tr from b i)) e; list-is = w .list-is ∙ ap (λ i. sets list₀ (5 * k) (numbers tr (withSecond tr b (firsts tr from b i)))) e }
+  -- on to the next access of the cell
+  pub writing-jump : {p : ℕ} → a ≡ p + 1 → {r : ℕ} → Jump tr b p r → Writing tr b from k list₀ list next r
+  writing-jump {p} e {r} j =
+      let l = j .ahead in
+      let m = w .low in
+      let f = firsts-skip tr from b a r (omega arith) (λ x u v. j .none x (omega arith) v) in
+      record {
+        next-is = w .next-is ∙ ap (λ xs. k + length xs) (sym f);
+        list-is = w .list-is ∙ ap (λ xs. sets list₀ (5 * k) (numbers tr (withSecond tr b xs))) (sym f);
+        low = omega arith;
+        high = j .on .high;
+      }
 
--- a second access that races is an access, and one without races has no entries
-pub some-access : (tr : List Record) (from b i : ℕ) → length (firsts tr from b i) ≢ 0 → T (isAccess (at tr b))
-some-access tr from b i n = go (isAccess (at tr b)) refl
-  where
-    go : (t : Bool) → isAccess (at tr b) ≡ t → T t
-    go true e = tt
-    go false e = absurd (n (ap length (firsts-none tr from b i e)))
+  pub writing-end : {to : ℕ} → to ≤ a → Range tr b from to → Writes tr b from k list₀ list next
+  writing-end {to} h g =
+      let f = firsts-skip tr from b a b (w .high) (λ x l m. g .none x (omega arith) m) in
+      record { next = w .next-is ∙ ap (λ xs. k + length xs) (sym f); list-is = w .list-is ∙ ap (λ xs. sets list₀ (5 * k) (numbers tr (withSecond tr b xs))) (sym f) }
 
-no-elements : (xs : List ℕ) → length xs ≡ 0 → xs ≡ []
-no-elements [] e = refl
-no-elements (x ∷ xs) e = absurd (omega arith)
+pub writing-next : {tr : List Record} {b from k : ℕ} {list₀ list : List ℕ} {next a : ℕ} → Writing tr b from k list₀ list next a → a < b → (list′ : List ℕ) (r : ℕ) → OneWrites tr a b next list list′ r → (a′ : ℕ) → Jump tr b a a′ → Writing tr b from k list₀ list′ r a′
+writing-next w l list′ r o a′ j = writing-jump (writing-one w l list′ r o) refl j
 
-pub no-entries : (tr : List Record) (b from k : ℕ) (list : List ℕ) → length (firsts tr from b b) ≡ 0 → Writes tr b from k list list k
+-- a second access without races has no entries
+pub no-entries : {tr : List Record} {b from to low : ℕ} (k : ℕ) (list : List ℕ) → Range tr b from to → FirstRace tr b from to low → to ≤ low → Writes tr b from k list list k
 unfolding numbers
-no-entries tr b from k list e = record { next = omega arith; list-is = rw (no-elements (firsts tr from b b) e) }
+no-entries {tr} {b} {from} {to} {low} k list g f l =
+    let e = firsts-empty tr from b b (λ x m n. beyond x m n (lt-or-ge x low)) in
+    record { next = omega (arith, ap length e); list-is = rw e }
+  where
+    beyond : (x : ℕ) → from ≤ x → x < b → (x < low) ⊎ (low ≤ x) → T (raceb (settingOf tr) x b) → ⊥
+    beyond x m n (inl h) r = f .none x m h r
+    beyond x m n (inr h) r = g .none x (omega arith) n r
+
+-- From the first race on the way.
+module _ {tr : List Record} {b from to low : ℕ} (g : Range tr b from to) (f : FirstRace tr b from to low) where
+  pub low-range : Range tr b low to
+  low-range = record { on = f .on; high = g .high; none = g .none }
+
+  low-firsts : (i : ℕ) → firsts tr from b i ≡ firsts tr low b i
+  low-firsts i = firsts-low tr from b low i (f .low) (f .none)
+
+  pub low-room : {ranks of : List ℕ} {width : ℕ} {clocks : List ℕ} {k : ℕ} {list : List ℕ} → Room tr ranks of width clocks b from k list → Room tr ranks of width clocks b low k list
+  low-room {k = k} {list = list} r = record { filled = r .filled; inside = r .inside; space = subst (λ (xs : List ℕ). 5 * (k + length xs) ≤ length list) (low-firsts b) (r .space) }
+
+  pub low-writes : {k : ℕ} {list list′ : List ℕ} {r : ℕ} → Writes tr b low k list list′ r → Writes tr b from k list list′ r
+  low-writes {k} {list} {list′} {r} w = record { next = w .next ∙ ap (λ xs. k + length xs) (sym (low-firsts b)); list-is = w .list-is ∙ ap (λ xs. sets list (5 * k) (numbers tr (withSecond tr b xs))) (sym (low-firsts b)) }
+
+-- the second access of a race is an access
+pub race-second : (tr : List Record) (a b : ℕ) → T (raceb (settingOf tr) a b) → T (isAccess (at tr b))
+race-second tr a b r = racing tr a b r .second
+
+-- A way that the code finds, for the entries that the lists have.
+module _ {tr : List Record} {short : Bool} {b from to : ℕ} (w : Ranges tr short b from to) where
+  pub way-writes : {k : ℕ} {list list′ : List ℕ} {r : ℕ} → Writes tr b from k list list′ r → Writes tr b (fromOf tr short b) k list list′ r
+  way-writes {k} {list} o = record { next = o .next ∙ ap (λ xs. k + length xs) (sym (w .firsts-are)); list-is = o .list-is ∙ ap (λ xs. sets list (5 * k) (numbers tr (withSecond tr b xs))) (sym (w .firsts-are)) }
+
+  pub way-length : length (firsts tr (fromOf tr short b) b b) ≡ length (firsts tr from b b)
+  way-length = ap length (w .firsts-are)
 
 -- the loop over the second accesses, turn by turn
 pub record Listing (tr : List Record) (short : Bool) (list₀ list : List ℕ) (k b : ℕ) : Type 0 where

@@ -6,6 +6,7 @@ pub mod WorkLaws
 pub mod Examples
 pub mod Cases
 pub mod FilledLaws
+pub mod CandidateLaws
 pub mod ListLaws
 pub mod EntryStores
 pub mod ListEnds

@@ -9,7 +9,7 @@ use native.Mathlib.Omega.{arith}
 use native.Mathlib.Numerals.{add-one}
 use native.Mathlib.Nat.{eq-or-lt-of-le, le-of-suc-le-suc}
 use borrow.Author.Tests.{eq-eqb, ne-eqb, eqb-true, le-leb, lt-leb, lt-ltb}
-use lib.Dec.{T, leb, ltb, eqb, eqb→eq, leb→le, ltb→lt, T-not, not-T}
+use lib.Dec.{T, leb, ltb, eqb, leb→le, le→leb, ltb→lt, T-not, not-T}
 use lib.ListN.{length, length-append, length-map}
 use Rattle.trace.specs.declared.Record.{Record}
 use Rattle.trace.specs.Records.{at, isRead, isWrite}
@@ -18,12 +18,14 @@ use Rattle.coverage.specs.Below.{some, upto, pairs, only}
 use Rattle.coverage.specs.Race.{raceb}
 use Rattle.coverage.specs.Neighbours.{Cells, conflicts, writeBetween, neighbour}
 use Rattle.coverage.specs.Lists.{allRaces, shortList}
-use Rattle.coverage.proofs.Tests.{both, and, or-right, decide, found, find}
+use Rattle.coverage.proofs.Tests.{both, and, or-right, decide, found, find, eq→eqb}
 use Rattle.order.proofs.Tests.{equal-tests}
 use Rattle.coverage.proofs.Lists.{upto-ext, upto-zero, upto-yes, upto-no, upto-empty}
 use Rattle.races.specs.Traces.{isAccess, cellsOf, settingOf}
 use Rattle.races.specs.Lists.{pairsOf}
-use Rattle.races.specs.ListPass.{lastWrite, fromOf, firsts, withSecond, pairsBelow}
+use Rattle.races.specs.Candidates.{cell, accesses, startOf, On, Range}
+use Rattle.races.specs.ListPass.{fromOf, firsts, withSecond, pairsBelow, Ranges}
+use Rattle.races.proofs.CandidateLaws.{Start, start, racing, race-accesses}
 
 off : (x : Bool) → (T x → ⊥) → x ≡ false
 off true h = absurd (h tt)
@@ -77,40 +79,40 @@ module _ (tr : List Record) where
   unfolding firsts
   firsts-length from b i = upto-length i (test from b)
 
-  -- the last write of a cell below i
-  abbrev writesAt : ℕ → ℕ → Bool
-  writesAt c i = isWrite (at tr i) && eqb (at tr i .second) c
+  -- nothing from a on: all is found
+  upto-skip : (m d : ℕ) (p : ℕ → Bool) → ((x : ℕ) → m ≤ x → x < m + d → T (p x) → ⊥) → upto (m + d) p ≡ upto m p
+  upto-skip m zero p n = let e : m + 0 ≡ m = omega arith in rw e refl
+  upto-skip m (suc d) p n =
+      let e : m + suc d ≡ suc (m + d) = omega arith in
+      rw e (upto-no (m + d) p (n (m + d) (omega arith) (omega arith)) ∙ upto-skip m d p (λ x l k. n x l (omega arith)))
 
-  pub record Last (c i w : ℕ) : Type 0 where
-    pub low : w ≤ i
-    pub writes : 0 < w → (w < i) × T (writesAt c w)
-    pub none : (x : ℕ) → w < x → x < i → T (writesAt c x) → ⊥
+  pub firsts-skip : (from b a i : ℕ) → a ≤ i → ((x : ℕ) → a ≤ x → x < i → T (race x b) → ⊥) → firsts tr from b i ≡ firsts tr from b a
+  unfolding firsts
+  firsts-skip from b a i l n =
+      let e : a + (i - a) ≡ i = omega arith in
+      rw e at (upto-skip a (i - a) (test from b) (λ x k m h. n x k (omega arith) (both (leb from x) (race x b) h .1)))
 
-  pub last-write : (c i : ℕ) → Last c i (lastWrite tr c i)
-  unfolding lastWrite
-  last-write c zero = record { low = omega arith; writes = λ h. absurd (omega arith); none = λ x l k h. omega arith }
-  last-write c (suc i) = go (writesAt c i) refl (last-write c i)
+  -- nothing before low: it may as well start there
+  pub firsts-low : (from b low i : ℕ) → from ≤ low → ((x : ℕ) → from ≤ x → x < low → T (race x b) → ⊥) → firsts tr from b i ≡ firsts tr low b i
+  unfolding firsts
+  firsts-low from b low i l n = upto-ext i (test from b) (test low b) (λ a k. equal-tests _ _ (there a) (back a))
     where
-      go : (t : Bool) → writesAt c i ≡ t → Last c i (lastWrite tr c i) → Last c (suc i) (cond t i (lastWrite tr c i))
-      go true e w = record { low = omega arith; writes = λ h. (omega arith, rw e tt); none = λ x l k h. omega arith }
-      go false e w = record {
-        low = omega (arith, w .low);
-        writes = λ h. let p = w .writes h in (omega (arith, p .0), p .1);
-        none = λ x l k h. near x l (eq-or-lt-of-le (le-of-suc-le-suc k)) h;
-      }
+      there : (a : ℕ) → T (test from b a) → T (test low b a)
+      there a h =
+          let p = both (leb from a) (race a b) h in
+          and (leb low a) (race a b) (go (lt-or-ge a low) (leb→le from a (p .0)) (p .1)) (p .1)
         where
-          near : (x : ℕ) → lastWrite tr c i < x → (x ≡ i) ⊎ (x < i) → T (writesAt c x) → ⊥
-          near x l (inl q) h = subst T e (subst (λ (y : ℕ). T (writesAt c y)) q h)
-          near x l (inr q) h = w .none x l q h
+          go : (a < low) ⊎ (low ≤ a) → from ≤ a → T (race a b) → T (leb low a)
+          go (inl k) m r = absurd (n a m k r)
+          go (inr k) m r = le→leb low a k
 
-  pub last-down : (c i : ℕ) → 0 < i → lastWrite tr c i ≡ cond (isWrite (at tr (i - 1)) && eqb (at tr (i - 1) .second) c) (i - 1) (lastWrite tr c (i - 1))
-  unfolding lastWrite
-  last-down c zero h = absurd (omega arith)
-  last-down c (suc i) h = let e : suc i - 1 ≡ i = omega arith in rw e
+      back : (a : ℕ) → T (test low b a) → T (test from b a)
+      back a h = let p = both (leb low a) (race a b) h in let k = leb→le low a (p .0) in and (leb from a) (race a b) (le→leb from a (omega arith)) (p .1)
 
-  pub from-low : (short : Bool) (b : ℕ) → fromOf tr short b ≤ b
-  from-low true b = last-write (at tr b .second) b .low
-  from-low false b = omega arith
+  -- none at all
+  pub firsts-empty : (from b i : ℕ) → ((x : ℕ) → from ≤ x → x < i → T (race x b) → ⊥) → firsts tr from b i ≡ []
+  unfolding firsts
+  firsts-empty from b i n = upto-empty i (test from b) (λ a l h. let p = both (leb from a) (race a b) h in n a (leb→le from a (p .0)) l (p .1))
 
   -- A neighbouring race is a race with no write of its cell between: its first stands at the last write before the second, or after it.
   race-conflict : (a b : ℕ) → T (race a b) → T (conflicts (cellsOf tr) a b) × T (ltb a b)
@@ -120,24 +122,20 @@ module _ (tr : List Record) where
       let q = both (ltb b (length tr)) _ (p .1) in
       (both (conflicts (cellsOf tr) a b) _ (q .1) .0, p .0)
 
-  between-write : (a b w : ℕ) → a < w → w < b → T (writesAt (at tr b .second) w) → T (writeBetween (cellsOf tr) a b)
+  between-write : (a b w : ℕ) → a < w → w < b → T (isWrite (at tr w)) → cell tr w ≡ cell tr b → T (writeBetween (cellsOf tr) a b)
   unfolding writeBetween
-  between-write a b w l k h =
-      let p = both (isWrite (at tr w)) (eqb (at tr w .second) (at tr b .second)) h in
-      find b _ w k (and (ltb a w) _ (rw (lt-ltb a w l) tt) (and (isAccess (at tr w) && isWrite (at tr w)) _ (and (isAccess (at tr w)) (isWrite (at tr w)) (write-access w (p .0)) (p .0)) (p .1)))
-    where
-      write-access : (w : ℕ) → T (isWrite (at tr w)) → T (isAccess (at tr w))
-      write-access w t = or-right (isRead (at tr w)) (isWrite (at tr w)) t
+  between-write a b w l k h e =
+      find b _ w k (and (ltb a w) _ (rw (lt-ltb a w l) tt) (and (isAccess (at tr w) && isWrite (at tr w)) _ (and (isAccess (at tr w)) (isWrite (at tr w)) (or-right (isRead (at tr w)) (isWrite (at tr w)) h) h) (eq→eqb (cell tr w) (cell tr b) e)))
 
-  between-found : (a b : ℕ) → T (writeBetween (cellsOf tr) a b) → (w : ℕ) × (a < w) × (w < b) × T (writesAt (at tr b .second) w)
+  between-found : (a b : ℕ) → T (writeBetween (cellsOf tr) a b) → (w : ℕ) × (a < w) × (w < b) × T (accesses tr (cell tr b) w) × T (isWrite (at tr w))
   unfolding writeBetween
   between-found a b h =
       let f = found b _ h in
       let w = f .0 in
       let p = both (ltb a w) _ (f .2) in
-      let q = both (isAccess (at tr w) && isWrite (at tr w)) (eqb (at tr w .second) (at tr b .second)) (p .1) in
+      let q = both (isAccess (at tr w) && isWrite (at tr w)) (eqb (cell tr w) (cell tr b)) (p .1) in
       let r = both (isAccess (at tr w)) (isWrite (at tr w)) (q .0) in
-      (w, ltb→lt a w (p .0), f .1, and (isWrite (at tr w)) (eqb (at tr w .second) (at tr b .second)) (r .1) (q .1))
+      (w, ltb→lt a w (p .0), f .1, and (isAccess (at tr w)) (eqb (cell tr w) (cell tr b)) (r .0) (q .1), r .1)
 
   neighbour-parts : (a b : ℕ) → T (neighbour (cellsOf tr) a b) → T (writeBetween (cellsOf tr) a b) → ⊥
   unfolding neighbour
@@ -151,48 +149,85 @@ module _ (tr : List Record) where
       let p = race-conflict a b h in
       and (ltb a b) _ (p .1) (and (conflicts (cellsOf tr) a b) _ (p .0) (not-T (writeBetween (cellsOf tr) a b) n))
 
-  short-test : (a b : ℕ) → (neighbour (cellsOf tr) a b && race a b) ≡ test (lastWrite tr (at tr b .second) b) b a
+  -- a race's first stands at the start of its cell, or after it: before it only where a write stands between
+  from-start : (short : Bool) (a b : ℕ) → T (race a b) → (T short → T (isWrite (at tr (fromOf tr short b))) → a < fromOf tr short b → ⊥) → T (leb (fromOf tr short b) a)
+  from-start short a b h n = go (lt-or-ge a (fromOf tr short b))
+    where
+      w : Start tr short (cell tr b) b (startOf tr short (cell tr b) b)
+      w = start tr short (cell tr b) b
+
+      go : (a < fromOf tr short b) ⊎ (fromOf tr short b ≤ a) → T (leb (fromOf tr short b) a)
+      go (inl l) = let p = w .before a (racing tr a b h .earlier) (race-accesses tr a b h) (inr (omega arith)) in absurd (n (p .0) (p .2) l)
+      go (inr l) = le→leb (fromOf tr short b) a l
+
+  short-test : (a b : ℕ) → (neighbour (cellsOf tr) a b && race a b) ≡ test (fromOf tr true b) b a
   short-test a b = equal-tests _ _ there back
     where
-      w : Last (at tr b .second) b (lastWrite tr (at tr b .second) b)
-      w = last-write (at tr b .second) b
+      w : Start tr true (cell tr b) b (startOf tr true (cell tr b) b)
+      w = start tr true (cell tr b) b
 
-      after : T (neighbour (cellsOf tr) a b) → (lastWrite tr (at tr b .second) b ≤ a) ⊎ (a < lastWrite tr (at tr b .second) b) → T (leb (lastWrite tr (at tr b .second) b) a)
-      after h (inl l) = rw (le-leb _ a l) tt
-      after h (inr l) =
-          let p = w .writes (omega arith) in
-          absurd (neighbour-parts a b h (between-write a b (lastWrite tr (at tr b .second) b) l (p .0) (p .1)))
-
-      ge-or-lt : (m n : ℕ) → (m ≤ n) ⊎ (n < m)
-      ge-or-lt m n = turn (lt-or-ge n m)
-        where
-          turn : (n < m) ⊎ (m ≤ n) → (m ≤ n) ⊎ (n < m)
-          turn (inl h) = inr h
-          turn (inr h) = inl h
-
-      there : T (neighbour (cellsOf tr) a b && race a b) → T (test (lastWrite tr (at tr b .second) b) b a)
+      there : T (neighbour (cellsOf tr) a b && race a b) → T (test (fromOf tr true b) b a)
       there h =
           let p = both (neighbour (cellsOf tr) a b) (race a b) h in
-          and (leb (lastWrite tr (at tr b .second) b) a) (race a b) (after (p .0) (ge-or-lt _ a)) (p .1)
-
-      back : T (test (lastWrite tr (at tr b .second) b) b a) → T (neighbour (cellsOf tr) a b && race a b)
-      back h =
-          let p = both (leb (lastWrite tr (at tr b .second) b) a) (race a b) h in
-          let l = leb→le (lastWrite tr (at tr b .second) b) a (p .0) in
-          and (neighbour (cellsOf tr) a b) (race a b)
-          (neighbour-of a b (p .1) (λ k. let f = between-found a b k in w .none (f .0) (omega (arith, f .1)) (f .2) (f .3)))
+          let e = w .high in
+          and (leb (fromOf tr true b) a) (race a b)
+          (from-start true a b (p .1) (λ s t l. neighbour-parts a b (p .0) (between-write a b (fromOf tr true b) l (omega arith) t (w .same (λ z. omega arith)))))
           (p .1)
 
+      back : T (test (fromOf tr true b) b a) → T (neighbour (cellsOf tr) a b && race a b)
+      back h =
+          let p = both (leb (fromOf tr true b) a) (race a b) h in
+          let l = leb→le (fromOf tr true b) a (p .0) in
+          and (neighbour (cellsOf tr) a b) (race a b)
+          (neighbour-of a b (p .1) (λ k. let f = between-found a b k in w .after tt (f .0) (omega (arith, f .1)) (f .2) (f .3) (f .4)))
+          (p .1)
+
+  -- the way that the code finds
+  way-none : (short : Bool) (b : ℕ) → ((x : ℕ) → x < b → T (race x b) → ⊥) → Ranges tr short b b b
+  way-none short b n = record {
+    range = record { on = record { high = omega arith; same = λ l. absurd (omega arith) }; high = omega arith; none = λ x l k. absurd (omega arith) };
+    firsts-are = firsts-empty (fromOf tr short b) b b (λ x l k. n x k) ∙ sym (firsts-empty b b b (λ x l k. n x k));
+  }
+
+  pub way-no-access : (short : Bool) (b : ℕ) → isAccess (at tr b) ≡ false → Ranges tr short b b b
+  way-no-access short b e = way-none short b (λ x l h. subst T e (race-access x b h))
+
+  module _ (short : Bool) (b v : ℕ) (e : v ≡ startOf tr short (cell tr b) b) where
+    w : Start tr short (cell tr b) b v
+    w = rw e (start tr short (cell tr b) b)
+
+    pub way-no-start : v ≡ 0 → Ranges tr short b b b
+    way-no-start z = way-none short b (λ x l h. w .before x l (race-accesses tr x b h) (inl z) .1 z)
+
+    on-start : v ≢ 0 → On tr b (v - 1)
+    on-start n = let k = w .high in record { high = omega arith; same = λ l. w .same n }
+
+    from-is : fromOf tr short b ≡ v - 1
+    from-is = ap (λ x. x - 1) (sym e)
+
+    pub way-all : v ≢ 0 → Ranges tr short b (v - 1) b
+    way-all n = record { range = record { on = on-start n; high = omega arith; none = λ x l k. absurd (omega arith) }; firsts-are = ap (λ x. firsts tr x b b) from-is }
+
+    pub way-read : v ≢ 0 → T short → at tr b .kind ≡ 5 → Ranges tr short b (v - 1) v
+    way-read n s k = record { range = record { on = on-start n; high = w .high; none = λ x l m h. reads x l m h (racing tr x b h .one) }; firsts-are = ap (λ x. firsts tr x b b) from-is }
+      where
+        reads : (x : ℕ) → v ≤ x → x < b → T (race x b) → T (isWrite (at tr x)) ⊎ T (isWrite (at tr b)) → ⊥
+        reads x l m h (inl t) = w .after s x l m (race-accesses tr x b h) t
+        reads x l m h (inr t) = rw k at t
+
   -- so the pairs found below n are the list's
+  all-test : (a b : ℕ) → test (fromOf tr false b) b a ≡ race a b
+  all-test a b = equal-tests _ _ (λ h. both (leb (fromOf tr false b) a) (race a b) h .1) (λ h. and (leb (fromOf tr false b) a) (race a b) (from-start false a b h (λ s t l. absurd s)) h)
+
   all-below : (m : ℕ) → pairsBelow tr false m ≡ pairs m (raceb (settingOf tr))
   unfolding pairsBelow pairs firsts
   all-below zero = refl
-  all-below (suc m) = ap₂ _++_ (all-below m) (ap (map (λ a. (a, m))) (upto-ext m (test 0 m) (λ a. race a m) (λ a l. rw (le-leb 0 a (omega arith)))))
+  all-below (suc m) = ap₂ _++_ (all-below m) (ap (map (λ a. (a, m))) (upto-ext m (test (fromOf tr false m) m) (λ a. race a m) (λ a l. all-test a m)))
 
   short-below : (m : ℕ) → pairsBelow tr true m ≡ pairs m (λ a b. neighbour (cellsOf tr) a b && raceb (settingOf tr) a b)
   unfolding pairsBelow pairs firsts
   short-below zero = refl
-  short-below (suc m) = ap₂ _++_ (short-below m) (ap (map (λ a. (a, m))) (upto-ext m (test (lastWrite tr (at tr m .second) m) m) (λ a. neighbour (cellsOf tr) a m && race a m) (λ a l. sym (short-test a m))))
+  short-below (suc m) = ap₂ _++_ (short-below m) (ap (map (λ a. (a, m))) (upto-ext m (test (fromOf tr true m) m) (λ a. neighbour (cellsOf tr) a m && race a m) (λ a l. sym (short-test a m))))
 
   pub pairs-below : (short : Bool) → pairsBelow tr short (length tr) ≡ pairsOf tr short
   unfolding pairsOf shortList allRaces

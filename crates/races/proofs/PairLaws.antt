@@ -23,10 +23,11 @@ use Rattle.races.specs.Traces.{isAccess, cellsOf, settingOf}
 use Rattle.races.specs.Filled.{Filled}
 use Rattle.races.specs.Leading.{rows, leadingMarks, Ready}
 use Rattle.races.specs.Pair.{PairReply, refused, isOpen, isCovered, pairPaper, entriesGiven, demand, answered, withEntries, keptEntries, pairFilled, GivesCover, ListAfter, AnswersRace, AnswersFilled}
-use Rattle.races.specs.LeadingPass.{markedEvent}
+use Rattle.races.specs.LeadingPass.{markedEvent, LeadingFrom}
 use Rattle.races.specs.ListPass.{Marks, Clear}
-use Rattle.races.proofs.PassLaws.{marked-covered}
-use Rattle.races.proofs.WorkLaws.{leading-long, cleared, zeros-front, marked-room}
+use Rattle.races.proofs.Instance.{access-inside}
+use Rattle.races.proofs.PassLaws.{marked-covered, leading-all}
+use Rattle.races.proofs.WorkLaws.{leading-long, zeros-front}
 
 -- The marks, read.
 pub marks-tell : {tr : List Record} {ranks work : List ℕ} {b : ℕ} → Marks tr ranks work b → (x : ℕ) → x < length tr → markedEvent ranks work (eventOf (at tr x)) ≡ leads (settingOf tr) b (eventOf (at tr x))
@@ -78,12 +79,7 @@ module _ {tr : List Record} (acc : Acceptable tr) {events : ℕ} {work : List �
         clear = ap (take (rows tr)) (w .zeros) ∙ zeros-front (rows tr) (drop (rows tr) work);
       }
 
-  module _ (b : ℕ) (marked : List ℕ) (e : marked ≡ leadingMarks tr b ++ drop (rows tr) work) where
-    pub marks-of : b < length tr → (ranks : List ℕ) → ranks ≡ ranksOf tr → Marks tr ranks marked b
-    marks-of h ranks are = record { acceptable = acc; ranks-are = are; inside = h; work-is = e ∙ ap (λ (x : List ℕ). leadingMarks tr b ++ x) (sym (ap (drop (rows tr)) e ∙ drop-at (leadingMarks tr b) (drop (rows tr) work) (rows tr) (leading-long tr b))) }
-
-    pub marked-long : length marked ≡ length work
-    marked-long = ap length e ∙ marked-room tr b work (w .work-room)
-
-    pub clear-again : (after : List ℕ) → after ≡ replicate events 0 ++ drop events marked → after ≡ work
-    clear-again after f = f ∙ rw (e, w .events-are) (cleared tr b work) ∙ sym (w .zeros)
+  pub marks-of : (b : ℕ) (marked : List ℕ) → LeadingFrom tr b 0 work marked → T (isAccess (at tr b)) → (ranks : List ℕ) → ranks ≡ ranksOf tr → Marks tr ranks marked b
+  marks-of b marked l access ranks are =
+      let e = leading-all l acc access (w .work-room) refl in
+      record { acceptable = acc; ranks-are = are; inside = access-inside tr b access; work-is = e ∙ ap (λ (x : List ℕ). leadingMarks tr b ++ x) (sym (ap (drop (rows tr)) e ∙ drop-at (leadingMarks tr b) (drop (rows tr) work) (rows tr) (leading-long tr b))) }

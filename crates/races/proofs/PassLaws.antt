@@ -6,9 +6,9 @@ use mathlib.Core.Bool.{Bool, true, false, _&&_}
 use mathlib.Core.List.{List, [], _∷_, _++_}
 use native.Mathlib.Omega.{arith}
 use native.Mathlib.Decide.{ℕ-discrete}
-use borrow.Author.Tests.{eq-eqb, ne-eqb}
+use borrow.Author.Tests.{eq-eqb, ne-eqb, le-leb}
 use lib.Dec.{T, leb, eqb, leb→le, le→leb, leb·zero}
-use lib.ListN.{length, getD, take, drop, length-append, length-replicate, getD-replicate, List·getD-append, take-append-drop}
+use lib.ListN.{length, getD, take, drop, replicate, length-append, length-replicate, getD-replicate, List·getD-append, take-append-drop}
 use lib.Seq.{getD-set-same, getD-set-other, drop-set-lt, getD-append-seam, ext-getD, getD-take, length-take-le}
 use Rattle.trace.specs.declared.Record.{Record}
 use Rattle.trace.specs.Records.{at, past, begins, isJoin, isWrite, eventOf}
@@ -25,7 +25,7 @@ use Rattle.coverage.proofs.Tests.{both, and, decide-eq, same}
 use Rattle.coverage.proofs.Leads.{leads-self, leads-ahead}
 use Rattle.races.specs.Traces.{isAccess, settingOf}
 use Rattle.races.specs.Leading.{mark, rows, marksIn, leadingMarks, Ready}
-use Rattle.races.specs.LeadingPass.{markedEvent, Starts, Second, Notes, Led, Kept, Seen, Marked, Passed, PassesOn}
+use Rattle.races.specs.LeadingPass.{markedEvent, Starts, Second, Notes, Led, Kept, Seen, Marked, Passed, LeadingFrom, PassesOn}
 use Rattle.races.proofs.Instance.{laws}
 use Rattle.races.proofs.NoteLaws.{starts-parted}
 use Rattle.races.proofs.LeadingLaws.{mark-on, mark-off, mark-test, marked-begun, ev, inside, Leading, row-low, row-apart, own, from-lo, beyond, lo-inside, led-leads, leads-led}
@@ -254,21 +254,21 @@ module _ {tr : List Record} (a : Acceptable tr) (b : ℕ) (access : T (isAccess 
     }
 
   -- At the end: the marks of all event actions.
-  pub pass-end : (entry work accessed written named : List ℕ) → events ≤ length entry → Passed tr b 0 entry work accessed written named → work ≡ leadingMarks tr b ++ drop events entry
+  pub pass-end : (entry work : List ℕ) → events ≤ length entry → Marked tr b 0 entry work → work ≡ leadingMarks tr b ++ drop events entry
   unfolding leadingMarks
-  pass-end entry work accessed written named room p = sym (take-append-drop events work) ∙ ap₂ _++_ front (p .marks .rest)
+  pass-end entry work room p = sym (take-append-drop events work) ∙ ap₂ _++_ front (p .rest)
     where
       test : ℕ → Bool
       test = leads (settingOf tr) b
 
       size : length (take events work) ≡ events
-      size = let z = p .marks .size in length-take-le events work (omega arith)
+      size = let z = p .size in length-take-le events work (omega arith)
 
       byte : (r : ℕ) → r < events → RowMark tr test (length tr) r → getD work r 0 ≡ getD (marksIn test (past tr (length tr))) r 0
       byte r l w =
           let x = w .position in
           let e : rank tr (ev tr x) - 1 ≡ r = let q = ranked a x (w .earlier) (w .begin) in let z = w .row in omega arith in
-          ap (λ (k : ℕ). getD work k 0) (sym e) ∙ p .marks .byte x (w .earlier) ∙ ap (λ (z : Bool). mark (z && test (ev tr x))) (leb·zero x) ∙ sym (w .byte)
+          ap (λ (k : ℕ). getD work k 0) (sym e) ∙ p .byte x (w .earlier) ∙ ap (λ (z : Bool). mark (z && test (ev tr x))) (leb·zero x) ∙ sym (w .byte)
 
       front : take events work ≡ marksIn test (past tr (length tr))
       front = ext-getD 0 (take events work) (marksIn test (past tr (length tr))) (size ∙ sym (marks-long tr test (length tr)))
@@ -311,16 +311,44 @@ module _ {tr : List Record} {ranks : List ℕ} {b : ℕ} {entry first : List ℕ
       zero-at : (r : ℕ) → r < rows tr → getD entry r 0 ≡ 0
       zero-at r l = sym (getD-take (rows tr) entry r 0 l) ∙ rw (w .clear) (getD-replicate {A = ℕ} (rows tr) r 0 0 l)
 
-  pub ends-pass : (hi : ℕ) → hi ≤ 0 → (work accessed written named : List ℕ) → Passed tr b hi first work accessed written named → work ≡ leadingMarks tr b ++ drop (rows tr) entry
+  pub ends-pass : (hi low : ℕ) → hi ≤ low → (work accessed written named : List ℕ) → Passed tr b hi first work accessed written named → LeadingFrom tr b low entry work
   unfolding withMark
-  ends-pass hi l work accessed written named p =
-      let e : hi ≡ 0 = omega arith in
-      let z = first-long in
+  ends-pass hi low l work accessed written named p =
       let k = row-low (w .acceptable) b (inside (w .acceptable) b (w .access)) in
       let r = ranks-row in
-      let m = w .room in
-      pass-end (w .acceptable) b (w .access) first work accessed written named (omega arith) (rw e at p)
-      ∙ ap (λ (v : List ℕ). leadingMarks tr b ++ v) (ap (drop (rows tr)) marked ∙ drop-set-lt (rows tr) entry (getD ranks (ev tr b) 0 - 1) 1 (omega arith))
+      record {
+        from = hi;
+        below = l;
+        marks = record {
+          size = p .marks .size ∙ first-long;
+          rest = p .marks .rest ∙ (ap (drop (rows tr)) marked ∙ drop-set-lt (rows tr) entry (getD ranks (ev tr b) 0 - 1) 1 (omega arith));
+          byte = p .marks .byte;
+        };
+      }
+
+-- Marks of the event actions from low on.
+module _ {tr : List Record} {b low : ℕ} {entry work : List ℕ} (w : LeadingFrom tr b low entry work) where
+  -- of all of them
+  pub leading-all : Acceptable tr → T (isAccess (at tr b)) → rows tr ≤ length entry → low ≡ 0 → work ≡ leadingMarks tr b ++ drop (rows tr) entry
+  leading-all a access room z =
+      let l = w .below in
+      let e : w .from ≡ 0 = omega arith in
+      pass-end a b access entry work room (rw e at (w .marks))
+
+  -- they say which races are covered
+  pub leading-tells : Acceptable tr → (x : ℕ) → low ≤ x → x < length tr → markedEvent (ranksOf tr) work (eventOf (at tr x)) ≡ coveredb (settingOf tr) x b
+  unfolding isMarked
+  leading-tells a x l h =
+      let k = w .below in
+      marked-begun a work (ev tr x) (record-begins a x h)
+      ∙ rw (w .marks .byte x h, le-leb (w .from) x (omega arith)) (mark-test (leads (settingOf tr) b (ev tr x)))
+
+  pub leading-kept : length work ≡ length entry
+  leading-kept = w .marks .size
+
+  -- once they are taken away again the space is as it was, but for its zeros
+  pub leading-cleared : replicate (rows tr) 0 ++ drop (rows tr) work ≡ replicate (rows tr) 0 ++ drop (rows tr) entry
+  leading-cleared = ap (λ (rest : List ℕ). replicate (rows tr) 0 ++ rest) (w .marks .rest)
 
 -- The marks, read: of a race (x, b) whether it is covered.
 module _ {tr : List Record} (a : Acceptable tr) (b : ℕ) (rest : List ℕ) where

@@ -1,12 +1,12 @@
 -- The work space between calls, and what its marks say of a race. Assumes nothing.
 use Prim.Native.Nat.{ℕ, _+_, _-_, _≤_}
-use mathlib.Core.Path.{_≡_, ap, subst, sym}
+use mathlib.Core.Path.{_≡_, _∙_, subst, sym}
 use mathlib.Core.Logic.{_↔_}
 use mathlib.Core.List.{List, _++_}
 use native.Mathlib.Omega.{arith}
 use lib.Dec.{T}
 use lib.ListN.{length, take, drop, replicate, length-append, length-drop, length-replicate}
-use lib.Seq.{take-at, drop-at}
+use lib.Seq.{take-at}
 use Rattle.trace.specs.declared.Record.{Record}
 use Rattle.trace.specs.Records.{at, eventOf}
 use Rattle.trace.specs.Reading.{Acceptable}
@@ -17,9 +17,10 @@ use Rattle.coverage.specs.Leading.{leads}
 use Rattle.coverage.proofs.Theorems.{covered-iff}
 use Rattle.races.specs.Traces.{settingOf}
 use Rattle.races.specs.Leading.{rows, leadingMarks}
-use Rattle.races.specs.LeadingPass.{markedEvent}
+use Rattle.races.specs.LeadingPass.{markedEvent, LeadingFrom}
+use Rattle.races.specs.ListPass.{Clear}
 use Rattle.races.proofs.Instance.{laws}
-use Rattle.races.proofs.PassLaws.{marks-long, marked-covered}
+use Rattle.races.proofs.PassLaws.{marks-long, marked-covered, leading-cleared}
 
 module _ (tr : List Record) (b : ℕ) where
   -- a mark for each row
@@ -27,12 +28,9 @@ module _ (tr : List Record) (b : ℕ) where
   unfolding leadingMarks
   leading-long = marks-long tr (leads (settingOf tr) b) (length tr)
 
-  -- once the marks are taken away again the space is as it was, but for its zeros
-  pub cleared : (entry : List ℕ) → replicate (rows tr) 0 ++ drop (rows tr) (leadingMarks tr b ++ drop (rows tr) entry) ≡ replicate (rows tr) 0 ++ drop (rows tr) entry
-  cleared entry = ap (λ (rest : List ℕ). replicate (rows tr) 0 ++ rest) (drop-at (leadingMarks tr b) (drop (rows tr) entry) (rows tr) leading-long)
-
-  pub marked-room : (entry : List ℕ) → rows tr ≤ length entry → length (leadingMarks tr b ++ drop (rows tr) entry) ≡ length entry
-  marked-room entry h = simp (length-append, length-drop) (omega (arith, leading-long))
+-- once the marks are taken away again the space is as it was
+pub clear-again : {tr : List Record} {b low events : ℕ} {work marked : List ℕ} → Clear tr events work → LeadingFrom tr b low work marked → (after : List ℕ) → after ≡ replicate events 0 ++ drop events marked → after ≡ work
+clear-again w l after f = f ∙ (rw (w .events-are) (leading-cleared l) ∙ sym (w .zeros))
 
 -- zeros at the front
 pub zeros-front : (m : ℕ) (rest : List ℕ) → take m (replicate m 0 ++ rest) ≡ replicate m 0

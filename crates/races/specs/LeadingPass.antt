@@ -79,6 +79,12 @@ module _ (tr : List Record) (b : ℕ) where
     pub waits : Seen isJoin hi named
     pub marks : Marked hi entry work
 
+  -- the event actions with a record from low on that lead to b are marked, and no other
+  pub record LeadingFrom (low : ℕ) (entry work : List ℕ) : Type 0 where
+    pub from : ℕ
+    pub below : from ≤ low
+    pub marks : Marked from entry work
+
 -- From the event actions passed from hi on to those from lo on, whatever b is and whatever the entry values were.
 abbrev pub PassesOn : List Record → ℕ → ℕ → List ℕ → List ℕ → List ℕ → List ℕ → List ℕ → List ℕ → List ℕ → List ℕ → Type 0
 PassesOn tr hi lo work accessed written named work′ accessed′ written′ named′ =

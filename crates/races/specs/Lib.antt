@@ -4,6 +4,7 @@ pub mod LeadingPass
 pub mod Filled
 pub mod Lists
 pub mod Paper
+pub mod Candidates
 pub mod ListPass
 pub mod Pair
 pub mod PairSearch

@@ -1,33 +1,30 @@
 -- How the lists are made: for each second access, the first accesses from some place on. `ListLaws` proves that this gives the lists. Definitions alone. Assumes
 -- nothing.
-use Prim.Native.Nat.{ℕ, zero, suc, _+_, _*_, _≤_, _<_}
+use Prim.Native.Nat.{ℕ, zero, suc, _+_, _*_, _-_, _≤_, _<_}
 use mathlib.Core.Path.{_≡_}
 use mathlib.Core.Bool.{Bool, true, false, cond, _&&_}
 use mathlib.Core.List.{List, [], _∷_, _++_, map}
-use lib.Dec.{leb, eqb}
+use lib.Dec.{leb}
 use lib.ListN.{length, drop, replicate, take}
 use lib.Seq.{sets}
 use Rattle.trace.specs.declared.Record.{Record}
-use Rattle.trace.specs.Records.{at, isWrite}
+use Rattle.trace.specs.Records.{at, eventOf}
 use Rattle.trace.specs.Reading.{Acceptable}
 use Rattle.order.specs.Ranks.{ranksOf}
 use Rattle.coverage.specs.Below.{upto}
 use Rattle.coverage.specs.Race.{raceb}
+use Rattle.coverage.specs.Leading.{coveredb}
 use Rattle.races.specs.Traces.{settingOf}
 use Rattle.races.specs.Leading.{rows, leadingMarks}
+use Rattle.races.specs.LeadingPass.{markedEvent}
 use Rattle.races.specs.Lists.{entry, numbers}
+use Rattle.races.specs.Candidates.{cell, startOf, Range}
 use Rattle.races.specs.Filled.{Filled}
 
 module _ (tr : List Record) where
-  -- the last record below i that writes the cell, or 0
-  unfoldable pub lastWrite : ℕ → ℕ → ℕ
-  lastWrite c zero = 0
-  lastWrite c (suc i) = cond (isWrite (at tr i) && eqb (at tr i .second) c) i (lastWrite c i)
-
-  -- from where on first accesses are looked for
+  -- from where on first accesses of b are looked for: from the start of its cell
   abbrev pub fromOf : Bool → ℕ → ℕ
-  fromOf true b = lastWrite (at tr b .second) b
-  fromOf false b = 0
+  fromOf short b = startOf tr short (cell tr b) b - 1
 
   -- the first accesses below i, from there on, that race with b
   unfoldable pub firsts : ℕ → ℕ → ℕ → List ℕ
@@ -48,11 +45,25 @@ pub record Marks (tr : List Record) (ranks work : List ℕ) (b : ℕ) : Type 0 w
   pub inside : b < length tr
   pub work-is : work ≡ leadingMarks tr b ++ drop (rows tr) work
 
+-- the way to b that the code finds has all that race with it
+pub record Ranges (tr : List Record) (short : Bool) (b from to : ℕ) : Type 0 where
+  pub range : Range tr b from to
+  pub firsts-are : firsts tr (fromOf tr short b) b b ≡ firsts tr from b b
+
+-- the mark of the event action of a, as the second access b has it
+abbrev pub MarkOf : List Record → List ℕ → List ℕ → ℕ → ℕ → Type 0
+MarkOf tr ranks work a b = markedEvent ranks work (eventOf (at tr a)) ≡ coveredb (settingOf tr) a b
+
+-- from a place on the event actions that lead to b are marked
+pub record MarksFrom (tr : List Record) (ranks work : List ℕ) (b low : ℕ) : Type 0 where
+  pub tells : (a : ℕ) → low ≤ a → a < b → MarkOf tr ranks work a b
+
 -- what one pair of records asks for, and what becomes of entry k
 pub record OneRoom (tr : List Record) (ranks of : List ℕ) (width : ℕ) (clocks work : List ℕ) (a b k : ℕ) (list : List ℕ) : Type 0 where
   pub filled : Filled tr ranks of width clocks
-  pub marks : Marks tr ranks work b
+  pub marks : MarkOf tr ranks work a b
   pub earlier : a < b
+  pub inside : b < length tr
   pub space : raceb (settingOf tr) a b ≡ true → 5 * k + 5 ≤ length list
 
 abbrev pub entryIf : Bool → List Record → ℕ → ℕ → ℕ → List ℕ → List ℕ
@@ -67,7 +78,6 @@ pub record OneWrites (tr : List Record) (a b k : ℕ) (list list′ : List ℕ) 
 pub record Room (tr : List Record) (ranks of : List ℕ) (width : ℕ) (clocks : List ℕ) (b from k : ℕ) (list : List ℕ) : Type 0 where
   pub filled : Filled tr ranks of width clocks
   pub inside : b < length tr
-  pub low : from ≤ b
   pub space : 5 * (k + length (firsts tr from b b)) ≤ length list
 
 -- its entries are written from entry k on

@@ -6,17 +6,16 @@ use trace::access;
 use trace::marks;
 ghost use mathlib.Core.Path.{_≡_};
 ghost use mathlib.Core.Logic.{_↔_};
-ghost use mathlib.Core.List.{_++_};
 ghost use Prim.Native.Nat.{_-_, _≤_, _<_};
 ghost use lib.Dec.{T};
-ghost use lib.ListN.{getD, drop};
+ghost use lib.ListN.{getD};
 ghost use Rattle.trace.specs.Bytes.{decode};
 ghost use Rattle.trace.specs.Records.{at, isJoin, isWrite, eventOf};
 ghost use Rattle.trace.specs.Reading.{Acceptable};
 ghost use Rattle.order.specs.Ranks.{ranksOf};
 ghost use Rattle.races.specs.Traces.{isAccess};
-ghost use Rattle.races.specs.Leading.{rows, leadingMarks, Ready};
-ghost use Rattle.races.specs.LeadingPass.{markIf, markedEvent, leadsOn, Starts, Notes, Led, PassesOn};
+ghost use Rattle.races.specs.Leading.{Ready};
+ghost use Rattle.races.specs.LeadingPass.{markIf, markedEvent, leadsOn, Starts, Notes, Led, LeadingFrom, PassesOn};
 
 pub(crate) fn is_access(r: Record) -> bool
     ensures { λ x. ⌜ x ≡ isAccess r ⌝ }
@@ -165,10 +164,10 @@ fn pass(
     keep(recs, lo, hi, accessed, written, named);
 }
 
-// Marks the event actions that lead to record b, an access, in a work space that is 0 over their rows.
-pub(crate) fn mark_leading(recs: &[u8], ranks: &[u16], b: usize, work: &mut [u8])
+// Marks the event actions with a record from low on that lead to record b, an access, in a work space that is 0 over their rows.
+pub(crate) fn mark_leading(recs: &[u8], ranks: &[u16], low: usize, b: usize, work: &mut [u8])
     requires { ⌜ Ready (decode (now recs)) (now ranks) b (now work) ⌝ }
-    ensures { λ u. ⌜ now (work .exit) ≡ leadingMarks (decode (now (recs .entry))) b ++ drop (rows (decode (now (recs .entry)))) (now (work .entry)) ⌝ }
+    ensures { λ u. ⌜ LeadingFrom (decode (now (recs .entry))) b low (now (work .entry)) (now (work .exit)) ⌝ }
 {
     let mut accessed = marks::none();
     let mut written = marks::none();
@@ -176,7 +175,7 @@ pub(crate) fn mark_leading(recs: &[u8], ranks: &[u16], b: usize, work: &mut [u8]
     let mut hi = block_start(recs, b);
     workspace::set_mark(work, row_of(ranks, access::first_at(recs, b)));
     keep(recs, hi, b, &mut accessed, &mut written, &mut named);
-    while 0 < hi {
+    while low < hi {
         let lo = block_start(recs, hi - 1);
         pass(
             recs,

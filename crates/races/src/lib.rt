@@ -1,4 +1,5 @@
 // Races of a trace: the event actions that lead to an access.
+mod candidates;
 mod cover;
 mod leading;
 mod lists;

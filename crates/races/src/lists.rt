@@ -1,6 +1,12 @@
 // Both lists: for each second access, the first accesses that race with it, counted and then written.
 use crate::Listing;
 use crate::Summary;
+use crate::candidates::first_race;
+use crate::candidates::next_access;
+use crate::candidates::next_accesses;
+use crate::candidates::no_starts;
+use crate::candidates::note_start;
+use crate::candidates::way_to;
 use crate::leading;
 use crate::racing::is_race;
 use crate::workspace;
@@ -23,73 +29,58 @@ ghost use Rattle.order.specs.Ranks.{ranksOf};
 ghost use Rattle.order.specs.Fill.{chainsUsed};
 ghost use Rattle.races.specs.Lists.{entry, numbers, shapeOf, ListReply};
 ghost use Rattle.races.specs.Paper.{listPaper, ListsFilled, Lists};
-ghost use Rattle.races.specs.ListPass.{lastWrite, fromOf, firsts, pairsBelow, Marks, OneRoom, OneWrites, Clear, Room, Writes, AllRoom};
+ghost use Rattle.races.specs.ListPass.{firsts, pairsBelow, MarkOf, MarksFrom, OneRoom, OneWrites, Clear, Room, Writes, AllRoom};
+ghost use Rattle.races.specs.Candidates.{Nexts, Range};
 ghost use Rattle.races.specs.Filled.{Filled};
 
-// The last record below i that writes the cell, or 0.
-fn last_write(recs: &[u8], cell: u16, i: usize) -> usize
-    ensures { λ r. ⌜ r ≡ lastWrite (decode (now (recs .entry))) cell i ⌝ }
-{
-    let mut j = i;
-    while 0 < j {
-        j -= 1;
-        if access::kind_at(recs, j) == 6 {
-            if access::second_at(recs, j) == cell {
-                return j;
-            }
-        }
-    }
-    j
-}
-
-// From where on the first accesses of second access b are looked for.
-fn first_from(recs: &[u8], short: bool, b: usize) -> usize
-    ensures { λ r. ⌜ r ≡ fromOf (decode (now (recs .entry))) short b ⌝ }
-{
-    if short {
-        return last_write(recs, access::second_at(recs, b), b);
-    }
-    0
-}
-
-// How many records from `from` on, before b, race with b.
+// How many records on the way to b race with b.
 fn count_at(
     recs: &[u8],
     ranks: &[u16],
     of: &[u16],
     width: usize,
     clocks: &[u16],
+    nexts: &[u16],
     from: usize,
+    to: usize,
     b: usize,
 ) -> usize
-    requires { ⌜ Filled (decode (now recs)) (now ranks) (now of) width (now clocks) × (from ≤ b) × (b < length (decode (now recs))) ⌝ }
+    requires { ⌜ Filled (decode (now recs)) (now ranks) (now of) width (now clocks) × Nexts (decode (now recs)) (now nexts) ⌝ }
+    requires { ⌜ Range (decode (now recs)) b from to × (b < length (decode (now recs))) ⌝ }
     ensures { λ r. ⌜ (r ≡ length (firsts (decode (now (recs .entry))) from b b)) × (r ≤ b) ⌝ }
 {
-    if !leading::is_access(access::record_at(recs, b)) {
-        return 0;
-    }
     let mut found = 0;
     let mut a = from;
-    while a < b {
+    while a < to {
         if is_race(recs, ranks, of, width, clocks, a, b) {
             found += 1;
         }
-        a += 1;
+        a = next_access(recs, nexts, a, b);
     }
     found
 }
 
 // How many entries the list has.
-fn count(recs: &[u8], ranks: &[u16], of: &[u16], width: usize, clocks: &[u16], short: bool) -> usize
-    requires { ⌜ Filled (decode (now recs)) (now ranks) (now of) width (now clocks) ⌝ }
+fn count(
+    recs: &[u8],
+    ranks: &[u16],
+    of: &[u16],
+    width: usize,
+    clocks: &[u16],
+    nexts: &[u16],
+    short: bool,
+) -> usize
+    requires { ⌜ Filled (decode (now recs)) (now ranks) (now of) width (now clocks) × Nexts (decode (now recs)) (now nexts) ⌝ }
     ensures { λ r. ⌜ r ≡ length (pairsBelow (decode (now (recs .entry))) short (length (decode (now (recs .entry))))) ⌝ }
 {
     let n = access::count(recs);
+    let mut starts = no_starts();
     let mut found = 0;
     let mut b = 0;
     while b < n {
-        let from = first_from(recs, short, b);
-        found += count_at(recs, ranks, of, width, clocks, from, b);
+        let way = way_to(recs, &starts, short, b);
+        found += count_at(recs, ranks, of, width, clocks, nexts, way.from, way.to, b);
+        note_start(recs, short, b, &mut starts);
         b += 1;
     }
     found
@@ -118,7 +109,7 @@ fn put_entry(
     list: &mut [u16],
     k: usize,
 )
-    requires { ⌜ Marks (decode (now recs)) (now ranks) (now work) b × (a < b) × (b < 4096) × (5 * k + 5 ≤ length (now list)) ⌝ }
+    requires { ⌜ MarkOf (decode (now recs)) (now ranks) (now work) a b × (a < b) × (b < 4096) × (5 * k + 5 ≤ length (now list)) ⌝ }
     ensures { λ u. ⌜ now (list .exit) ≡ sets (now (list .entry)) (5 * k) (entry (decode (now (recs .entry))) a b) ⌝ }
 {
     let at = 5 * k;
@@ -156,27 +147,30 @@ fn write_race(
     k
 }
 
-// The races of second access b, whose leading event actions are marked, from entry k on.
+// The races on the way to b, whose event actions from low on that lead to b are marked, from entry k on.
 fn write_races(
     recs: &[u8],
     ranks: &[u16],
     of: &[u16],
     width: usize,
     clocks: &[u16],
+    nexts: &[u16],
     work: &[u8],
-    from: usize,
+    low: usize,
+    to: usize,
     b: usize,
     list: &mut [u16],
     k: usize,
 ) -> usize
-    requires { ⌜ Room (decode (now recs)) (now ranks) (now of) width (now clocks) b from k (now list) × Marks (decode (now recs)) (now ranks) (now work) b ⌝ }
-    ensures { λ r. ⌜ Writes (decode (now (recs .entry))) b from k (now (list .entry)) (now (list .exit)) r ⌝ }
+    requires { ⌜ Room (decode (now recs)) (now ranks) (now of) width (now clocks) b low k (now list) × Nexts (decode (now recs)) (now nexts) ⌝ }
+    requires { ⌜ Range (decode (now recs)) b low to × MarksFrom (decode (now recs)) (now ranks) (now work) b low ⌝ }
+    ensures { λ r. ⌜ Writes (decode (now (recs .entry))) b low k (now (list .entry)) (now (list .exit)) r ⌝ }
 {
     let mut next = k;
-    let mut a = from;
-    while a < b {
+    let mut a = low;
+    while a < to {
         next = write_race(recs, ranks, of, width, clocks, work, a, b, list, next);
-        a += 1;
+        a = next_access(recs, nexts, a, b);
     }
     next
 }
@@ -188,21 +182,38 @@ fn write_at(
     of: &[u16],
     width: usize,
     clocks: &[u16],
+    nexts: &[u16],
     work: &mut [u8],
     events: usize,
     from: usize,
+    to: usize,
     b: usize,
     list: &mut [u16],
     k: usize,
 ) -> usize
-    requires { ⌜ Room (decode (now recs)) (now ranks) (now of) width (now clocks) b from k (now list) × Clear (decode (now recs)) events (now work) ⌝ }
+    requires { ⌜ Room (decode (now recs)) (now ranks) (now of) width (now clocks) b from k (now list) × Nexts (decode (now recs)) (now nexts) ⌝ }
+    requires { ⌜ Range (decode (now recs)) b from to × Clear (decode (now recs)) events (now work) ⌝ }
     ensures { λ r. ⌜ Writes (decode (now (recs .entry))) b from k (now (list .entry)) (now (list .exit)) r × (now (work .exit) ≡ now (work .entry)) ⌝ }
 {
-    if count_at(recs, ranks, of, width, clocks, from, b) == 0 {
+    let low = first_race(recs, ranks, of, width, clocks, nexts, from, to, b);
+    if to <= low {
         return k;
     }
-    leading::mark_leading(recs, ranks, b, work);
-    let next = write_races(recs, ranks, of, width, clocks, work, from, b, list, k);
+    leading::mark_leading(recs, ranks, low, b, work);
+    let next = write_races(
+        recs,
+        ranks,
+        of,
+        width,
+        clocks,
+        nexts,
+        work,
+        low,
+        to,
+        b,
+        list,
+        k,
+    );
     workspace::clear_marks(work, events);
     next
 }
@@ -214,32 +225,37 @@ fn write_all(
     of: &[u16],
     width: usize,
     clocks: &[u16],
+    nexts: &[u16],
     work: &mut [u8],
     events: usize,
     list: &mut [u16],
     short: bool,
 )
-    requires { ⌜ AllRoom (decode (now recs)) (now ranks) (now of) width (now clocks) short (now list) × Clear (decode (now recs)) events (now work) ⌝ }
+    requires { ⌜ AllRoom (decode (now recs)) (now ranks) (now of) width (now clocks) short (now list) × Nexts (decode (now recs)) (now nexts) × Clear (decode (now recs)) events (now work) ⌝ }
     ensures { λ u. ⌜ (now (list .exit) ≡ sets (now (list .entry)) 0 (numbers (decode (now (recs .entry))) (pairsBelow (decode (now (recs .entry))) short (length (decode (now (recs .entry))))))) × (now (work .exit) ≡ now (work .entry)) ⌝ }
 {
     let n = access::count(recs);
+    let mut starts = no_starts();
     let mut k = 0;
     let mut b = 0;
     while b < n {
-        let from = first_from(recs, short, b);
+        let way = way_to(recs, &starts, short, b);
         k = write_at(
             recs,
             ranks,
             of,
             width,
             clocks,
+            nexts,
             work,
             events,
-            from,
+            way.from,
+            way.to,
             b,
             list,
             k,
         );
+        note_start(recs, short, b, &mut starts);
         b += 1;
     }
 }
@@ -269,11 +285,23 @@ fn list_filled(
     ensures { λ r. ⌜ ListsFilled short (decode (now (recs .entry))) events (now (work .entry)) (now (work .exit)) (now (list .entry)) (now (list .exit)) r ⌝ }
 {
     let all = ranks(recs);
-    let found = count(recs, &all, of, width, clocks, short);
+    let nexts = next_accesses(recs);
+    let found = count(recs, &all, of, width, clocks, &nexts, short);
     if list.len() / 5 < found {
         return refused(trace::LIST_SPACE);
     }
-    write_all(recs, &all, of, width, clocks, work, events, list, short);
+    write_all(
+        recs,
+        &all,
+        of,
+        width,
+        clocks,
+        &nexts,
+        work,
+        events,
+        list,
+        short,
+    );
     Listing::Listed(Summary {
         events: events,
         records: access::count(recs),

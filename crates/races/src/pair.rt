@@ -173,7 +173,7 @@ fn ask_filled(
     if list.len() / 2 < events {
         return refused(trace::LIST_SPACE);
     }
-    leading::mark_leading(recs, &all, b, work);
+    leading::mark_leading(recs, &all, 0, b, work);
     let answer = put_entries(recs, &all, of, width, clocks, work, list, a, b);
     workspace::clear_marks(work, events);
     answer

@@ -11,10 +11,10 @@ use Rattle.races.proofs.leading.mark_leading.Statement.{statement}
 use Rattle.races.proofs.leading.mark_leading.Tie as tie
 
 abbrev Inv-loop : tie.InvT-loop
-Inv-loop recs ranks b work₀ accessed₀ written₀ named₀ hi₀ work accessed written named hi = Passed (decode recs) b hi work₀ work accessed written named
+Inv-loop recs ranks low b work₀ accessed₀ written₀ named₀ hi₀ work accessed written named hi = Passed (decode recs) b hi work₀ work accessed written named
 
 abbrev μ-loop : tie.MeasureT-loop
-μ-loop recs ranks b work₀ accessed₀ written₀ named₀ hi₀ work accessed written named hi = hi
+μ-loop recs ranks low b work₀ accessed₀ written₀ named₀ hi₀ work accessed written named hi = hi
 
 none-requires : tie.Need-none-requires Inv-loop μ-loop
 none-requires c κs = search needs
@@ -93,7 +93,7 @@ same-length : tie.Need-same-length Inv-loop μ-loop
 same-length c = c .before .loop .inv .marks .size ∙ first-long (c .before .before .before .before .before .before .before .before .before .before .before .before .before .before .before .before .before .before .before .before .before .before .pre) (c .before .before .before .before .before .before .before .before .before .before .before .set-mark .ensures ∙ simp (c .before .before .before .before .before .before .before .before .before .before .before .before .row-of .ensures, c .before .before .before .before .before .before .before .before .before .before .before .before .before .first-at .ensures))
 
 returns : tie.Need-returns Inv-loop μ-loop
-returns c = ends-pass (c .before .before .before .before .before .before .before .before .before .before .before .before .before .before .before .before .before .before .before .before .before .before .pre) (c .before .before .before .before .before .before .before .before .before .before .before .set-mark .ensures ∙ simp (c .before .before .before .before .before .before .before .before .before .before .before .before .row-of .ensures, c .before .before .before .before .before .before .before .before .before .before .before .before .before .first-at .ensures)) (c .before .loop .hi) (c .loop-test .left) _ _ _ _ (c .before .loop .inv)
+returns c = ends-pass (c .before .before .before .before .before .before .before .before .before .before .before .before .before .before .before .before .before .before .before .before .before .before .pre) (c .before .before .before .before .before .before .before .before .before .before .before .set-mark .ensures ∙ simp (c .before .before .before .before .before .before .before .before .before .before .before .before .row-of .ensures, c .before .before .before .before .before .before .before .before .before .before .before .before .before .first-at .ensures)) (c .before .loop .hi) (c .before .before .before .before .before .before .before .before .before .before .before .before .before .before .before .before .before .before .before .before .before .before .args .low) (c .loop-test .left) _ _ _ _ (c .before .loop .inv)
 
 pub mark-leading-spec : {M : Type 1} → statement M
 mark-leading-spec =

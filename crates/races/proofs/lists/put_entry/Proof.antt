@@ -1,6 +1,6 @@
 -- `races::lists::put_entry` meets its contract.
 -- Assumes nothing.
-use Rattle.races.proofs.EntryStores.{mark-covered, entry-stores, covered-mark, open-mark}
+use Rattle.races.proofs.EntryStores.{entry-stores, covered-mark, open-mark}
 use Rattle.trace.specs.Bytes.{decode}
 use lib.ListN.{length-set}
 use native.Mathlib.Omega.{arith}
@@ -82,7 +82,7 @@ same-length c = search needs
 returns : tie.Need-returns
 returns c =
     let tr = decode (now (c .before .before .before .before .before .before .before .before .args .recs)) in
-    entry-stores tr _ _ _ _ _ _ _ (c .before .before .before .second-at .ensures) (c .before .before .shape-of .ensures) (covered-mark tr (c .before .before .before .before .before .before .before .before .args .a) (c .before .before .before .before .before .before .before .before .args .b) (sym (mark-covered (c .before .before .before .before .before .before .before .before .pre .0) (c .before .before .before .before .before .before .before .before .args .a) (c .before .before .before .before .before .before .before .before .pre .1)) ∙ (sym (c .before .is-leading .ensures) ∙ c .if1 .taken)))
+    entry-stores tr _ _ _ _ _ _ _ (c .before .before .before .second-at .ensures) (c .before .before .shape-of .ensures) (covered-mark tr (c .before .before .before .before .before .before .before .before .args .a) (c .before .before .before .before .before .before .before .before .args .b) (sym (c .before .before .before .before .before .before .before .before .pre .0) ∙ (sym (c .before .is-leading .ensures) ∙ c .if1 .taken)))
 
 add-list-7 : tie.Need-add-list-7
 add-list-7 c = search needs
@@ -99,7 +99,7 @@ same-length-2 c = search needs
 returns-2 : tie.Need-returns-2
 returns-2 c =
     let tr = decode (now (c .before .before .before .before .before .before .before .before .args .recs)) in
-    entry-stores tr _ _ _ _ _ _ _ (c .before .before .before .second-at .ensures) (c .before .before .shape-of .ensures) (open-mark tr (c .before .before .before .before .before .before .before .before .args .a) (c .before .before .before .before .before .before .before .before .args .b) (sym (mark-covered (c .before .before .before .before .before .before .before .before .pre .0) (c .before .before .before .before .before .before .before .before .args .a) (c .before .before .before .before .before .before .before .before .pre .1)) ∙ (sym (c .before .is-leading .ensures) ∙ c .if1 .left)))
+    entry-stores tr _ _ _ _ _ _ _ (c .before .before .before .second-at .ensures) (c .before .before .shape-of .ensures) (open-mark tr (c .before .before .before .before .before .before .before .before .args .a) (c .before .before .before .before .before .before .before .before .args .b) (sym (c .before .before .before .before .before .before .before .before .pre .0) ∙ (sym (c .before .is-leading .ensures) ∙ c .if1 .left)))
 
 pub put-entry-spec : {M : Type 1} → statement M
 put-entry-spec =

@@ -1,56 +1,43 @@
--- `races::lists::write_at` meets its contract.
--- Assumes nothing.
-use Rattle.races.proofs.EntryStores.{some-access, no-entries}
-use Rattle.races.proofs.WorkLaws.{leading-long, cleared, zeros-front}
-use Rattle.races.specs.Leading.{rows, leadingMarks}
-use Rattle.trace.specs.Bytes.{decode}
-use lib.Seq.{drop-at}
+use Rattle.races.proofs.EntryStores.{no-entries, low-range, low-room, low-writes, race-second}
+use Rattle.races.proofs.PassLaws.{leading-tells, leading-kept}
+use Rattle.races.proofs.WorkLaws.{zeros-front, clear-again}
+use Rattle.races.specs.Leading.{rows}
 use lib.ListN.{drop, take}
+use mathlib.Core.Path.{refl, ap, _∙_}
 use native.Mathlib.Omega.{arith}
-use mathlib.Core.List.{_++_}
-use mathlib.Core.Path.{refl, sym, ap, _∙_}
 use denote.Ref.{now}
+use Rattle.trace.specs.Bytes.{decode}
 use borrow.Author.Needs.{needs}
 use Rattle.races.proofs.lists.write_at.Statement.{statement}
 use Rattle.races.proofs.lists.write_at.Tie as tie
 
-count-at-requires : tie.Need-count-at-requires
-count-at-requires c κs = search needs
+first-race-requires : tie.Need-first-race-requires
+first-race-requires c κs = search needs
 
 returns : tie.Need-returns
-returns c = (no-entries (decode (now (c .before .before .before .before .before .before .before .before .args .recs))) (c .before .before .before .before .before .before .before .before .args .b) (c .before .before .before .before .before .before .before .before .args .from) (c .before .before .before .before .before .before .before .before .args .k) (now (c .before .before .before .before .before .before .before .before .args .list)) (sym (c .before .count-at .ensures .0) ∙ c .if1 .taken), refl)
+returns c = (no-entries (c .before .before .before .before .before .before .before .before .before .args .k) (now (c .before .before .before .before .before .before .before .before .before .args .list)) (c .before .before .before .before .before .before .before .before .before .pre .1 .0) (c .before .first-race .ensures) (c .if1 .taken), refl)
 
 mark-leading-requires : tie.Need-mark-leading-requires
 mark-leading-requires c κs =
-    let tr = decode (now (c .before .before .before .before .before .before .before .before .before .args .recs)) in
-    let k = c .before .before .before .before .before .before .before .before .before .pre .1 in
-    let f = c .before .before .before .before .before .before .before .before .before .pre .0 .filled in
+    let tr = decode (now (c .before .before .before .before .before .before .before .before .before .before .args .recs)) in
+    let f = c .before .before .before .before .before .before .before .before .before .before .pre .0 .0 .filled in
+    let k = c .before .before .before .before .before .before .before .before .before .before .pre .1 .1 in
     record {
       acceptable = f .acceptable;
       ranked = f .ranks-are;
-      access = some-access tr (c .before .before .before .before .before .before .before .before .before .args .from) (c .before .before .before .before .before .before .before .before .before .args .b) (c .before .before .before .before .before .before .before .before .before .args .b) (λ z. c .before .if1 .left (c .before .before .count-at .ensures .0 ∙ z));
+      access = race-second tr (c .before .before .first-race .result) (c .before .before .before .before .before .before .before .before .before .before .args .b) (c .before .before .first-race .ensures .found (c .before .if1 .left));
       room = k .work-room;
-      clear = ap (take (rows tr)) (k .zeros) ∙ zeros-front (rows tr) (drop (rows tr) (now (c .before .before .before .before .before .before .before .before .before .args .work)));
+      clear = ap (take (rows tr)) (k .zeros) ∙ zeros-front (rows tr) (drop (rows tr) (now (c .before .before .before .before .before .before .before .before .before .before .args .work)));
     }
 
 write-races-requires : tie.Need-write-races-requires
 write-races-requires c κs =
-    let tr = decode (now (c .before .before .before .before .before .before .before .before .before .before .before .before .before .before .args .recs)) in
-    let f = c .before .before .before .before .before .before .before .before .before .before .before .before .before .before .pre .0 .filled in
-    let w = c .before .before .before .before .mark-leading .ensures in (
-      c .before .before .before .before .before .before .before .before .before .before .before .before .before .before .pre .0,
-      record {
-        acceptable = f .acceptable;
-        ranks-are = f .ranks-are;
-        inside = c .before .before .before .before .before .before .before .before .before .before .before .before .before .before .pre .0 .inside;
-        work-is = w ∙ ap (λ r. leadingMarks tr (c .before .before .before .before .before .before .before .before .before .before .before .before .before .before .args .b) ++ r) (sym (ap (drop (rows tr)) w ∙ drop-at (leadingMarks tr (c .before .before .before .before .before .before .before .before .before .before .before .before .before .before .args .b)) (drop (rows tr) (now (c .before .before .before .before .before .before .before .before .before .before .before .before .before .before .args .work))) (rows tr) (leading-long tr (c .before .before .before .before .before .before .before .before .before .before .before .before .before .before .args .b))));
-      },
-    )
+    let f = c .before .before .before .before .before .before .before .first-race .ensures in
+    let r = c .before .before .before .before .before .before .before .before .before .before .before .before .before .before .before .pre .0 .0 in
+    ((low-room (c .before .before .before .before .before .before .before .before .before .before .before .before .before .before .before .pre .1 .0) f r, c .before .before .before .before .before .before .before .before .before .before .before .before .before .before .before .pre .0 .1), (low-range (c .before .before .before .before .before .before .before .before .before .before .before .before .before .before .before .pre .1 .0) f, record { tells = λ a l k. rw (r .filled .ranks-are) (leading-tells (c .before .before .before .before .mark-leading .ensures) (r .filled .acceptable) a l (omega (arith, k, r .inside))) }))
 
 clear-marks-requires : tie.Need-clear-marks-requires
-clear-marks-requires c κs =
-    let k = c .before .before .before .before .before .before .before .before .before .before .before .before .before .before .before .before .before .before .pre .1 in
-    omega (arith, k .events-are, k .work-room, c .before .before .before .before .before .before .before .before .mark-leading .kept .1 .1 .1 .0)
+clear-marks-requires c κs = let k = c .before .before .before .before .before .before .before .before .before .before .before .before .before .before .before .before .before .before .before .pre .1 .1 in omega (arith, k .events-are, k .work-room, leading-kept (c .before .before .before .before .before .before .before .before .mark-leading .ensures))
 
 same-length : tie.Need-same-length
 same-length c = search needs
@@ -59,16 +46,13 @@ same-length-2 : tie.Need-same-length-2
 same-length-2 c = search needs
 
 returns-2 : tie.Need-returns-2
-returns-2 c =
-    let tr = decode (now (c .before .before .before .before .before .before .before .before .before .before .before .before .before .before .before .before .before .before .before .before .before .args .recs)) in
-    let k = c .before .before .before .before .before .before .before .before .before .before .before .before .before .before .before .before .before .before .before .before .before .pre .1 in
-    (c .before .before .before .before .before .before .write-races .ensures, c .before .before .clear-marks .ensures ∙ (rw (k .events-are, c .before .before .before .before .before .before .before .before .before .before .before .mark-leading .ensures) (cleared tr (c .before .before .before .before .before .before .before .before .before .before .before .before .before .before .before .before .before .before .before .before .before .args .b) (now (c .before .before .before .before .before .before .before .before .before .before .before .before .before .before .before .before .before .before .before .before .before .args .work))) ∙ sym (k .zeros)))
+returns-2 c = (low-writes (c .before .before .before .before .before .before .before .before .before .before .before .before .before .before .before .before .before .before .before .before .before .before .pre .1 .0) (c .before .before .before .before .before .before .before .before .before .before .before .before .before .before .first-race .ensures) (c .before .before .before .before .before .before .write-races .ensures), clear-again (c .before .before .before .before .before .before .before .before .before .before .before .before .before .before .before .before .before .before .before .before .before .before .pre .1 .1) (c .before .before .before .before .before .before .before .before .before .before .before .mark-leading .ensures) _ (c .before .before .clear-marks .ensures))
 
 pub write-at-spec : {M : Type 1} → statement M
 write-at-spec =
     tie.close
     (tie.spec
-    count-at-requires
+    first-race-requires
     returns
     mark-leading-requires
     write-races-requires

@@ -1,44 +1,48 @@
--- `races::lists::write_races` meets its contract.
--- Assumes nothing.
 use Rattle.races.proofs.EntryStores.{Writing, writing-start, writing-size, writing-room, writing-next, writing-end}
-use Rattle.trace.specs.Bytes.{decode}
+use Rattle.races.specs.Candidates.{On}
+use Prim.Native.Nat.{_-_, _<_}
 use native.Mathlib.Omega.{arith}
-use Prim.Native.Nat.{_-_}
+use Rattle.trace.specs.Bytes.{decode}
 use Rattle.races.proofs.lists.write_races.Statement.{statement}
 use Rattle.races.proofs.lists.write_races.Tie as tie
 
 abbrev Inv-loop : tie.InvT-loop
-Inv-loop recs ranks of width clocks work from b list₀ k next₀ a₀ list next a = Writing (decode recs) b from k list₀ list next a
+Inv-loop recs ranks of width clocks nexts work low to b list₀ k next₀ a₀ list next a = Writing (decode recs) b low k list₀ list next a × On (decode recs) b a
 
 abbrev μ-loop : tie.MeasureT-loop
-μ-loop recs ranks of width clocks work from b list₀ k next₀ a₀ list next a = b - a
+μ-loop recs ranks of width clocks nexts work low to b list₀ k next₀ a₀ list next a = b - a
 
 loop-holds : tie.Need-loop-holds Inv-loop μ-loop
-loop-holds c = writing-start _ _ _ _ _ (c .before .before .before .before .before .before .pre .0 .low)
+loop-holds c = (writing-start _ _ _ _ _ (c .before .before .before .before .before .before .before .pre .1 .0 .on .high), c .before .before .before .before .before .before .before .pre .1 .0 .on)
 
 write-race-requires : tie.Need-write-race-requires Inv-loop μ-loop
 write-race-requires c κs =
+    let l = c .before .before .loop in
+    let h : l .a < c .before .before .before .before .before .before .before .before .before .before .args .b = omega (arith, c .before .before .before .before .before .before .before .before .before .before .pre .1 .0 .high, c .before .loop-test .taken) in
     record {
-      filled = c .before .before .before .before .before .before .before .before .before .pre .0 .filled;
-      marks = c .before .before .before .before .before .before .before .before .before .pre .1;
-      earlier = c .before .loop-test .taken;
-      space = writing-room (c .before .before .loop .inv) (c .before .loop-test .taken) (c .before .before .before .before .before .before .before .before .before .pre .0 .space);
+      filled = c .before .before .before .before .before .before .before .before .before .before .pre .0 .0 .filled;
+      marks = c .before .before .before .before .before .before .before .before .before .before .pre .1 .1 .tells (l .a) (l .inv .0 .low) h;
+      earlier = h;
+      inside = c .before .before .before .before .before .before .before .before .before .before .pre .0 .0 .inside;
+      space = writing-room (l .inv .0) h (c .before .before .before .before .before .before .before .before .before .before .pre .0 .0 .space);
     }
 
-add-a : tie.Need-add-a Inv-loop μ-loop
-add-a c = omega arith
+next-access-requires : tie.Need-next-access-requires Inv-loop μ-loop
+next-access-requires c κs = (c .before .before .before .before .before .before .before .before .before .before .before .before .before .pre .0 .1, c .before .before .before .before .before .loop .inv .1, omega (arith, c .before .before .before .before .before .before .before .before .before .before .before .before .before .pre .1 .0 .high, c .before .before .before .before .loop-test .taken), c .before .before .before .before .before .before .before .before .before .before .before .before .before .pre .0 .0 .inside)
 
 loop-less : tie.Need-loop-less Inv-loop μ-loop
-loop-less c = omega arith
+loop-less c = omega (arith, c .next-access .ensures .ahead, c .before .before .before .before .before .before .before .before .before .before .before .before .before .before .pre .1 .0 .high, c .before .before .before .before .before .loop-test .taken)
 
 loop-again : tie.Need-loop-again Inv-loop μ-loop
-loop-again c = writing-next (c .before .before .before .before .before .loop .inv) (c .before .before .before .before .loop-test .taken) _ _ (c .before .before .write-race .ensures)
+loop-again c =
+    let h : c .before .before .before .before .before .before .loop .a < c .before .before .before .before .before .before .before .before .before .before .before .before .before .before .args .b = omega (arith, c .before .before .before .before .before .before .before .before .before .before .before .before .before .before .pre .1 .0 .high, c .before .before .before .before .before .loop-test .taken) in
+    (writing-next (c .before .before .before .before .before .before .loop .inv .0) h _ _ (c .before .before .before .write-race .ensures) _ (c .next-access .ensures), c .next-access .ensures .on)
 
 same-length : tie.Need-same-length Inv-loop μ-loop
-same-length c = writing-size (c .before .loop .inv)
+same-length c = writing-size (c .before .loop .inv .0)
 
 returns : tie.Need-returns Inv-loop μ-loop
-returns c = writing-end (c .before .loop .inv) (c .loop-test .left)
+returns c = writing-end (c .before .loop .inv .0) (c .loop-test .left) (c .before .before .before .before .before .before .before .before .before .pre .1 .0)
 
 pub write-races-spec : {M : Type 1} → statement M
 write-races-spec =
@@ -48,7 +52,7 @@ write-races-spec =
     μ-loop
     loop-holds
     write-race-requires
-    add-a
+    next-access-requires
     loop-less
     loop-again
     same-length

@@ -1,0 +1,271 @@
+-- No first access that races with b is missed on the way to b. Assumes nothing.
+use Prim.Native.Nat.{ℕ, zero, suc, _+_, _-_, _≤_, _<_}
+use mathlib.Core.Path.{_≡_, refl, sym, ap, _∙_, subst}
+use mathlib.Core.Logic.{_≢_, _⊎_, inl, inr}
+use mathlib.Core.Bool.{Bool, true, false, cond, _&&_, _||_}
+use mathlib.Core.List.{List}
+use native.Mathlib.Omega.{arith}
+use native.Mathlib.Nat.{eq-or-lt-of-le, le-of-suc-le-suc}
+use native.Mathlib.Decide.{ℕ-discrete}
+use borrow.Author.Tests.{eq-eqb, ne-eqb}
+use lib.Dec.{T, ltb, eqb, eqb→eq, ltb→lt}
+use lib.ListN.{length, getD, set, length-set, length-replicate, getD-replicate}
+use lib.Seq.{getD-set-same, getD-set-other}
+use Rattle.trace.specs.declared.Record.{Record}
+use Rattle.trace.specs.Records.{at, isRead, isWrite}
+use Rattle.trace.specs.Reading.{Acceptable}
+use Rattle.trace.specs.Marks.{noMarks}
+use Rattle.trace.specs.Rule.{numbered}
+use Rattle.trace.proofs.Positions.{lt-or-ge}
+use Rattle.trace.proofs.Blocks.{passes-at}
+use Rattle.trace.proofs.Marked.{formed}
+use Rattle.trace.proofs.Going.{in-range}
+use Rattle.coverage.specs.Race.{raceb}
+use Rattle.coverage.specs.Neighbours.{conflicts}
+use Rattle.coverage.proofs.Tests.{both, and, either, or-left, or-right, eq→eqb}
+use Rattle.races.specs.Traces.{isAccess, cellsOf, settingOf}
+use Rattle.races.specs.Candidates.{noNexts, isStart, cell, accesses, startOf, Starts, Ahead, Linked, Nexts, On, Jump, Range, FirstRace}
+use Rattle.races.proofs.Instance.{access-inside}
+
+off : (x : Bool) → (T x → ⊥) → x ≡ false
+off true h = absurd (h tt)
+off false h = refl
+
+module _ (tr : List Record) where
+  -- a race is between accesses of one cell, one of which writes
+  pub record Racing (a b : ℕ) : Type 0 where
+    pub earlier : a < b
+    pub first : T (isAccess (at tr a))
+    pub second : T (isAccess (at tr b))
+    pub same : cell tr a ≡ cell tr b
+    pub one : T (isWrite (at tr a)) ⊎ T (isWrite (at tr b))
+
+  pub racing : (a b : ℕ) → T (raceb (settingOf tr) a b) → Racing a b
+  unfolding raceb conflicts
+  racing a b h =
+      let p = both (ltb a b) _ h in
+      let q = both (ltb b (length tr)) _ (p .1) in
+      let r = both (conflicts (cellsOf tr) a b) _ (q .1) in
+      let s = both (isAccess (at tr a) && isAccess (at tr b)) _ (r .0) in
+      let u = both (isAccess (at tr a)) (isAccess (at tr b)) (s .0) in
+      let v = both (eqb (cell tr a) (cell tr b)) _ (s .1) in
+      record { earlier = ltb→lt a b (p .0); first = u .0; second = u .1; same = eqb→eq (cell tr a) (cell tr b) (v .0); one = either (isWrite (at tr a)) (isWrite (at tr b)) (v .1) }
+
+  to-accesses : (c i : ℕ) → T (isAccess (at tr i)) → cell tr i ≡ c → T (accesses tr c i)
+  to-accesses c i h e = and (isAccess (at tr i)) (eqb (cell tr i) c) h (eq→eqb (cell tr i) c e)
+
+  of-accesses : (c i : ℕ) → T (accesses tr c i) → T (isAccess (at tr i)) × (cell tr i ≡ c)
+  of-accesses c i h = let p = both (isAccess (at tr i)) (eqb (cell tr i) c) h in (p .0, eqb→eq (cell tr i) c (p .1))
+
+  pub race-accesses : (a b : ℕ) → T (raceb (settingOf tr) a b) → T (accesses tr (cell tr b) a)
+  race-accesses a b h = let r = racing a b h in to-accesses (cell tr b) a (r .first) (r .same)
+
+  -- What the start of a cell before i is.
+  pub record Start (short : Bool) (c i v : ℕ) : Type 0 where
+    pub high : v ≤ i
+    pub same : v ≢ 0 → cell tr (v - 1) ≡ c
+    -- an access before it, or none at all: then it is a write of the short list
+    pub before : (x : ℕ) → x < i → T (accesses tr c x) → (v ≡ 0) ⊎ (suc x < v) → T short × (v ≢ 0) × T (isWrite (at tr (v - 1)))
+    pub after : T short → (x : ℕ) → v ≤ x → x < i → T (accesses tr c x) → T (isWrite (at tr x)) → ⊥
+
+  pub start : (short : Bool) (c i : ℕ) → Start short c i (startOf tr short c i)
+  unfolding startOf isStart
+  start short c zero = record { high = omega arith; same = λ n. absurd (n refl); before = λ x l h k. absurd (omega arith); after = λ s x l k h w. omega arith }
+  start short c (suc i) = go (eqb (cell tr i) c) refl (isStart short (startOf tr short c i) (at tr i)) refl (start short c i)
+    where
+      v : ℕ
+      v = startOf tr short c i
+
+      here : eqb (cell tr i) c ≡ true → cell tr i ≡ c
+      here e = eqb→eq (cell tr i) c (subst T (sym e) tt)
+
+      near : (x : ℕ) → x < suc i → (x ≡ i) ⊎ (x < i)
+      near x l = eq-or-lt-of-le (le-of-suc-le-suc l)
+
+      -- the record is no access of the cell, or it does not become the start
+      still : ((T (accesses tr c i)) → (v ≢ 0) × (T short → T (isWrite (at tr i)) → ⊥)) → Start short c i v → Start short c (suc i) v
+      still n w = record {
+        high = omega (arith, w .high);
+        same = w .same;
+        before = λ x l h k. old x (near x l) h k;
+        after = λ s x l k h q. late s x l (near x k) h q;
+      }
+        where
+          old : (x : ℕ) → (x ≡ i) ⊎ (x < i) → T (accesses tr c x) → (v ≡ 0) ⊎ (suc x < v) → T short × (v ≢ 0) × T (isWrite (at tr (v - 1)))
+          old x (inl e) h (inl z) = absurd (n (subst (λ (y : ℕ). T (accesses tr c y)) e h) .0 z)
+          old x (inl e) h (inr l) = let m = w .high in absurd (omega arith)
+          old x (inr l) h k = w .before x l h k
+
+          late : T short → (x : ℕ) → v ≤ x → (x ≡ i) ⊎ (x < i) → T (accesses tr c x) → T (isWrite (at tr x)) → ⊥
+          late s x l (inl e) h q = n (subst (λ (y : ℕ). T (accesses tr c y)) e h) .1 s (subst (λ (y : ℕ). T (isWrite (at tr y))) e q)
+          late s x l (inr k) h q = w .after s x l k h q
+
+      fresh : eqb (cell tr i) c ≡ true → T (isStart short v (at tr i)) → Start short c i v → Start short c (suc i) (suc i)
+      fresh e t w = record {
+        high = omega arith;
+        same = λ n. let q : suc i - 1 ≡ i = omega arith in rw q (here e);
+        before = λ x l h k. new x (near x l) h k;
+        after = λ s x l k h q. omega arith;
+      }
+        where
+          is : T (eqb v 0 || (short && isWrite (at tr i)))
+          is = both (isAccess (at tr i)) _ t .1
+
+          by : (x : ℕ) → x < i → T (accesses tr c x) → T (eqb v 0) ⊎ T (short && isWrite (at tr i)) → T short × (suc i ≢ 0) × T (isWrite (at tr (suc i - 1)))
+          by x l h (inl z) = let p = w .before x l h (inl (eqb→eq v 0 z)) in absurd (p .1 (eqb→eq v 0 z))
+          by x l h (inr z) =
+              let p = both short (isWrite (at tr i)) z in
+              let q : suc i - 1 ≡ i = omega arith in
+              (p .0, λ y. omega arith, rw q (p .1))
+
+          new : (x : ℕ) → (x ≡ i) ⊎ (x < i) → T (accesses tr c x) → (suc i ≡ 0) ⊎ (suc x < suc i) → T short × (suc i ≢ 0) × T (isWrite (at tr (suc i - 1)))
+          new x (inl e) h (inl k) = absurd (omega arith)
+          new x (inl e) h (inr k) = absurd (omega arith)
+          new x (inr l) h k = by x l h (either (eqb v 0) _ is)
+
+      go : (p : Bool) → eqb (cell tr i) c ≡ p → (q : Bool) → isStart short v (at tr i) ≡ q → Start short c i v → Start short c (suc i) (cond (p && q) (suc i) v)
+      go true e true f w = fresh e (subst T (sym f) tt) w
+      go true e false f w = still (λ h. kept (of-accesses c i h .0)) w
+        where
+          kept : T (isAccess (at tr i)) → (v ≢ 0) × (T short → T (isWrite (at tr i)) → ⊥)
+          kept h = (
+            λ z. subst T f (and (isAccess (at tr i)) _ h (or-left (eqb v 0) (short && isWrite (at tr i)) (eq→eqb v 0 z))),
+            λ s q. subst T f (and (isAccess (at tr i)) _ h (or-right (eqb v 0) (short && isWrite (at tr i)) (and short (isWrite (at tr i)) s q))),
+          )
+      go false e q f w = still (λ h. absurd (subst T e (eq→eqb (cell tr i) c (of-accesses c i h .1)))) w
+
+-- numbers are in range
+pub cell-low : {tr : List Record} (a : Acceptable tr) (x : ℕ) → x < length tr → cell tr x < 1025
+cell-low {tr} a x h = go (ltb (at tr x .kind) 3) (formed (at tr x) (passes-at a x h .well-formed) .1)
+  where
+    go : (k : Bool) → cond k (eqb (at tr x .second) 0) (numbered (at tr x .second)) ≡ true → at tr x .second < 1025
+    go true e = let z = eqb→eq (at tr x .second) 0 (subst T (sym e) tt) in omega arith
+    go false e = in-range (at tr x .second) e
+
+-- The starts of the cells, one record after the other.
+module _ (tr : List Record) (short : Bool) where
+  pub starts-none : Starts tr short 0 noMarks
+  unfolding startOf noMarks
+  starts-none = record { size = length-replicate {A = ℕ} 1025 0; tells = λ c l. getD-replicate {A = ℕ} 1025 c 0 0 l }
+
+  starts-other : (b c : ℕ) → cell tr b ≢ c → startOf tr short c (suc b) ≡ startOf tr short c b
+  unfolding startOf
+  starts-other b c n = rw (ne-eqb (cell tr b) c n)
+
+  starts-same : (b : ℕ) → startOf tr short (cell tr b) (suc b) ≡ cond (isStart short (startOf tr short (cell tr b) b) (at tr b)) (suc b) (startOf tr short (cell tr b) b)
+  unfolding startOf
+  starts-same b = rw (eq-eqb (cell tr b) (cell tr b) refl)
+
+  pub starts-next : {b : ℕ} {starts : List ℕ} → cell tr b < 1025 → Starts tr short b starts → (starts′ : List ℕ) → starts′ ≡ cond (isStart short (getD starts (cell tr b) 0) (at tr b)) (set starts (cell tr b) (b + 1)) starts → Starts tr short (b + 1) starts′
+  starts-next {b} {starts} low s starts′ e = go (isStart short (getD starts (cell tr b) 0) (at tr b)) refl e
+    where
+      same : getD starts (cell tr b) 0 ≡ startOf tr short (cell tr b) b
+      same = s .tells (cell tr b) low
+
+      next : b + 1 ≡ suc b
+      next = omega arith
+
+      go : (q : Bool) → isStart short (getD starts (cell tr b) 0) (at tr b) ≡ q → starts′ ≡ cond q (set starts (cell tr b) (b + 1)) starts → Starts tr short (b + 1) starts′
+      go true f p = record { size = ap length p ∙ (length-set starts (cell tr b) (b + 1) ∙ s .size); tells = λ c l. at-cell c l (ℕ-discrete c (cell tr b)) }
+        where
+          at-cell : (c : ℕ) → c < 1025 → Dec (c ≡ cell tr b) → getD starts′ c 0 ≡ startOf tr short c (b + 1)
+          at-cell c l (yes d) =
+              let z = s .size in
+              rw (p, d, next) (getD-set-same starts (cell tr b) (suc b) 0 (omega arith) ∙ sym (starts-same b ∙ rw (← same, f) refl))
+          at-cell c l (no d) = rw (p, next) (getD-set-other starts (cell tr b) c (suc b) 0 d ∙ (s .tells c l ∙ sym (starts-other b c (λ q. d (sym q)))))
+      go false f p = record { size = ap length p ∙ s .size; tells = λ c l. at-cell c l (ℕ-discrete c (cell tr b)) }
+        where
+          at-cell : (c : ℕ) → c < 1025 → Dec (c ≡ cell tr b) → getD starts′ c 0 ≡ startOf tr short c (b + 1)
+          at-cell c l (yes d) = rw (p, d, next) (same ∙ sym (starts-same b ∙ rw (← same, f) refl))
+          at-cell c l (no d) = rw (p, next) (s .tells c l ∙ sym (starts-other b c (λ q. d (sym q))))
+
+-- The next accesses, linked from the last record down.
+module _ (tr : List Record) where
+  pub linked-none : (i : ℕ) → length tr ≤ i → Linked tr i noNexts noMarks
+  unfolding noNexts noMarks
+  linked-none i h = record {
+    long = length-replicate {A = ℕ} 4096 0;
+    wide = length-replicate {A = ℕ} 1025 0;
+    records = λ a l k. absurd (omega arith);
+    cells = λ c l. rw (getD-replicate {A = ℕ} 1025 c 0 0 l) (record { none = λ x k n t. let z = access-inside tr x (of-accesses tr c x t .0) in omega arith; later = λ n. absurd (n refl); same = λ n. absurd (n refl) });
+  }
+
+  pub linked-next : {i : ℕ} {nexts ahead : List ℕ} → i < length tr → length tr ≤ 4096 → cell tr i < 1025 → Linked tr (suc i) nexts ahead → (nexts′ ahead′ : List ℕ) → nexts′ ≡ set nexts i (getD ahead (cell tr i) 0) → ahead′ ≡ cond (isAccess (at tr i)) (set ahead (cell tr i) (i + 1)) ahead → Linked tr i nexts′ ahead′
+  linked-next {i} {nexts} {ahead} h few low w nexts′ ahead′ p q = record {
+    long = ap length p ∙ (length-set nexts i (getD ahead (cell tr i) 0) ∙ w .long);
+    wide = wide (isAccess (at tr i)) q;
+    records = λ a l k. rw p (one a l k (ℕ-discrete a i));
+    cells = λ c l. cells c l (isAccess (at tr i)) refl q (ℕ-discrete c (cell tr i));
+  }
+    where
+      wide : (t : Bool) → ahead′ ≡ cond t (set ahead (cell tr i) (i + 1)) ahead → length ahead′ ≡ 1025
+      wide true e = ap length e ∙ (length-set ahead (cell tr i) (i + 1) ∙ w .wide)
+      wide false e = ap length e ∙ w .wide
+
+      one : (a : ℕ) → i ≤ a → a < length tr → Dec (a ≡ i) → Ahead tr (cell tr a) (suc a) (getD (set nexts i (getD ahead (cell tr i) 0)) a 0)
+      one a l k (yes e) = let z = w .long in rw (e, getD-set-same nexts i (getD ahead (cell tr i) 0) 0 (omega arith)) (w .cells (cell tr i) low)
+      one a l k (no n) = rw (getD-set-other nexts i a (getD ahead (cell tr i) 0) 0 n) (w .records a (omega arith) k)
+
+      still : (c : ℕ) → (T (accesses tr c i) → ⊥) → c < 1025 → Ahead tr c i (getD ahead c 0)
+      still c n l =
+          let v = w .cells c l in
+          record { none = λ x k m t. past x k (ℕ-discrete x i) m t; later = λ m. let z = v .later m in omega arith; same = v .same }
+        where
+          past : (x : ℕ) → i ≤ x → Dec (x ≡ i) → (getD ahead c 0 ≢ 0 → suc x < getD ahead c 0) → T (accesses tr c x) → ⊥
+          past x k (yes e) m t = n (subst (λ (y : ℕ). T (accesses tr c y)) e t)
+          past x k (no d) m t = w .cells c l .none x (omega arith) m t
+
+      cells : (c : ℕ) → c < 1025 → (t : Bool) → isAccess (at tr i) ≡ t → ahead′ ≡ cond t (set ahead (cell tr i) (i + 1)) ahead → Dec (c ≡ cell tr i) → Ahead tr c i (getD ahead′ c 0)
+      cells c l true f e (yes d) =
+          let z = w .wide in
+          let g : i + 1 - 1 ≡ i = omega arith in
+          rw (e, d, getD-set-same ahead (cell tr i) (i + 1) 0 (omega arith)) (record { none = λ x k m t. let y = m (λ u. omega arith) in omega arith; later = λ m. omega arith; same = λ m. rw g refl })
+      cells c l true f e (no d) = rw (e, getD-set-other ahead (cell tr i) c (i + 1) 0 d) (still c (λ t. d (sym (of-accesses tr c i t .1))) l)
+      cells c l false f e d = rw e (still c (λ t. subst T f (of-accesses tr c i t .0)) l)
+
+  pub linked-all : (i : ℕ) {nexts ahead : List ℕ} → i ≤ 0 → Linked tr i nexts ahead → Nexts tr nexts
+  linked-all i l w = record { long = w .long; tells = λ a k. w .records a (omega arith) k }
+
+  -- From a on to the next access.
+  module _ {nexts : List ℕ} {a b : ℕ} (w : Nexts tr nexts) (on : On tr b a) (l : a < b) (h : b < length tr) where
+    abbrev number : ℕ
+    number = getD nexts a 0
+
+    next : Ahead tr (cell tr a) (suc a) number
+    next = w .tells a (omega arith)
+
+    skipped : (x : ℕ) → a < x → (number ≢ 0 → suc x < number) → T (raceb (settingOf tr) x b) → ⊥
+    skipped x k m r = next .none x (omega arith) m (subst (λ (c : ℕ). T (accesses tr c x)) (sym (on .same l)) (race-accesses tr x b r))
+
+    pub jump-end : (number ≡ 0) ⊎ (b < number) → Jump tr b a b
+    jump-end e = record { on = record { high = omega arith; same = λ k. absurd (omega arith) }; ahead = l; none = λ x k m r. skipped x k (late e x m) r }
+      where
+        late : (number ≡ 0) ⊎ (b < number) → (x : ℕ) → x < b → number ≢ 0 → suc x < number
+        late (inl z) x m n = absurd (n z)
+        late (inr z) x m n = omega arith
+
+    pub jump-next : number ≢ 0 → number ≤ b → Jump tr b a (number - 1)
+    jump-next n m =
+        let k = next .later n in
+        record { on = record { high = omega arith; same = λ _. next .same n ∙ on .same l }; ahead = omega arith; none = λ x u v r. skipped x u (λ _. omega arith) r }
+
+  -- The first race on the way.
+  pub looking-start : (b from : ℕ) → On tr b from → FirstRace tr b from from from
+  looking-start b from on = record { on = on; low = omega arith; none = λ x l k r. omega arith; found = λ l. absurd (omega arith) }
+
+  pub looking-next : {b from a r : ℕ} → FirstRace tr b from from a → (T (raceb (settingOf tr) a b) → ⊥) → Jump tr b a r → FirstRace tr b from from r
+  looking-next {b} {from} {a} {r} w n j = let k = j .ahead in let m = w .low in record { on = j .on; low = omega arith; none = λ x l u t. go x l u (lt-or-ge x a) t; found = λ l. absurd (omega arith) }
+    where
+      go : (x : ℕ) → from ≤ x → x < r → (x < a) ⊎ (a ≤ x) → T (raceb (settingOf tr) x b) → ⊥
+      go x l u (inl k) t = w .none x l k t
+      go x l u (inr k) t = past (ℕ-discrete x a)
+        where
+          past : Dec (x ≡ a) → ⊥
+          past (yes e) = n (subst (λ (y : ℕ). T (raceb (settingOf tr) y b)) e t)
+          past (no d) = j .none x (omega arith) u t
+
+  pub looking-found : {b from to a : ℕ} → FirstRace tr b from from a → T (raceb (settingOf tr) a b) → FirstRace tr b from to a
+  looking-found w r = record { on = w .on; low = w .low; none = w .none; found = λ _. r }
+
+  pub looking-end : {b from to a : ℕ} → FirstRace tr b from from a → to ≤ a → FirstRace tr b from to a
+  looking-end w l = record { on = w .on; low = w .low; none = w .none; found = λ k. absurd (omega arith) }
