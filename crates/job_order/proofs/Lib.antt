@@ -1,0 +1,2 @@
+-- An answer that holds no number, by its tag
+mod Says
