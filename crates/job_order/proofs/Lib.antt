@@ -1,2 +1,4 @@
 -- An answer that holds no number, by its tag
 mod Says
+-- The recorder's calls
+mod Leaving
