@@ -2,3 +2,4 @@
 mod Says
 -- The recorder's calls
 mod Leaving
+mod Kept
