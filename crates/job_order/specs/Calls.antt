@@ -1,5 +1,5 @@
 -- The calls from C that read a trace: the numbers that each gives out, its result first, then those it stores, in the order of its parameters. The result
--- is 0 where nothing is refused; what a refused call does not find is 0. Assumes nothing.
+-- is the refusal's number, or 0; the numbers that a refused call has nothing for are 0. Assumes nothing.
 use Prim.Native.Nat.{ℕ, _-_}
 use mathlib.Core.Path.{_≡_}
 use mathlib.Core.Bool.{Bool, cond}
@@ -16,7 +16,7 @@ use Rattle.races.specs.Lists.{ListReply, listReply, clocksRead, workRead, listA
 use Rattle.races.specs.Pair as pair
 use Rattle.races.specs.Pair.{PairReply, pairReply, clocksAfterPair, workAfterPair, ListAfterPair}
 
--- place, start, records, events
+-- result, place, start, records, events
 abbrev pub readNumbers : Reply → List ℕ
 readNumbers (reading.refused n p) = n ∷ p ∷ 0 ∷ 0 ∷ 0 ∷ []
 readNumbers (reading.accepted start records events) = 0 ∷ 0 ∷ start ∷ records ∷ events ∷ []
@@ -24,7 +24,7 @@ readNumbers (reading.accepted start records events) = 0 ∷ 0 ∷ start ∷ reco
 pub record Reads (b : List ℕ) (number place start records events : ℕ) : Type 0 where
   pub given : number ∷ place ∷ start ∷ records ∷ events ∷ [] ≡ readNumbers (readReply b)
 
--- place, chains
+-- result, place, chains
 abbrev pub fillNumbers : FillReply → List ℕ
 fillNumbers (filling.refused n p) = n ∷ p ∷ 0 ∷ []
 fillNumbers (filling.filled chains) = 0 ∷ 0 ∷ chains ∷ []
@@ -33,7 +33,7 @@ pub record FillsOut (b : List ℕ) (width : ℕ) (clocks clocks′ : List ℕ) (
   pub given : number ∷ place ∷ chains ∷ [] ≡ fillNumbers (fillReply b width (length clocks))
   pub clocks-after : clocks′ ≡ clocksAfter b width clocks
 
--- place, yes: 1 or 0
+-- result, place, yes (1 or 0)
 abbrev pub orderNumbers : OrderReply → List ℕ
 orderNumbers (order.refused n p) = n ∷ p ∷ 0 ∷ []
 orderNumbers (order.answered says) = 0 ∷ 0 ∷ cond says 1 0 ∷ []
@@ -41,7 +41,7 @@ orderNumbers (order.answered says) = 0 ∷ 0 ∷ cond says 1 0 ∷ []
 pub record Answers (b : List ℕ) (width : ℕ) (clocks : List ℕ) (t u number place yes : ℕ) : Type 0 where
   pub given : number ∷ place ∷ yes ∷ [] ≡ orderNumbers (orderReply b width clocks t u)
 
--- place, events, records, chains, count
+-- result, place, events, records, chains, count
 abbrev pub listNumbers : ListReply → List ℕ
 listNumbers (lists.refused n p) = n ∷ p ∷ 0 ∷ 0 ∷ 0 ∷ 0 ∷ []
 listNumbers (lists.listed events records chains count) = 0 ∷ 0 ∷ events ∷ records ∷ chains ∷ count ∷ []
@@ -52,7 +52,7 @@ pub record ListsOut (short : Bool) (b : List ℕ) (width : ℕ) (clocks clocks�
   pub work-after : work′ ≡ workRead b (readReply b) width (length clocks) work
   pub list-after : list′ ≡ listAfterRead short b (readReply b) width (length clocks) (length work) list
 
--- place, covered (1 or 0), count: that of a covered pair is free, and is the number of the cover's races by the promise below
+-- result, place, covered (1 or 0), count: that of an open pair is settled, and that of a covered one goes with its cover, "Only one part is free"
 abbrev pub pairNumbers : PairReply → ℕ → List ℕ
 pairNumbers (pair.refused n p) count = n ∷ p ∷ 0 ∷ 0 ∷ []
 pairNumbers (pair.isOpen k) count = 0 ∷ 0 ∷ 0 ∷ k ∷ []
