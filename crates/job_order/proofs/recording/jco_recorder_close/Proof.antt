@@ -1,0 +1,37 @@
+-- `job_order::recording::jco_recorder_close` meets its contract.
+-- Assumes nothing.
+use Rattle.job_order.proofs.Leaving.{closes}
+use borrow.Author.Needs.{needs}
+use Rattle.job_order.proofs.recording.jco_recorder_close.Statement.{statement}
+use Rattle.job_order.proofs.recording.jco_recorder_close.Tie as tie
+
+recorder-of-requires : tie.Need-recorder-of-requires
+recorder-of-requires c κs = search needs
+
+close-on-requires : tie.Need-close-on-requires
+close-on-requires c κs = search needs
+
+put-state-requires : tie.Need-put-state-requires
+put-state-requires c κs = search needs
+
+closing-requires : tie.Need-closing-requires
+closing-requires c κs = search needs
+
+same-length : tie.Need-same-length
+same-length c = search needs
+
+returns : tie.Need-returns
+returns c =
+    let ending = c .before .before .before .before .before .before .before .before .before .before .close-on in
+    closes _ _ _ _ (c .before .before .before .before .before .before .before .before .before .before .before .before .recorder-of .result) (c .before .before .before .before .before .before .before .before .before .before .before .before .recorder-of .ensures) (ending .result) _ _ _ (ending .ensures) (c .before .before .before .put-state .ensures) (c .closing .ensures .0) (c .closing .ensures .1) (c .closing .ensures .2)
+
+pub jco-recorder-close-spec : {M : Type 1} → statement M
+jco-recorder-close-spec =
+    tie.close
+    (tie.spec
+    recorder-of-requires
+    close-on-requires
+    put-state-requires
+    closing-requires
+    same-length
+    returns)

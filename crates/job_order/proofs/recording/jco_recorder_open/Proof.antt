@@ -1,0 +1,22 @@
+-- `job_order::recording::jco_recorder_open` meets its contract.
+-- Assumes nothing.
+use Rattle.job_order.proofs.Leaving.{opens}
+use borrow.Author.Needs.{needs}
+use Rattle.job_order.proofs.recording.jco_recorder_open.Statement.{statement}
+use Rattle.job_order.proofs.recording.jco_recorder_open.Tie as tie
+
+open-on-requires : tie.Need-open-on-requires
+open-on-requires c κs = search needs
+
+put-state-requires : tie.Need-put-state-requires
+put-state-requires c κs = search needs
+
+opening-requires : tie.Need-opening-requires
+opening-requires c κs = search needs
+
+returns : tie.Need-returns
+returns c = opens _ _ (c .before .before .before .before .before .before .open-on .result) _ (c .before .before .before .before .before .before .open-on .ensures) (c .before .put-state .ensures) (c .opening .ensures)
+
+pub jco-recorder-open-spec : {M : Type 1} → statement M
+jco-recorder-open-spec =
+    tie.close (tie.spec open-on-requires put-state-requires opening-requires returns)
