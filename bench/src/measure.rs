@@ -4,7 +4,7 @@ use crate::bed::{Bed, CALLS};
 use crate::calls::Calls;
 use crate::plain::Plain;
 use crate::shapes::SHAPES;
-use std::time::{Duration, Instant};
+use std::time::Duration;
 
 const SIZES: [usize; 3] = [64, 512, 4096];
 
@@ -19,13 +19,30 @@ fn title(call: &str) -> &str {
     }
 }
 
+/// Processor time of this thread so far, so that other work on the machine counts little (Linux).
+fn now() -> Duration {
+    #[repr(C)]
+    struct Timespec {
+        seconds: i64,
+        nanoseconds: i64,
+    }
+    extern "C" {
+        fn clock_gettime(clock: i32, time: &mut Timespec) -> i32;
+    }
+    const THREAD_CPU: i32 = 3;
+    let mut time = Timespec { seconds: 0, nanoseconds: 0 };
+    let failed = unsafe { clock_gettime(THREAD_CPU, &mut time) };
+    assert!(failed == 0, "no clock of processor time");
+    Duration::new(time.seconds as u64, time.nanoseconds as u32)
+}
+
 /// The time of so many calls.
 fn time(bed: &mut Bed, side: &dyn Calls, call: &str, times: u32) -> Duration {
-    let start = Instant::now();
+    let start = now();
     for _ in 0..times {
         std::hint::black_box(bed.call(side, call));
     }
-    start.elapsed()
+    now() - start
 }
 
 /// Microseconds of one call of each side, the least of several rounds taken in turn.
@@ -33,12 +50,12 @@ fn both(bed: &mut Bed, sides: [&dyn Calls; 2], call: &str) -> Option<[f64; 2]> {
     if !bed.applies(call) {
         return None;
     }
-    let enough = Duration::from_micros(100);
+    let enough = Duration::from_micros(200);
     let times = sides.map(|side| 1 + (enough.as_nanos() / time(bed, side, call, 1).as_nanos().max(1)) as u32);
     let mut least = [f64::MAX; 2];
-    let start = Instant::now();
+    let start = now();
     let mut rounds = 0;
-    while rounds < 2 || start.elapsed() < Duration::from_millis(150) && rounds < 50 {
+    while rounds < 7 || now() - start < Duration::from_millis(200) && rounds < 50 {
         for (k, side) in sides.into_iter().enumerate() {
             let each = time(bed, side, call, times[k]).as_secs_f64() * 1e6 / times[k] as f64;
             least[k] = least[k].min(each);

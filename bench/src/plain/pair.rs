@@ -48,13 +48,18 @@ fn search(order: &Order, nodes: &[Race], from: u16, b: Access) -> Search {
             unseen.push(i);
         }
     }
+    let mut done = vec![false; order.chains.spots.len()];
     while let Some(j) = queue.pop_front() {
-        if order.before(from, nodes[j].first.row) {
+        let row = nodes[j].first.row;
+        if std::mem::replace(&mut done[row as usize], true) {
+            continue;
+        }
+        if order.before(from, row) {
             s.hit = Some(j);
             return s;
         }
         unseen.retain(|&i| {
-            let leads = order.before(nodes[i].second.row, nodes[j].first.row);
+            let leads = order.before(nodes[i].second.row, row);
             if leads {
                 s.next[i] = Some(j);
                 queue.push_back(i);
@@ -65,7 +70,7 @@ fn search(order: &Order, nodes: &[Race], from: u16, b: Access) -> Search {
     s
 }
 
-/// Entries (event, last record kept) in trace order.
+/// Entries (event, last record kept) in trace order: the event actions before b's, and before the joined rows from which races lead to it.
 fn kept(trace: &Checked, order: &Order, sources: &[u16], b: Access) -> Vec<(u16, u16)> {
     let mut entries = Vec::new();
     let mut row = 0;
@@ -75,7 +80,7 @@ fn kept(trace: &Checked, order: &Order, sources: &[u16], b: Access) -> Vec<(u16,
             break;
         }
         if r.kind == END {
-            if order.before(row, b.row) || sources.iter().any(|&s| order.before(row, s)) {
+            if order.before(row, b.row) || order.before_joined(row, sources) {
                 entries.push((r.first, record));
             }
             row += 1;
@@ -106,11 +111,11 @@ pub fn ask_pair(bytes: &[u8], width: usize, lent: Lent, a: u16, b: u16) -> Answe
             }
         }
     } else {
-        let led = nodes.iter().zip(&found.next).filter(|(_, next)| next.is_some());
-        let mut sources: Vec<u16> = led.map(|(r, _)| r.first.row).collect();
-        sources.sort_unstable();
-        sources.dedup();
-        entries = kept(&trace, &order, &sources, race.second);
+        let mut starts = vec![false; trace.events];
+        for (r, _) in nodes.iter().zip(&found.next).filter(|(_, next)| next.is_some()) {
+            starts[r.first.row as usize] = true;
+        }
+        entries = kept(&trace, &order, &order.joined(&starts), race.second);
     }
     for (entry, &(x, y)) in lent.list.chunks_exact_mut(2).zip(&entries) {
         entry.copy_from_slice(&[x, y]);
