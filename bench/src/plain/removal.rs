@@ -84,12 +84,12 @@ impl<'a> Graph<'a> {
         (Graph { order, nodes, paths: OnceCell::new() }, stays)
     }
 
-    /// The nodes from which a path leads to one whose second access comes before b; nothing where there is none.
-    fn leading(&self, b: Access) -> Option<Vec<u64>> {
+    /// The nodes from which a path leads to one whose second access comes before b.
+    fn leading(&self, b: Access) -> Vec<u64> {
         let below = self.nodes.partition_point(|s| s.second.record < b.record);
         let nodes = self.nodes[..below].iter().enumerate();
         let ends: Vec<usize> = nodes.filter(|(_, s)| precedes(self.order, s.second, b)).map(|(i, _)| i).collect();
-        let last = ends.last()?;
+        let Some(last) = ends.last() else { return Vec::new() };
         let paths = self.paths.get_or_init(|| Paths::new(self.order, &self.nodes));
         let mut bits = vec![0u64; last / 64 + 1];
         for &i in ends.iter().rev() {
@@ -97,21 +97,18 @@ impl<'a> Graph<'a> {
                 join(&mut bits, paths.into(i));
             }
         }
-        Some(bits)
+        bits
     }
 
-    /// Is there a path of nodes that covers the race?
-    fn covers(&self, r: &Race) -> bool {
-        self.leading(r.second).is_some_and(|bits| {
-            let mut starts = positions(&bits).map(|i| self.nodes[i].first.row);
-            starts.any(|start| self.order.before(r.first.row, start))
-        })
+    /// Is the race covered by a path that starts at one of these nodes?
+    fn covers(&self, leading: &[u64], r: &Race) -> bool {
+        positions(leading).any(|i| self.order.before(r.first.row, self.nodes[i].first.row))
     }
 
     /// The rows from which paths lead to b, joined entry by entry.
     pub fn sources(&self, b: Access) -> Vec<u16> {
         let mut starts = vec![false; self.order.chains.spots.len()];
-        for i in positions(&self.leading(b).unwrap_or_default()) {
+        for i in positions(&self.leading(b)) {
             starts[self.nodes[i].first.row as usize] = true;
         }
         self.order.joined(&starts)
@@ -120,9 +117,13 @@ impl<'a> Graph<'a> {
 
 /// For each candidate, is it open?
 pub fn open_marks(order: &Order, candidates: &[Race]) -> Vec<bool> {
-    let (graph, mut open) = Graph::new(order, candidates);
-    for (r, open) in candidates.iter().zip(&mut open).filter(|(_, open)| **open) {
-        *open = !graph.covers(r);
+    let (graph, stays) = Graph::new(order, candidates);
+    let mut open = Vec::with_capacity(graph.nodes.len());
+    // those with one second access have the same paths before them
+    for group in graph.nodes.chunk_by(|r, s| r.second.record == s.second.record) {
+        let leading = graph.leading(group[0].second);
+        open.extend(group.iter().map(|r| !graph.covers(&leading, r)));
     }
-    open
+    let mut open = open.into_iter();
+    stays.into_iter().map(|stays| stays && open.next().unwrap()).collect()
 }
