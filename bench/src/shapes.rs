@@ -1,0 +1,109 @@
+//! Traces to measure, of any number of records.
+
+use crate::random::Chance;
+use crate::trace::*;
+
+pub const SHAPES: [(&str, &str); 7] = [
+    ("sparse", "forked chains, many cells, few races"),
+    ("dense", "forked chains, four cells, many races"),
+    ("unordered", "all event actions unordered, each writes one cell twice"),
+    ("reads", "one write, reads in unordered event actions, one write"),
+    ("relay", "each event action takes over from the one before by a race: covers as long as the trace"),
+    ("mesh", "each event action reads what all before it wrote: covers of every length"),
+    ("ordered", "one chain of forks, no race"),
+];
+
+/// Builds the records of one event action after another.
+struct Draft {
+    records: Vec<Record>,
+    event: u16,
+    limit: usize,
+}
+
+impl Draft {
+    fn new(limit: usize) -> Self {
+        Draft { records: Vec::with_capacity(limit), event: 0, limit }
+    }
+
+    /// The next event action if it fits, with these steps (kind, second).
+    fn act(&mut self, joins: &[u16], steps: &[(u8, u16)]) -> bool {
+        if self.event as usize == NAMES || self.records.len() + joins.len() + steps.len() + 2 > self.limit {
+            return false;
+        }
+        self.event += 1;
+        let event = self.event;
+        self.records.extend(joins.iter().map(|&j| Record::new(JOIN, event, j)));
+        self.records.push(Record::new(BEGIN, event, 0));
+        self.records.extend(steps.iter().map(|&(kind, second)| Record::new(kind, event, second)));
+        self.records.push(Record::new(END, event, 0));
+        true
+    }
+}
+
+/// The records of a shape, n of them or a few less.
+pub fn records(shape: &str, n: usize) -> Option<Vec<Record>> {
+    let mut d = Draft::new(n);
+    match shape {
+        "sparse" => forked(&mut d, n, Cells::Own),
+        "dense" => forked(&mut d, n, Cells::Few(4)),
+        "unordered" => while d.act(&[], &[(WRITE, 1), (WRITE, 1)]) {},
+        "reads" => {
+            d.act(&[], &[(WRITE, 1)]);
+            d.limit -= 4;
+            while (d.event as usize) < NAMES - 1 && d.act(&[], &[(READ, 1), (READ, 1)]) {}
+            d.limit += 4;
+            d.act(&[], &[(WRITE, 1)]);
+        }
+        "relay" => {
+            // cell 1 is what is handed over with; cells from 2 on are the flags, used in turn
+            let flag = |event: u16| 2 + event % 1000;
+            d.act(&[], &[(WRITE, 1), (WRITE, flag(1))]);
+            while d.act(&[], &[(READ, flag(d.event)), (READ, 1), (WRITE, flag(d.event + 1))]) {}
+        }
+        "mesh" => loop {
+            let mut steps: Vec<(u8, u16)> = (1..=d.event).rev().map(|before| (READ, before)).collect();
+            steps.push((WRITE, d.event + 1));
+            if !d.act(&[], &steps) {
+                break;
+            }
+        },
+        "ordered" => while d.act(&[], &[(WRITE, 1), (READ, 2), (WRITE, 3), (FORK, d.event + 2)]) {},
+        _ => return None,
+    }
+    Some(d.records)
+}
+
+enum Cells {
+    /// each chain has its own cells, and a few are shared
+    Own,
+    Few(usize),
+}
+
+/// Event actions of 16 records in eight chains of forks, now and then with a join across.
+fn forked(d: &mut Draft, n: usize, cells: Cells) {
+    const LINES: usize = 8;
+    let mut chance = Chance::new(n as u64);
+    loop {
+        let event = d.event as usize + 1;
+        let line = event % LINES;
+        let mut joins = Vec::new();
+        if event > LINES + 1 && event % 5 == 0 {
+            joins.push((event - 1 - chance.below(LINES)) as u16);
+        }
+        let mut steps = Vec::new();
+        for _ in 0..12 {
+            let cell = match cells {
+                Cells::Own if chance.percent(2) => 1 + chance.below(8),
+                Cells::Own => 9 + line * 120 + chance.below(120),
+                Cells::Few(k) => 1 + chance.below(k),
+            };
+            steps.push((if chance.percent(60) { READ } else { WRITE }, cell as u16));
+        }
+        if event + LINES <= NAMES {
+            steps.push((FORK, (event + LINES) as u16));
+        }
+        if !d.act(&joins, &steps) {
+            break;
+        }
+    }
+}
