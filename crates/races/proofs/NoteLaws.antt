@@ -1,8 +1,8 @@
 -- Seconds of records, marked one record after the other; where an event action starts. Assumes nothing.
 use Prim.Native.Nat.{ℕ, zero, suc, _+_, _-_, _≤_, _<_}
 use mathlib.Core.Path.{_≡_, refl, sym, ap, _∙_, subst}
-use mathlib.Core.Logic.{_≢_, _⊎_, inl, inr}
-use mathlib.Core.Bool.{Bool, true, false}
+use mathlib.Core.Logic.{_≢_, _⊎_, inl, inr, _↔_}
+use mathlib.Core.Bool.{Bool, true, false, _||_}
 use mathlib.Core.List.{List}
 use native.Mathlib.Omega.{arith}
 use native.Mathlib.Numerals.{add-one}
@@ -14,8 +14,8 @@ use Rattle.trace.specs.Reading.{Acceptable}
 use Rattle.trace.specs.Marks.{isMarked, withMark}
 use Rattle.trace.proofs.Blocks.{contiguous}
 use Rattle.trace.proofs.Marked.{marked-same, marked-other, marked-size}
-use Rattle.coverage.proofs.Tests.{decide-eq}
-use Rattle.races.specs.LeadingPass.{markIf, leadsOn, Starts, Second, Notes, Led}
+use Rattle.coverage.proofs.Tests.{decide-eq, either, or-left, or-right}
+use Rattle.races.specs.LeadingPass.{markIf, leadsOn, Starts, Second, Notes, OneLeads, Led}
 
 module _ (tr : List Record) (test : Record → Bool) where
   pub second-more : (c lo i : ℕ) → Second tr test c lo i → Second tr test c lo (suc i)
@@ -92,26 +92,42 @@ module _ (tr : List Record) (test : Record → Bool) where
   pub notes-next : (lo i : ℕ) → lo ≤ i → (m m′ m″ : List ℕ) → Notes tr test lo i m m′ → (r : Record) → r ≡ at tr i → (x : Bool) → x ≡ test r → m″ ≡ markIf x m′ (r .second) → Notes tr test lo (i + 1) m m″
   notes-next lo i l m m′ m″ n r e x q p = rw (p, q, e, add-one) (notes-more lo i l m m′ n)
 
--- No record before i leads on, looked for upwards.
-module _ (tr : List Record) (ranks work accessed written named : List ℕ) (lo : ℕ) where
-  abbrev LedTo : ℕ → Type 0
-  LedTo i = Led tr ranks work accessed written named lo i
+-- Does one of the records from lo on lead on, looked for downwards?
+module _ (tr : List Record) (ranks work accessed written : List ℕ) where
+  abbrev on : ℕ → Bool
+  on i = leadsOn ranks work accessed written (at tr i)
 
-  pub led-none : isMarked named (eventOf (at tr lo)) ≡ false → LedTo lo → ⊥
-  led-none e (inl h) = subst T e h
-  led-none e (inr (j, l, k, h)) = omega arith
+  abbrev Says : Bool → ℕ → ℕ → Type 0
+  Says x lo hi = T x ↔ OneLeads tr ranks work accessed written lo hi
 
-  pub led-next : (i : ℕ) → leadsOn ranks work accessed written (at tr i) ≡ false → (LedTo i → ⊥) → LedTo (i + 1) → ⊥
-  led-next i e n (inl h) = n (inl h)
-  led-next i e n (inr (j, l, k, h)) = go (decide-eq j i)
+  pub says-last : (hi : ℕ) → 0 < hi → (x : Bool) → x ≡ on (hi - 1) → Says x (hi - 1) hi
+  says-last hi h x e = (λ t. (hi - 1, omega arith, omega arith, subst T e t), λ (i, l, k, t). let q : i ≡ hi - 1 = omega arith in subst T (sym e) (rw q at t))
+
+  pub says-more : (lo hi : ℕ) → 0 < lo → lo ≤ hi → (x : Bool) → Says x lo hi → (y : Bool) → y ≡ (x || on (lo - 1)) → Says y (lo - 1) hi
+  says-more lo hi h m x s y e = (λ t. there (either x (on (lo - 1)) (subst T e t)), λ w. subst T (sym e) (back w))
     where
-      go : (j ≡ i) ⊎ (j ≢ i) → ⊥
-      go (inl q) = subst T e (rw q at h)
-      go (inr d) = n (inr (j, l, omega arith, h))
+      there : T x ⊎ T (on (lo - 1)) → OneLeads tr ranks work accessed written (lo - 1) hi
+      there (inl t) = let (i, l, k, u) = s .0 t in (i, omega arith, k, u)
+      there (inr t) = (lo - 1, omega arith, omega arith, t)
 
-  pub led-all : (hi i : ℕ) → hi ≤ i → (LedTo i → ⊥) → LedTo hi → ⊥
-  led-all hi i m n (inl h) = n (inl h)
-  led-all hi i m n (inr (j, l, k, h)) = n (inr (j, l, omega arith, h))
+      back : OneLeads tr ranks work accessed written (lo - 1) hi → T (x || on (lo - 1))
+      back (i, l, k, u) = go (decide-eq i (lo - 1))
+        where
+          go : (i ≡ lo - 1) ⊎ (i ≢ lo - 1) → T (x || on (lo - 1))
+          go (inl q) = or-right x (on (lo - 1)) (rw q at u)
+          go (inr n) = or-left x (on (lo - 1)) (s .1 (i, omega arith, k, u))
+
+  -- and is its event action waited for?
+  pub says-led : (named : List ℕ) (lo hi : ℕ) (x : Bool) → Says x lo hi → (y : Bool) → y ≡ (x || isMarked named (eventOf (at tr lo))) → T y ↔ Led tr ranks work accessed written named lo hi
+  says-led named lo hi x s y e = (λ t. there (either x (isMarked named (eventOf (at tr lo))) (subst T e t)), λ w. subst T (sym e) (back w))
+    where
+      there : T x ⊎ T (isMarked named (eventOf (at tr lo))) → Led tr ranks work accessed written named lo hi
+      there (inl t) = inr (s .0 t)
+      there (inr t) = inl t
+
+      back : Led tr ranks work accessed written named lo hi → T (x || isMarked named (eventOf (at tr lo)))
+      back (inl t) = or-right x (isMarked named (eventOf (at tr lo))) t
+      back (inr w) = or-left x (isMarked named (eventOf (at tr lo))) (s .1 w)
 
 -- Where an event action starts, looked for downwards: records lo to i are of one event action.
 module _ (tr : List Record) (i : ℕ) where

@@ -50,9 +50,13 @@ module _ (tr : List Record) where
     pub size : length m′ ≡ length m
     pub tells : (c : ℕ) → c < length m → T (isMarked m′ c) ↔ (T (isMarked m c) ⊎ Second test c lo hi)
 
-  -- the event action of the records from lo on, before hi, is waited for, or one of them leads on
+  -- one of the records from lo on, before hi, leads on
+  abbrev pub OneLeads : List ℕ → List ℕ → List ℕ → List ℕ → ℕ → ℕ → Type 0
+  OneLeads ranks work accessed written lo hi = (i : ℕ) × (lo ≤ i) × (i < hi) × T (leadsOn ranks work accessed written (at tr i))
+
+  -- their event action is waited for, or one of them leads on
   abbrev pub Led : List ℕ → List ℕ → List ℕ → List ℕ → List ℕ → ℕ → ℕ → Type 0
-  Led ranks work accessed written named lo hi = T (isMarked named (eventOf (at tr lo))) ⊎ ((i : ℕ) × (lo ≤ i) × (i < hi) × T (leadsOn ranks work accessed written (at tr i)))
+  Led ranks work accessed written named lo hi = T (isMarked named (eventOf (at tr lo))) ⊎ OneLeads ranks work accessed written lo hi
 
 -- When the event actions from record hi on are passed:
 module _ (tr : List Record) (b : ℕ) where

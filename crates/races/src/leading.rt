@@ -6,16 +6,18 @@ use trace::access;
 use trace::marks;
 ghost use mathlib.Core.Path.{_≡_};
 ghost use mathlib.Core.Logic.{_↔_};
+ghost use mathlib.Core.Bool.{_||_};
 ghost use Prim.Native.Nat.{_-_, _≤_, _<_};
 ghost use lib.Dec.{T};
 ghost use lib.ListN.{getD};
 ghost use Rattle.trace.specs.Bytes.{decode};
 ghost use Rattle.trace.specs.Records.{at, isJoin, isWrite, eventOf};
+ghost use Rattle.trace.specs.Marks.{isMarked};
 ghost use Rattle.trace.specs.Reading.{Acceptable};
 ghost use Rattle.order.specs.Ranks.{ranksOf};
 ghost use Rattle.races.specs.Traces.{isAccess};
 ghost use Rattle.races.specs.Leading.{Ready};
-ghost use Rattle.races.specs.LeadingPass.{markIf, markedEvent, leadsOn, Starts, Notes, Led, LeadingFrom, PassesOn};
+ghost use Rattle.races.specs.LeadingPass.{markIf, markedEvent, leadsOn, Starts, Notes, OneLeads, LeadingFrom, PassesOn};
 
 pub(crate) fn is_access(r: Record) -> bool
     ensures { λ x. ⌜ x ≡ isAccess r ⌝ }
@@ -116,33 +118,66 @@ fn leads_on(ranks: &[u16], work: &[u8], accessed: &[u8], written: &[u8], r: Reco
     false
 }
 
-// Is the event action of the records from lo on, before hi, waited for, or does one of them lead on?
-fn is_led(
+// Does the record lead on, or did another one before?
+fn leads_or(
+    led: bool,
+    ranks: &[u16],
+    work: &[u8],
+    accessed: &[u8],
+    written: &[u8],
+    r: Record,
+) -> bool
+    ensures { λ x. ⌜ x ≡ (led || leadsOn (now (ranks .entry)) (now (work .entry)) (now (accessed .entry)) (now (written .entry)) r) ⌝ }
+{
+    if led {
+        return true;
+    }
+    leads_on(ranks, work, accessed, written, r)
+}
+
+// Where an event action starts, and whether one of its records leads on.
+struct Block {
+    lo: usize,
+    led: bool,
+}
+
+// The event action whose last record stands before hi.
+fn block_before(
     recs: &[u8],
     ranks: &[u16],
     work: &[u8],
     accessed: &[u8],
     written: &[u8],
-    named: &[u8],
-    lo: usize,
     hi: usize,
-) -> bool
-    ensures { λ r. ⌜ T r ↔ Led (decode (now (recs .entry))) (now (ranks .entry)) (now (work .entry)) (now (accessed .entry)) (now (written .entry)) (now (named .entry)) lo hi ⌝ }
+) -> Block
+    requires { ⌜ 0 < hi ⌝ }
+    ensures { λ r. ⌜ Starts (decode (now (recs .entry))) (r .lo) (hi - 1) × (T (r .led) ↔ OneLeads (decode (now (recs .entry))) (now (ranks .entry)) (now (work .entry)) (now (accessed .entry)) (now (written .entry)) (r .lo) hi) ⌝ }
 {
-    if marks::is_marked(named, access::first_at(recs, lo)) {
-        return true;
-    }
-    let mut i = lo;
-    while i < hi {
-        if leads_on(ranks, work, accessed, written, access::record_at(recs, i)) {
-            return true;
+    let last = access::record_at(recs, hi - 1);
+    let mut led = leads_on(ranks, work, accessed, written, last);
+    let mut lo = hi - 1;
+    while 0 < lo {
+        let r = access::record_at(recs, lo - 1);
+        if r.first != last.first {
+            return Block { lo: lo, led: led };
         }
-        i += 1;
+        led = leads_or(led, ranks, work, accessed, written, r);
+        lo -= 1;
     }
-    false
+    Block { lo: lo, led: led }
 }
 
-// Passes the event action of the records from lo on, before hi: it is marked and noted if it leads on to what is marked or noted.
+// Is an event action waited for, or does one of its records lead on?
+fn is_led(named: &[u8], e: u16, led: bool) -> bool
+    ensures { λ r. ⌜ r ≡ (led || isMarked (now (named .entry)) e) ⌝ }
+{
+    if led {
+        return true;
+    }
+    marks::is_marked(named, e)
+}
+
+// Passes the event action whose last record stands before hi: it is marked and noted if it leads on to what is marked or noted. Gives its first record.
 fn pass(
     recs: &[u8],
     ranks: &[u16],
@@ -150,18 +185,20 @@ fn pass(
     accessed: &mut [u8],
     written: &mut [u8],
     named: &mut [u8],
-    lo: usize,
     hi: usize,
-)
-    requires { ⌜ Acceptable (decode (now recs)) × (now ranks ≡ ranksOf (decode (now recs))) ⌝ }
-    requires { ⌜ (lo < hi) × Starts (decode (now recs)) lo (hi - 1) ⌝ }
-    ensures { λ u. ⌜ PassesOn (decode (now (recs .entry))) hi lo (now (work .entry)) (now (accessed .entry)) (now (written .entry)) (now (named .entry)) (now (work .exit)) (now (accessed .exit)) (now (written .exit)) (now (named .exit)) ⌝ }
+) -> usize
+    requires { ⌜ Acceptable (decode (now recs)) × (now ranks ≡ ranksOf (decode (now recs))) × (0 < hi) ⌝ }
+    ensures { λ r. ⌜ (r < hi) × PassesOn (decode (now (recs .entry))) hi r (now (work .entry)) (now (accessed .entry)) (now (written .entry)) (now (named .entry)) (now (work .exit)) (now (accessed .exit)) (now (written .exit)) (now (named .exit)) ⌝ }
 {
-    if !is_led(recs, ranks, work, accessed, written, named, lo, hi) {
-        return;
+    let block = block_before(recs, ranks, work, accessed, written, hi);
+    let lo = block.lo;
+    let e = access::first_at(recs, lo);
+    if !is_led(named, e, block.led) {
+        return lo;
     }
-    workspace::set_mark(work, row_of(ranks, access::first_at(recs, lo)));
+    workspace::set_mark(work, row_of(ranks, e));
     keep(recs, lo, hi, accessed, written, named);
+    lo
 }
 
 // Marks the event actions with a record from low on that lead to record b, an access, in a work space that is 0 over their rows.
@@ -176,17 +213,14 @@ pub(crate) fn mark_leading(recs: &[u8], ranks: &[u16], low: usize, b: usize, wor
     workspace::set_mark(work, row_of(ranks, access::first_at(recs, b)));
     keep(recs, hi, b, &mut accessed, &mut written, &mut named);
     while low < hi {
-        let lo = block_start(recs, hi - 1);
-        pass(
+        hi = pass(
             recs,
             ranks,
             work,
             &mut accessed,
             &mut written,
             &mut named,
-            lo,
             hi,
         );
-        hi = lo;
     }
 }

@@ -1,5 +1,3 @@
--- `races::leading::mark_leading` meets its contract.
--- Assumes nothing.
 use Rattle.races.proofs.PassLaws.{none-long, first-long, starts-pass, ends-pass}
 use lib.ListN.{length}
 use Rattle.races.specs.LeadingPass.{Passed}
@@ -54,40 +52,27 @@ loop-holds c =
     let k = c .before .before .before .keep .ensures in
     starts-pass (c .before .before .before .before .before .before .before .before .before .before .before .before .before .before .before .before .before .before .before .before .pre) (c .before .before .before .before .before .before .before .before .before .set-mark .ensures ∙ simp (c .before .before .before .before .before .before .before .before .before .before .row-of .ensures, c .before .before .before .before .before .before .before .before .before .before .before .first-at .ensures)) (c .before .before .before .before .before .before .before .before .before .before .before .before .before .block-start .result) (c .before .before .before .before .before .before .before .before .before .before .before .before .before .block-start .ensures) _ _ _ (rw (c .before .before .before .before .before .before .before .before .before .before .before .before .before .before .before .before .none .ensures) at (k .0)) (rw (c .before .before .before .before .before .before .before .before .before .before .before .before .before .before .before .none2 .ensures) at (k .1)) (rw (c .before .before .before .before .before .before .before .before .before .before .before .before .before .before .none3 .ensures) at (k .2))
 
-sub-block-start : tie.Need-sub-block-start Inv-loop μ-loop
-sub-block-start c = search needs
-
-block-start-requires-2 : tie.Need-block-start-requires-2 Inv-loop μ-loop
-block-start-requires-2 c κs = search needs
-
 slice-aggregate-pass : tie.Need-slice-aggregate-pass Inv-loop μ-loop
-slice-aggregate-pass c = sym (c .before .before .before .before .loop .inv .accesses .size)
+slice-aggregate-pass c = sym (c .before .before .before .loop .inv .accesses .size)
 
 slice-aggregate-pass-2 : tie.Need-slice-aggregate-pass-2 Inv-loop μ-loop
-slice-aggregate-pass-2 c = sym (c .before .before .before .before .before .loop .inv .writes .size)
+slice-aggregate-pass-2 c = sym (c .before .before .before .before .loop .inv .writes .size)
 
 slice-aggregate-pass-3 : tie.Need-slice-aggregate-pass-3 Inv-loop μ-loop
-slice-aggregate-pass-3 c = sym (c .before .before .before .before .before .before .loop .inv .waits .size)
+slice-aggregate-pass-3 c = sym (c .before .before .before .before .before .loop .inv .waits .size)
 
 pass-requires : tie.Need-pass-requires Inv-loop μ-loop
-pass-requires c κs =
-    let p = c .before .before .before .before .before .before .before .before .before .before .before .before .before .before .before .before .before .before .before .before .before .before .before .before .before .before .before .pre in
-    let l = c .before .before .before .before .block-start2 .ensures .low in
-    let t = c .before .before .before .before .before .loop-test .taken in
-    ((p .acceptable, p .ranked), (omega arith, c .before .before .before .before .block-start2 .ensures))
+pass-requires c κs = let p = c .before .before .before .before .before .before .before .before .before .before .before .before .before .before .before .before .before .before .before .before .before .before .before .before .before .before .pre in (p .acceptable, p .ranked, omega (arith, c .before .before .before .before .loop-test .taken))
 
 loop-less : tie.Need-loop-less Inv-loop μ-loop
-loop-less c =
-    let l = c .before .before .before .before .before .before .before .before .before .before .block-start2 .ensures .low in
-    let t = c .before .before .before .before .before .before .before .before .before .before .before .loop-test .taken in
-    omega arith
+loop-less c = c .before .before .before .before .before .pass .ensures .0
 
 loop-again : tie.Need-loop-again Inv-loop μ-loop
 loop-again c =
-    let p = c .before .before .before .before .before .before .before .before .before .before .before .before .before .before .before .before .before .before .before .before .before .before .before .before .before .before .before .before .before .before .before .before .before .pre in
-    let n = first-long p (c .before .before .before .before .before .before .before .before .before .before .before .before .before .before .before .before .before .before .before .before .before .before .set-mark .ensures ∙ simp (c .before .before .before .before .before .before .before .before .before .before .before .before .before .before .before .before .before .before .before .before .before .before .before .row-of .ensures, c .before .before .before .before .before .before .before .before .before .before .before .before .before .before .before .before .before .before .before .before .before .before .before .before .first-at .ensures)) in
+    let p = c .before .before .before .before .before .before .before .before .before .before .before .before .before .before .before .before .before .before .before .before .before .before .before .before .before .before .before .before .before .before .before .before .pre in
+    let n = first-long p (c .before .before .before .before .before .before .before .before .before .before .before .before .before .before .before .before .before .before .before .before .before .set-mark .ensures ∙ simp (c .before .before .before .before .before .before .before .before .before .before .before .before .before .before .before .before .before .before .before .before .before .before .row-of .ensures, c .before .before .before .before .before .before .before .before .before .before .before .before .before .before .before .before .before .before .before .before .before .before .before .first-at .ensures)) in
     let r = p .room in
-    c .before .before .before .before .before .pass .ensures (c .before .before .before .before .before .before .before .before .before .before .before .before .before .before .before .before .before .before .before .before .before .before .before .before .before .before .before .before .before .before .before .before .before .args .b) _ (p .access) (omega arith) (c .before .before .before .before .before .before .before .before .before .before .before .before .loop .inv)
+    c .before .before .before .before .before .pass .ensures .1 (c .before .before .before .before .before .before .before .before .before .before .before .before .before .before .before .before .before .before .before .before .before .before .before .before .before .before .before .before .before .before .before .before .args .b) _ (p .access) (omega arith) (c .before .before .before .before .before .before .before .before .before .before .before .loop .inv)
 
 same-length : tie.Need-same-length Inv-loop μ-loop
 same-length c = c .before .loop .inv .marks .size ∙ first-long (c .before .before .before .before .before .before .before .before .before .before .before .before .before .before .before .before .before .before .before .before .before .before .pre) (c .before .before .before .before .before .before .before .before .before .before .before .set-mark .ensures ∙ simp (c .before .before .before .before .before .before .before .before .before .before .before .before .row-of .ensures, c .before .before .before .before .before .before .before .before .before .before .before .before .before .first-at .ensures))
@@ -113,8 +98,6 @@ mark-leading-spec =
     slice-aggregate-keep-3
     keep-requires
     loop-holds
-    sub-block-start
-    block-start-requires-2
     slice-aggregate-pass
     slice-aggregate-pass-2
     slice-aggregate-pass-3
