@@ -340,10 +340,8 @@ fn one_short(name: &[u8], bytes: &[u8], short: bool) {
     case(name, bytes, short, 2, &mut numbers);
 }
 
-fn main() {
+fn on_t() {
     let t = T;
-    let u = U;
-    let v = V;
     roomy(b"T short", &t, true, 2);
     roomy(b"T all", &t, false, 2);
     enough(b"T short", &t, true);
@@ -351,10 +349,24 @@ fn main() {
     one_short(b"T all", &t, false);
     roomy(b"T short", &t, true, 1);
     roomy(b"T short", &t, true, 0);
+}
+
+fn on_u() {
+    let u = U;
     roomy(b"U short", &u, true, 2);
     roomy(b"U all", &u, false, 2);
     enough(b"U all", &u, false);
+}
+
+fn on_v() {
+    let v = V;
     roomy(b"V short", &v, true, 2);
     roomy(b"V all", &v, false, 2);
+}
+
+fn main() {
+    on_t();
+    on_u();
+    on_v();
     roomy(b"none all", &[], false, 2);
 }
