@@ -2,11 +2,11 @@
 -- Assumes nothing.
 use Prim.Native.Nat.{ℕ, zero, suc, _+_, _*_, _/_, _≤_, _<_}
 use mathlib.Core.Path.{_≡_, refl, sym, ap, _∙_, subst}
-use mathlib.Core.Bool.{Bool, true, false}
+use mathlib.Core.Bool.{Bool, true, false, _&&_}
 use mathlib.Core.List.{List, [], _∷_, _++_, map, append-assoc}
 use native.Mathlib.Omega.{arith}
 use native.Mathlib.Nat.{le-of-suc-le-suc, not-suc-le-zero, min-le-left, min-le-right}
-use borrow.Author.Tests.{leb-true}
+use borrow.Author.Tests.{leb-true, leb-false, le-leb, lt-leb}
 use lib.Dec.{leb}
 use lib.ListN.{length, getD, set, take, drop, length-map, take-append-drop}
 use lib.Seq.{length-take-le, take-length, take-suc, drop-cons, append-snoc, set-at}
@@ -15,7 +15,7 @@ use Rattle.trace.specs.Reading as reading
 use Rattle.trace.specs.Reading.{Reply, recordsIn, readReply}
 use Rattle.races.specs.declared.Listing.{Listing}
 use Rattle.races.specs.declared.Listing.the-variants.{Listed, Refused}
-use Rattle.races.specs.Lists.{pairsOf, entry, numbers, ListReply, refused, listed, demand, listFilled, listTrace, listRead, listReply, listAfter, listAfterRead}
+use Rattle.races.specs.Lists.{pairsOf, entry, numbers, ListReply, refused, listed, demand, listFor, listFilled, listTrace, listRead, listReply, listAfter, listAfterRead}
 use Rattle.races.specs.Paper.{listPaper, Lists}
 use Rattle.pair_lists.specs.declared.Pair.{Pair}
 use Rattle.pair_lists.specs.declared.Made.{Made}
@@ -125,6 +125,10 @@ front-reply tr ps k (listed e s c m) l f =
 
 -- ---- by the reading
 module _ (short : Bool) (b : List ℕ) (width clocks work : ℕ) where
+  counted-read : (list : ℕ) (l : Listing) → listPaper l ≡ listReply short b width clocks work list → countIn l ≡ countOf (listRead short b (readReply b) width clocks work list)
+  unfolding listReply
+  counted-read list l e = counted-is l ∙ ap countOf e
+
   count-room : (r : Reply) (list room : ℕ) → list ≤ 5 * room → countOf (listRead short b r width clocks work list) ≤ room
   unfolding listRead countOf
   count-room (reading.refused n p) list room h = omega arith
@@ -166,8 +170,7 @@ module _ {short : Bool} {b : List ℕ} {width : ℕ} {clocks clocks′ work work
 
   module _ {l l′ : List ℕ} {room : ℕ} {m : Made} (w : Within short b width clocks clocks′ work work′ l l′ room m) where
     count-is : m .count ≡ countOf (listRead short b (readReply b) width (length clocks) (length work) (space (length l) room))
-    unfolding listReply
-    count-is = w .counted ∙ counted-is (m .answer) ∙ ap countOf (w .answer)
+    count-is = w .counted ∙ counted-read short b width (length clocks) (length work) (space (length l) room) (m .answer) (w .answer)
 
     pub fits : (m .count ≤ room) × (5 * m .count ≤ length l)
     fits =
@@ -185,3 +188,19 @@ module _ {short : Bool} {b : List ℕ} {width : ℕ} {clocks clocks′ work work
     numbers-after = w .numbers-after;
     pairs-after = e ∙ rw (w .numbers-after, count-is w) (pairs-read short b width (length clocks) (length work) (readReply b) (space (length l) (length pairs)) l pairs (min-le-right (length l) (5 * length pairs)));
   }
+
+  -- the pairs and the numbers say the same: each of the first pairs is what five numbers say
+  pub both-say : {l l′ : List ℕ} {pairs pairs′ : List Pair} {r : Listing} → PairLists short b width clocks clocks′ work work′ l l′ pairs pairs′ r → pairs′ ≡ puts pairs l′ (countIn r)
+  both-say {l} {l′} {pairs} {pairs′} {r} w =
+      let c : countIn r ≡ countOf (listRead short b (readReply b) width (length clocks) (length work) (space (length l) (length pairs))) = counted-read short b width (length clocks) (length work) (space (length l) (length pairs)) r (w .answer) in
+      w .pairs-after ∙ sym (rw (w .numbers-after, c) (pairs-read short b width (length clocks) (length work) (readReply b) (space (length l) (length pairs)) l pairs (min-le-right (length l) (5 * length pairs))))
+
+-- 24: the list has more entries than the numbers hold, or more than there are pairs
+pub either-space : (count numbers pairs : ℕ) → listFor count (space numbers pairs) ≡ (leb count (numbers / 5) && leb count pairs)
+either-space count numbers pairs = go (leb count (numbers / 5)) refl (leb count pairs) refl
+  where
+    go : (s : Bool) → leb count (numbers / 5) ≡ s → (t : Bool) → leb count pairs ≡ t → leb count (space numbers pairs / 5) ≡ (s && t)
+    go true e true f = le-leb count (space numbers pairs / 5) (omega (arith, leb-true count (numbers / 5) e, leb-true count pairs f))
+    go true e false f = lt-leb count (space numbers pairs / 5) (omega (arith, leb-false count pairs f))
+    go false e true f = lt-leb count (space numbers pairs / 5) (omega (arith, leb-false count (numbers / 5) e))
+    go false e false f = lt-leb count (space numbers pairs / 5) (omega (arith, leb-false count (numbers / 5) e))
