@@ -1,0 +1,58 @@
+-- Both lists as pair structs: their entries, and the promise. Assumes nothing.
+use Prim.Native.Nat.{ℕ, _+_, _*_, min}
+use mathlib.Core.Path.{_≡_}
+use mathlib.Core.Bool.{Bool}
+use mathlib.Core.List.{List, _++_, map}
+use lib.ListN.{length, drop, replicate}
+use Rattle.trace.specs.declared.Record.{Record}
+use Rattle.trace.specs.declared.Operation.{Operation}
+use Rattle.trace.specs.declared.Var.{Var}
+use Rattle.trace.specs.Records.{at}
+use Rattle.trace.specs.Reading as reading
+use Rattle.trace.specs.Reading.{Reply, recordsIn, readReply}
+use Rattle.races.specs.declared.Listing.{Listing}
+use Rattle.races.specs.Lists.{pairsOf, shapeOf, markOf, ListReply, refused, listed, listTrace, listReply, listAfter, clocksRead, workRead}
+use Rattle.races.specs.Paper.{listPaper}
+use Rattle.pair_lists.specs.declared.Pair.{Pair}
+
+abbrev pub operation : ℕ → Operation
+operation n = record { 0 = n }
+
+abbrev pub var : ℕ → Var
+var n = record { 0 = n }
+
+-- "An entry of either has first, second, cell, shape and mark."; records are numbered from 1
+unfoldable pub pairOf : List Record → ℕ × ℕ → Pair
+pairOf tr (a, b) = record { first = operation (a + 1); second = operation (b + 1); cell = var (at tr b .second); shape = shapeOf tr a b; mark = markOf tr a b }
+
+-- "24: list space too short: fewer entries than the list has": of the two spaces the one with fewer entries counts, as a number of numbers
+abbrev pub space : ℕ → ℕ → ℕ
+space numbers pairs = min numbers (5 * pairs)
+
+-- "list entries past the count and all other bytes are unchanged"
+unfoldable pub pairsAfter : List Record → ListReply → List (ℕ × ℕ) → List Pair → List Pair
+pairsAfter tr (refused n p) ps pairs = pairs
+pairsAfter tr (listed e r c k) ps pairs = map (pairOf tr) ps ++ drop (length ps) pairs
+
+unfoldable pub pairsAfterRead : Bool → List ℕ → Reply → ℕ → ℕ → ℕ → ℕ → List Pair → List Pair
+pairsAfterRead short b (reading.refused n p) width clocks work list pairs = pairs
+pairsAfterRead short b (reading.accepted start n m) width clocks work list pairs =
+    pairsAfter (recordsIn b start n) (listTrace short (recordsIn b start n) m width clocks work list) (pairsOf (recordsIn b start n) short) pairs
+
+-- the numbers, by the same reply: the entries as numbers
+unfoldable pub numbersAfterRead : Bool → List ℕ → Reply → ℕ → ℕ → ℕ → ℕ → List ℕ → List ℕ
+numbersAfterRead short b (reading.refused n p) width clocks work list numbers = numbers
+numbersAfterRead short b (reading.accepted start n m) width clocks work list numbers =
+    listAfter (recordsIn b start n) (listTrace short (recordsIn b start n) m width clocks work list) (pairsOf (recordsIn b start n) short) numbers
+
+-- a list, short or of all races: the answer, the lent clocks, work space and numbers, and the lent pairs
+pub record PairLists (short : Bool) (b : List ℕ) (width : ℕ) (clocks clocks′ work work′ numbers numbers′ : List ℕ) (pairs pairs′ : List Pair) (r : Listing) : Type 0 where
+  pub answer : listPaper r ≡ listReply short b width (length clocks) (length work) (space (length numbers) (length pairs))
+  pub clocks-after : clocks′ ≡ clocksRead b (readReply b) width (length work) clocks
+  pub work-after : work′ ≡ workRead b (readReply b) width (length clocks) work
+  pub numbers-after : numbers′ ≡ numbersAfterRead short b (readReply b) width (length clocks) (length work) (space (length numbers) (length pairs)) numbers
+  pub pairs-after : pairs′ ≡ pairsAfterRead short b (readReply b) width (length clocks) (length work) (space (length numbers) (length pairs)) pairs
+
+-- four pairs of zeros
+abbrev pub noPairs : List Pair
+noPairs = replicate 4 (record { first = operation 0; second = operation 0; cell = var 0; shape = 0; mark = 0 })
