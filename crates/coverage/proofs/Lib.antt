@@ -10,6 +10,7 @@ pub mod Kept
 pub mod Short
 pub mod Pairs
 pub mod Bound
+pub mod Total
 pub mod Spelled
 pub mod Theorems
 pub mod Variants

@@ -10,6 +10,7 @@ pub mod CandidateLaws
 pub mod ListLaws
 pub mod EntryStores
 pub mod ListEnds
+pub mod Spaces
 pub mod PairEntries
 pub mod CoverLaws
 pub mod PairLaws
