@@ -1,13 +1,15 @@
 // Every record checked in turn, and then the end of the trace.
-use crate::Checked;
 use crate::EventId;
 use crate::Operation;
 use crate::Reading;
+use crate::Record;
 use crate::Refusal;
 use crate::Trace;
+use crate::access::count;
 use crate::access::count_begins;
 use crate::access::record_at;
 use crate::marks;
+use crate::place;
 use crate::rule;
 ghost use mathlib.Core.Path.{_≡_};
 ghost use mathlib.Core.List.{[]};
@@ -15,8 +17,10 @@ ghost use Prim.Native.Nat.{_≤_};
 ghost use lib.ListN.{length};
 ghost use Rattle.trace.specs.Bytes.{decode};
 ghost use Rattle.trace.specs.Records.{past};
-ghost use Rattle.trace.specs.Rule.{situation};
+ghost use Rattle.trace.specs.Rule.{situation, judge};
 ghost use Rattle.trace.specs.Reading.{closing, walk};
+ghost use Rattle.trace.specs.Place.{place};
+ghost use Rattle.trace.specs.Marks.{isMarked};
 ghost use Rattle.trace.specs.Paper.{paper};
 
 // The trace ends after its last record, in that situation.
@@ -46,12 +50,30 @@ fn finish(recs: &[u8], t: Trace, now_in: u8) -> Reading
     })
 }
 
+// The number of the refusal of record r, or 0, where next is the table's entry for it and what has begun and ended before is marked.
+fn fault(next: u8, now_in: u8, owner: u16, r: Record, begun: &[u8; 1025], ended: &[u8; 1025]) -> u16
+    requires { ⌜ next ≡ place «now_in» (r .kind) ⌝ }
+    ensures { λ n. ⌜ n ≡ judge «now_in» owner r (isMarked (now (begun .entry)) (r .first)) (isMarked (now (begun .entry)) (r .second)) (isMarked (now (ended .entry)) (r .second)) ⌝ }
+{
+    let misplaced = rule::place_fault(next, now_in, EventId(owner), r);
+    if misplaced != 0 {
+        return misplaced;
+    }
+    rule::order_fault(
+        r,
+        marks::is_marked(begun, r.first),
+        marks::is_marked(begun, r.second),
+        marks::is_marked(ended, r.second),
+    )
+}
+
 // t is what the trailer says of the records.
 pub(crate) fn scan(recs: &[u8], t: Trace) -> Reading
     requires { ⌜ (t .records ≡ length (decode (now recs))) × (t .records ≤ 4096) ⌝ }
     ensures { λ r. ⌜ paper r ≡ walk (t .start) (t .events) [] (decode (now (recs .entry))) ⌝ }
 {
-    let records = t.records;
+    let records = count(recs);
+    let places = place::table();
     let mut begun = marks::none();
     let mut ended = marks::none();
     let mut now_in: u8 = 0;
@@ -59,27 +81,18 @@ pub(crate) fn scan(recs: &[u8], t: Trace) -> Reading
     let mut i = 0;
     while i < records {
         let r = record_at(recs, i);
-        let checked = rule::check(
-            now_in,
-            EventId(owner),
-            Operation((i + 1) as u16),
-            r,
-            marks::is_marked(&begun, r.first),
-            marks::is_marked(&begun, r.second),
-            marks::is_marked(&ended, r.second),
-        );
-        match checked {
-            Checked::Next(next) => {
-                now_in = next;
-            }
-            Checked::Refused(f) => {
-                return Reading::Refused(f);
-            }
-        }
-        marks::note(&mut begun, 1, r);
-        marks::note(&mut ended, 2, r);
-        owner = r.first;
         i += 1;
+        let next = place::next(&places, now_in, r.kind);
+        let number = fault(next, now_in, owner, r, &begun, &ended);
+        if number != 0 {
+            return Reading::Refused(Refusal {
+                number: number,
+                place: Operation(i as u16),
+            });
+        }
+        marks::note(&mut begun, &mut ended, r);
+        now_in = next;
+        owner = r.first;
     }
     finish(recs, t, now_in)
 }
