@@ -1,9 +1,8 @@
 // The trailer: where record 1 starts, how many records there are, and the number of begins it names.
-use crate::Operation;
 use crate::Reading;
-use crate::Refusal;
-use crate::Trace;
+use crate::accept;
 use crate::access::two_bytes;
+use crate::refuse;
 ghost use mathlib.Core.Path.{_≡_};
 ghost use Prim.Native.Nat.{_+_, _-_, _/_, _≤_};
 ghost use lib.ListN.{length};
@@ -47,23 +46,13 @@ pub(crate) fn frame(bytes: &[u8]) -> Reading
 {
     let n = bytes.len();
     if n < 8 {
-        return Reading::Refused(Refusal {
-            number: crate::NO_TRAILER,
-            place: Operation(0),
-        });
+        return refuse(crate::NO_TRAILER, 0);
     }
     let at = n - 8;
     let d = distance_at(bytes, at);
     let number = fault(bytes, at, d);
     if number != 0 {
-        return Reading::Refused(Refusal {
-            number: number,
-            place: Operation(0),
-        });
+        return refuse(number, 0);
     }
-    Reading::Accepted(Trace {
-        start: at - d,
-        records: d / 5,
-        events: two_bytes(bytes, at + 4) as usize,
-    })
+    accept(at - d, d / 5, two_bytes(bytes, at + 4) as usize)
 }

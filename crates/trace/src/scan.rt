@@ -1,15 +1,14 @@
 // Every record checked in turn, and then the end of the trace.
 use crate::EventId;
-use crate::Operation;
 use crate::Reading;
 use crate::Record;
-use crate::Refusal;
-use crate::Trace;
+use crate::accept;
 use crate::access::count;
 use crate::access::count_begins;
 use crate::access::record_at;
 use crate::marks;
 use crate::place;
+use crate::refuse;
 use crate::rule;
 ghost use mathlib.Core.Path.{_≡_};
 ghost use mathlib.Core.List.{[]};
@@ -24,30 +23,19 @@ ghost use Rattle.trace.specs.Marks.{isMarked};
 ghost use Rattle.trace.specs.Paper.{paper};
 
 // The trace ends after its last record, in that situation.
-fn finish(recs: &[u8], t: Trace, now_in: u8) -> Reading
-    requires { ⌜ (t .records ≡ length (decode (now recs))) × (t .records ≤ 4096) ⌝ }
-    requires { ⌜ «now_in» ≡ situation (past (decode (now recs)) (length (decode (now recs)))) ⌝ }
-    ensures { λ r. ⌜ paper r ≡ closing (t .start) (t .events) (past (decode (now (recs .entry))) (length (decode (now (recs .entry))))) ⌝ }
+fn finish(recs: &[u8], start: usize, events: usize, now_in: u8) -> Reading
+    requires { ⌜ (length (decode (now recs)) ≤ 4096) × («now_in» ≡ situation (past (decode (now recs)) (length (decode (now recs))))) ⌝ }
+    ensures { λ r. ⌜ paper r ≡ closing start events (past (decode (now (recs .entry))) (length (decode (now (recs .entry))))) ⌝ }
 {
-    let records = t.records;
+    let records = count(recs);
     if now_in != 0 {
-        return Reading::Refused(Refusal {
-            number: crate::STOPS_INSIDE,
-            place: Operation(records as u16),
-        });
+        return refuse(crate::STOPS_INSIDE, records);
     }
     let found = count_begins(recs);
-    if found != t.events {
-        return Reading::Refused(Refusal {
-            number: crate::BEGIN_COUNT,
-            place: Operation(0),
-        });
+    if found != events {
+        return refuse(crate::BEGIN_COUNT, 0);
     }
-    Reading::Accepted(Trace {
-        start: t.start,
-        records: records,
-        events: found,
-    })
+    accept(start, records, found)
 }
 
 // The number of the refusal of record r, or 0, where next is the table's entry for it and what has begun and ended before is marked.
@@ -67,10 +55,10 @@ fn fault(next: u8, now_in: u8, owner: u16, r: Record, begun: &[u8; 1025], ended:
     )
 }
 
-// t is what the trailer says of the records.
-pub(crate) fn scan(recs: &[u8], t: Trace) -> Reading
-    requires { ⌜ (t .records ≡ length (decode (now recs))) × (t .records ≤ 4096) ⌝ }
-    ensures { λ r. ⌜ paper r ≡ walk (t .start) (t .events) [] (decode (now (recs .entry))) ⌝ }
+// The records of a trace that start there, with the number of begins that the trailer names.
+pub(crate) fn scan(recs: &[u8], start: usize, events: usize) -> Reading
+    requires { ⌜ length (decode (now recs)) ≤ 4096 ⌝ }
+    ensures { λ r. ⌜ paper r ≡ walk start events [] (decode (now (recs .entry))) ⌝ }
 {
     let records = count(recs);
     let places = place::table();
@@ -81,18 +69,15 @@ pub(crate) fn scan(recs: &[u8], t: Trace) -> Reading
     let mut i = 0;
     while i < records {
         let r = record_at(recs, i);
-        i += 1;
         let next = place::next(&places, now_in, r.kind);
         let number = fault(next, now_in, owner, r, &begun, &ended);
         if number != 0 {
-            return Reading::Refused(Refusal {
-                number: number,
-                place: Operation(i as u16),
-            });
+            return refuse(number, i + 1);
         }
         marks::note(&mut begun, &mut ended, r);
         now_in = next;
         owner = r.first;
+        i += 1;
     }
-    finish(recs, t, now_in)
+    finish(recs, start, events, now_in)
 }

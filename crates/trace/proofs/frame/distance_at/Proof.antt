@@ -28,7 +28,7 @@ add-result c = search needs
 
 returns : tie.Need-returns
 unfolding distance
-returns c = cc
+returns c = simp (c .before .two-bytes .ensures, c .two-bytes2 .ensures)
 
 pub distance-at-spec : {M : Type 1} → statement M
 distance-at-spec =

@@ -12,10 +12,10 @@ use Rattle.trace.proofs.scan.scan.Statement.{statement}
 use Rattle.trace.proofs.scan.scan.Tie as tie
 
 abbrev Inv-loop : tie.InvT-loop
-Inv-loop recs t records places begun₀ ended₀ now-in₀ owner₀ i₀ begun ended now-in owner i = Going (decode recs) (t .start) (t .events) now-in owner i begun ended
+Inv-loop recs start events records places begun₀ ended₀ now-in₀ owner₀ i₀ begun ended now-in owner i = Going (decode recs) start events now-in owner i begun ended
 
 abbrev μ-loop : tie.MeasureT-loop
-μ-loop recs t records places begun₀ ended₀ now-in₀ owner₀ i₀ begun ended now-in owner i = records - i
+μ-loop recs start events records places begun₀ ended₀ now-in₀ owner₀ i₀ begun ended now-in owner i = records - i
 
 count-requires : tie.Need-count-requires Inv-loop μ-loop
 count-requires c κs = search needs
@@ -32,13 +32,10 @@ none-requires-2 c κs = search needs
 loop-holds : tie.Need-loop-holds Inv-loop μ-loop
 loop-holds c =
     let a = c .before .before .before .before .before .args in
-    rw (c .before .none .ensures, c .none2 .ensures) (going-start (decode (now (a .recs))) (a .t .start) (a .t .events))
+    rw (c .before .none .ensures, c .none2 .ensures) (going-start (decode (now (a .recs))) (a .start) (a .events))
 
 record-at-requires : tie.Need-record-at-requires Inv-loop μ-loop
 record-at-requires c κs = search needs
-
-add-i : tie.Need-add-i Inv-loop μ-loop
-add-i c = omega arith
 
 next-requires : tie.Need-next-requires Inv-loop μ-loop
 next-requires c κs = c .before .before .before .before .before .before .table .ensures
@@ -46,22 +43,28 @@ next-requires c κs = c .before .before .before .before .before .before .table .
 fault-requires : tie.Need-fault-requires Inv-loop μ-loop
 fault-requires c κs = c .before .before .next .ensures
 
-cast-t19 : tie.Need-cast-t19 Inv-loop μ-loop
-cast-t19 c =
+add-refuse : tie.Need-add-refuse Inv-loop μ-loop
+add-refuse c = omega arith
+
+refuse-requires : tie.Need-refuse-requires Inv-loop μ-loop
+refuse-requires c κs =
     let p = c .before .before .before .before .before .before .before .before .before .before .before .before .before .before .pre in
     let n = c .before .before .before .before .before .before .before .before .before .before .before .before .count .ensures in
     omega arith
 
 returns : tie.Need-returns Inv-loop μ-loop
 returns c =
-    let l = c .before .before .before .before .before .before .before .before .loop in
-    let r = c .before .before .before .before .before .before .record-at in
-    let n = c .before .before .before .before .before .before .before .before .before .before .before .before .count .ensures in
-    let less : l .i < length (decode (now (c .before .before .before .before .before .before .before .before .before .before .before .before .before .before .args .recs))) = omega arith in
-    going-refused (l .inv) less (r .result) (r .ensures) (c .before .fault .result) (c .before .fault .ensures) (c .if1 .taken)
+    let l = c .before .before .before .before .before .before .before .before .before .loop in
+    let r = c .before .before .before .before .before .before .before .record-at in
+    let n = c .before .before .before .before .before .before .before .before .before .before .before .before .before .count .ensures in
+    let less : l .i < length (decode (now (c .before .before .before .before .before .before .before .before .before .before .before .before .before .before .before .args .recs))) = omega arith in
+    c .refuse .ensures ∙ going-refused (l .inv) less (r .result) (r .ensures) (c .before .before .fault .result) (c .before .before .fault .ensures) (c .before .if1 .taken)
 
 note-requires : tie.Need-note-requires Inv-loop μ-loop
 note-requires c κs = search needs
+
+add-i : tie.Need-add-i Inv-loop μ-loop
+add-i c = omega arith
 
 loop-less : tie.Need-loop-less Inv-loop μ-loop
 loop-less c = omega arith
@@ -99,12 +102,13 @@ scan-spec =
     none-requires-2
     loop-holds
     record-at-requires
-    add-i
     next-requires
     fault-requires
-    cast-t19
+    add-refuse
+    refuse-requires
     returns
     note-requires
+    add-i
     loop-less
     loop-again
     finish-requires
