@@ -20,17 +20,11 @@ use Rattle.trace.specs.Paper.{Verdict, passes, fails, verdict}
 use Rattle.trace.proofs.Records.{past-more, past-length}
 use Rattle.trace.proofs.Marked.{Tracks, tracks-start, tracks-next, judge-same}
 
--- a verdict that fails is what the walk stops at
-stops : (n op next k p : ℕ) (y : Reply) → fails k p ≡ verdict n op next → refused k p ≡ orElse n op y
+-- a fault is what the walk stops at
+pub stops : (n op : ℕ) (y : Reply) → (n ≡ 0 → ⊥) → refused n op ≡ orElse n op y
 unfolding orElse
-stops zero op next k p y e = let z : _≡_ {A = ℕ} 0 1 = cc in absurd (omega arith)
-stops (suc n) op next k p y e = cc
-
--- and past one that passes it goes on
-goes : (n op next s : ℕ) (y : Reply) → passes s ≡ verdict n op next → (orElse n op y ≡ y) × (s ≡ next)
-unfolding orElse
-goes zero op next s y e = (refl, cc)
-goes (suc n) op next s y e = let z : _≡_ {A = ℕ} 0 1 = cc in absurd (omega arith)
+stops zero op y h = absurd (h refl)
+stops (suc n) op y h = refl
 
 -- one turn of the walk
 walk-step : (tr : List Record) (start m i : ℕ) → i < length tr
@@ -91,24 +85,21 @@ module _ {tr : List Record} {start m s e i : ℕ} {b d : List ℕ} (g : Going tr
         ≡ orElse (judge s e r (isMarked b (r .first)) (isMarked b (r .second)) (isMarked d (r .second))) (i + 1) (walk start m (past tr (i + 1)) (drop (i + 1) tr))
     turn = g .comes ∙ walk-step tr start m i h ∙ simp (← er, judged)
 
-    abbrev Judged : Verdict
-    Judged = verdict (judge s e r (isMarked b (r .first)) (isMarked b (r .second)) (isMarked d (r .second))) (i + 1) (place s (r .kind))
+    module _ (k : ℕ) (v : k ≡ judge s e r (isMarked b (r .first)) (isMarked b (r .second)) (isMarked d (r .second))) where
+      -- the record has a fault: that is the walk's reply
+      pub going-refused : (k ≡ 0 → ⊥) → refused k (i + 1) ≡ walk start m [] tr
+      going-refused h = stops k (i + 1) (walk start m (past tr (i + 1)) (drop (i + 1) tr)) h ∙ simp v (sym turn)
 
-    -- the check refuses the record: that is the walk's reply
-    pub going-refused : (k p : ℕ) → fails k p ≡ Judged → refused k p ≡ walk start m [] tr
-    going-refused k p v = stops _ _ _ k p _ v ∙ sym turn
-
-    -- the record passes: so it goes on
-    pub going-next : (next : ℕ) → passes next ≡ Judged → Going tr start m next (r .first) (i + 1) (noted b 1 r) (noted d 2 r)
-    unfolding situation owner
-    going-next next v =
-        let on = goes _ (i + 1) (place s (r .kind)) next (walk start m (past tr (i + 1)) (drop (i + 1) tr)) v in
-        let more : past tr (i + 1) ≡ r ∷ past tr i = past-more tr i ∙ simp (← er) in
-        record {
-          within = omega arith;
-          stands = simp (more, ← g .stands, on .1);
-          owns = simp more;
-          begins = rw more (tracks-next r (g .begins));
-          ends = rw more (tracks-next r (g .ends));
-          comes = turn ∙ on .0;
-        }
+      -- it has none: so the walk goes on
+      pub going-next : k ≡ 0 → (next : ℕ) → next ≡ place s (r .kind) → Going tr start m next (r .first) (i + 1) (noted b 1 r) (noted d 2 r)
+      unfolding situation owner orElse
+      going-next z next q =
+          let more : past tr (i + 1) ≡ r ∷ past tr i = past-more tr i ∙ simp (← er) in
+          record {
+            within = omega arith;
+            stands = q ∙ simp (more, ← g .stands);
+            owns = simp more;
+            begins = rw more (tracks-next r (g .begins));
+            ends = rw more (tracks-next r (g .ends));
+            comes = turn ∙ simp (← v, z);
+          }

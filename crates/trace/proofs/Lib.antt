@@ -3,6 +3,7 @@ pub mod Records
 pub mod Decoded
 pub mod Upward
 pub mod Marked
+pub mod Faults
 pub mod Going
 pub mod Accepted
 pub mod Positions

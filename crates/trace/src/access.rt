@@ -4,15 +4,22 @@ use crate::Trace;
 ghost use mathlib.Core.Path.{_≡_};
 ghost use Prim.Native.Nat.{_+_, _*_, _/_, _≤_, _<_};
 ghost use lib.ListN.{getD, length, take, drop};
-ghost use Rattle.trace.specs.Bytes.{decode};
+ghost use Rattle.trace.specs.Bytes.{twoBytes, decode};
 ghost use Rattle.trace.specs.Records.{at, past, begins};
 ghost use Rattle.trace.specs.Reading.{part};
 
-// Two bytes as a number, low byte first.
-pub(crate) fn pair(low: u8, high: u8) -> u16
+fn pair(low: u8, high: u8) -> u16
     ensures { λ r. ⌜ r ≡ low + 256 * high ⌝ }
 {
     (low as u16) + 256 * (high as u16)
+}
+
+// Two bytes as a number, low byte first.
+pub(crate) fn two_bytes(bytes: &[u8], at: usize) -> u16
+    requires { ⌜ at + 2 ≤ length (now bytes) ⌝ }
+    ensures { λ r. ⌜ r ≡ twoBytes (now (bytes .entry)) at ⌝ }
+{
+    pair(bytes[at], bytes[at + 1])
 }
 
 // The bytes of the records of a trace that was read; of any other trace, those that are there.
@@ -54,7 +61,7 @@ pub fn first_at(recs: &[u8], i: usize) -> u16
     if recs.len() / 5 <= i {
         return 0;
     }
-    pair(recs[5 * i + 1], recs[5 * i + 2])
+    two_bytes(recs, 5 * i + 1)
 }
 
 pub fn second_at(recs: &[u8], i: usize) -> u16
@@ -63,7 +70,7 @@ pub fn second_at(recs: &[u8], i: usize) -> u16
     if recs.len() / 5 <= i {
         return 0;
     }
-    pair(recs[5 * i + 3], recs[5 * i + 4])
+    two_bytes(recs, 5 * i + 3)
 }
 
 pub fn record_at(recs: &[u8], i: usize) -> Record

@@ -7,7 +7,8 @@ pub mod rule;
 mod scan;
 
 ghost use mathlib.Core.Path.{_≡_};
-ghost use Rattle.trace.specs.Reading.{readReply};
+ghost use Prim.Native.Nat.{_≤_};
+ghost use Rattle.trace.specs.Reading.{refused, accepted, readReply};
 ghost use Rattle.trace.specs.Paper.{paper, refusalIn};
 
 // An event's number, 1 to 1,024: the source's EventId.
@@ -90,6 +91,26 @@ pub enum Checked {
     Refused(Refusal),
 }
 
+pub(crate) fn refuse(number: u16, op: usize) -> Reading
+    requires { ⌜ op ≤ 4096 ⌝ }
+    ensures { λ r. ⌜ paper r ≡ refused number op ⌝ }
+{
+    Reading::Refused(Refusal {
+        number: number,
+        place: Operation(op as u16),
+    })
+}
+
+pub(crate) fn accept(start: usize, records: usize, events: usize) -> Reading
+    ensures { λ r. ⌜ paper r ≡ accepted start records events ⌝ }
+{
+    Reading::Accepted(Trace {
+        start: start,
+        records: records,
+        events: events,
+    })
+}
+
 // Reads the trace that the bytes end with; bytes before record 1 are ignored.
 pub fn read(bytes: &[u8]) -> Reading
     ensures { λ r. ⌜ paper r ≡ readReply (now (bytes .entry)) ⌝ }
@@ -98,7 +119,7 @@ pub fn read(bytes: &[u8]) -> Reading
     let Reading::Accepted(t) = framed else {
         return framed;
     };
-    scan::scan(access::records(bytes, t), t)
+    scan::scan(access::records(bytes, t), t.start, t.events)
 }
 
 // The refusal of a reading that is refused, for an entry point to pass upward; an accepted reading has none, number 0.

@@ -28,11 +28,16 @@ pub fn mark(marks: &mut [u8], e: u16)
     }
 }
 
-// Marks the event of a record of that kind.
-pub(crate) fn note(marks: &mut [u8], kind: u8, r: Record)
-    ensures { λ u. ⌜ now (marks .exit) ≡ noted (now (marks .entry)) kind r ⌝ }
+// Marks the event of a begin among those that have begun, that of an end among those that have ended.
+pub(crate) fn note(begun: &mut [u8; 1025], ended: &mut [u8; 1025], r: Record)
+    ensures { λ u. ⌜ (now (begun .exit) ≡ noted (now (begun .entry)) 1 r) × (now (ended .exit) ≡ noted (now (ended .entry)) 2 r) ⌝ }
 {
-    if r.kind == kind {
-        mark(marks, r.first);
+    let kind = r.kind;
+    if kind == 1 {
+        mark(begun, r.first);
+        return;
+    }
+    if kind == 2 {
+        mark(ended, r.first);
     }
 }

@@ -1,5 +1,7 @@
 // The place rule as a table: 3 situations (0 between event actions, 1 after a join, 2 inside one) times 256 kind bytes, 768 entries.
 ghost use mathlib.Core.Path.{_≡_};
+ghost use Prim.Native.Nat.{ℕ, _/_, _%_, _<_};
+ghost use lib.ListN.{getD};
 ghost use Rattle.trace.specs.Place.{place};
 
 // The next situation, or 3 for an unknown kind, or 4 for a record out of place.
@@ -774,12 +776,20 @@ const PLACES: [u8; 768] = [
     3,
 ];
 
-// A situation above 2 counts as 2.
-pub(crate) fn next(situation: u8, kind: u8) -> u8
+// The table, for a caller to keep while it asks about one record after another.
+pub(crate) fn table() -> [u8; 768]
+    ensures { λ r. ⌜ ((k : ℕ) → k < 768 → getD r k 0 ≡ place (k / 256) (k % 256)) ⌝ }
+{
+    PLACES
+}
+
+// The table's entry for a situation and a kind byte; a situation above 2 counts as 2.
+pub(crate) fn next(places: &[u8; 768], situation: u8, kind: u8) -> u8
+    requires { ⌜ ((k : ℕ) → k < 768 → getD (now places) k 0 ≡ place (k / 256) (k % 256)) ⌝ }
     ensures { λ r. ⌜ r ≡ place situation kind ⌝ }
 {
     if situation < 2 {
-        return PLACES[(situation as usize) * 256 + (kind as usize)];
+        return places[(situation as usize) * 256 + (kind as usize)];
     }
-    PLACES[512 + (kind as usize)]
+    places[512 + (kind as usize)]
 }

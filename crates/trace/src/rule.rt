@@ -6,6 +6,8 @@ use crate::Record;
 use crate::Refusal;
 use crate::place;
 ghost use mathlib.Core.Path.{_≡_};
+ghost use mathlib.Core.Bool.{cond, not};
+ghost use lib.Dec.{eqb};
 ghost use Rattle.trace.specs.Place.{place};
 ghost use Rattle.trace.specs.Rule.{numbered, wellFormed, misplaced, again, early, judge};
 ghost use Rattle.trace.specs.Paper.{checkedPaper, verdict};
@@ -32,10 +34,11 @@ fn is_well_formed(r: Record) -> bool
     is_numbered(second)
 }
 
-fn is_misplaced(situation: u8, owner: EventId, r: Record) -> bool
+// next is the table's entry for the record.
+fn is_misplaced(next: u8, situation: u8, owner: EventId, r: Record) -> bool
+    requires { ⌜ next ≡ place situation (r .kind) ⌝ }
     ensures { λ b. ⌜ b ≡ misplaced situation (owner .0) r ⌝ }
 {
-    let next = place::next(situation, r.kind);
     if next == 4 {
         return true;
     }
@@ -43,6 +46,36 @@ fn is_misplaced(situation: u8, owner: EventId, r: Record) -> bool
         return false;
     }
     r.first != owner.0
+}
+
+// The first of refusals 4 to 6 that applies to record r, or 0, where next is the table's entry for it.
+fn place_fault(next: u8, situation: u8, owner: EventId, r: Record) -> u16
+    requires { ⌜ next ≡ place situation (r .kind) ⌝ }
+    ensures { λ n. ⌜ n ≡ cond (eqb (place situation (r .kind)) 3) 4 (cond (not (wellFormed r)) 5 (cond (misplaced situation (owner .0) r) 6 0)) ⌝ }
+{
+    if next == 3 {
+        return crate::UNKNOWN_KIND;
+    }
+    if !is_well_formed(r) {
+        return crate::IDENTIFIER;
+    }
+    if is_misplaced(next, situation, owner, r) {
+        return crate::OUT_OF_PLACE;
+    }
+    0
+}
+
+// The first of refusals 7 and 8 that applies to record r, or 0.
+fn order_fault(r: Record, first_begun: bool, second_begun: bool, second_ended: bool) -> u16
+    ensures { λ n. ⌜ n ≡ cond (again r «first_begun» «second_begun») 7 (cond (early r «second_ended») 8 0) ⌝ }
+{
+    if is_again(r, first_begun, second_begun) {
+        return crate::BEGUN_ALREADY;
+    }
+    if is_early(r, second_ended) {
+        return crate::NOT_ENDED;
+    }
+    0
 }
 
 fn is_again(r: Record, first_begun: bool, second_begun: bool) -> bool
@@ -70,7 +103,28 @@ fn is_early(r: Record, second_ended: bool) -> bool
     !second_ended
 }
 
-// The check of record number op, for the reader and the recorder alike. The three facts: its first has begun, its second has begun, its second has ended.
+// The number of the first of refusals 4 to 8 that applies to record r, or 0, where next is the table's entry for it: the check that reader and recorder share. The three
+// facts: its first has begun, its second has begun, its second has ended.
+pub(crate) fn fault(
+    next: u8,
+    situation: u8,
+    owner: EventId,
+    r: Record,
+    first_begun: bool,
+    second_begun: bool,
+    second_ended: bool,
+) -> u16
+    requires { ⌜ next ≡ place situation (r .kind) ⌝ }
+    ensures { λ n. ⌜ n ≡ judge situation (owner .0) r «first_begun» «second_begun» «second_ended» ⌝ }
+{
+    let misplaced = place_fault(next, situation, owner, r);
+    if misplaced != 0 {
+        return misplaced;
+    }
+    order_fault(r, first_begun, second_begun, second_ended)
+}
+
+// The check of record number op, with the same three facts.
 pub fn check(
     situation: u8,
     owner: EventId,
@@ -82,34 +136,20 @@ pub fn check(
 ) -> Checked
     ensures { λ c. ⌜ checkedPaper c ≡ verdict (judge situation (owner .0) r «first_begun» «second_begun» «second_ended») (op .0) (place situation (r .kind)) ⌝ }
 {
-    let next = place::next(situation, r.kind);
-    if next == 3 {
+    let places = place::table();
+    let next = place::next(&places, situation, r.kind);
+    let number = fault(
+        next,
+        situation,
+        owner,
+        r,
+        first_begun,
+        second_begun,
+        second_ended,
+    );
+    if number != 0 {
         return Checked::Refused(Refusal {
-            number: crate::UNKNOWN_KIND,
-            place: op,
-        });
-    }
-    if !is_well_formed(r) {
-        return Checked::Refused(Refusal {
-            number: crate::IDENTIFIER,
-            place: op,
-        });
-    }
-    if is_misplaced(situation, owner, r) {
-        return Checked::Refused(Refusal {
-            number: crate::OUT_OF_PLACE,
-            place: op,
-        });
-    }
-    if is_again(r, first_begun, second_begun) {
-        return Checked::Refused(Refusal {
-            number: crate::BEGUN_ALREADY,
-            place: op,
-        });
-    }
-    if is_early(r, second_ended) {
-        return Checked::Refused(Refusal {
-            number: crate::NOT_ENDED,
+            number: number,
             place: op,
         });
     }

@@ -1,13 +1,14 @@
 // Every record checked in turn, and then the end of the trace.
-use crate::Checked;
 use crate::EventId;
-use crate::Operation;
 use crate::Reading;
-use crate::Refusal;
-use crate::Trace;
+use crate::Record;
+use crate::accept;
+use crate::access::count;
 use crate::access::count_begins;
 use crate::access::record_at;
 use crate::marks;
+use crate::place;
+use crate::refuse;
 use crate::rule;
 ghost use mathlib.Core.Path.{_≡_};
 ghost use mathlib.Core.List.{[]};
@@ -15,43 +16,51 @@ ghost use Prim.Native.Nat.{_≤_};
 ghost use lib.ListN.{length};
 ghost use Rattle.trace.specs.Bytes.{decode};
 ghost use Rattle.trace.specs.Records.{past};
-ghost use Rattle.trace.specs.Rule.{situation};
+ghost use Rattle.trace.specs.Rule.{situation, judge};
 ghost use Rattle.trace.specs.Reading.{closing, walk};
+ghost use Rattle.trace.specs.Place.{place};
+ghost use Rattle.trace.specs.Marks.{isMarked};
 ghost use Rattle.trace.specs.Paper.{paper};
 
 // The trace ends after its last record, in that situation.
-fn finish(recs: &[u8], t: Trace, now_in: u8) -> Reading
-    requires { ⌜ (t .records ≡ length (decode (now recs))) × (t .records ≤ 4096) ⌝ }
-    requires { ⌜ «now_in» ≡ situation (past (decode (now recs)) (length (decode (now recs)))) ⌝ }
-    ensures { λ r. ⌜ paper r ≡ closing (t .start) (t .events) (past (decode (now (recs .entry))) (length (decode (now (recs .entry))))) ⌝ }
+fn finish(recs: &[u8], start: usize, events: usize, now_in: u8) -> Reading
+    requires { ⌜ (length (decode (now recs)) ≤ 4096) × («now_in» ≡ situation (past (decode (now recs)) (length (decode (now recs))))) ⌝ }
+    ensures { λ r. ⌜ paper r ≡ closing start events (past (decode (now (recs .entry))) (length (decode (now (recs .entry))))) ⌝ }
 {
-    let records = t.records;
+    let records = count(recs);
     if now_in != 0 {
-        return Reading::Refused(Refusal {
-            number: crate::STOPS_INSIDE,
-            place: Operation(records as u16),
-        });
+        return refuse(crate::STOPS_INSIDE, records);
     }
     let found = count_begins(recs);
-    if found != t.events {
-        return Reading::Refused(Refusal {
-            number: crate::BEGIN_COUNT,
-            place: Operation(0),
-        });
+    if found != events {
+        return refuse(crate::BEGIN_COUNT, 0);
     }
-    Reading::Accepted(Trace {
-        start: t.start,
-        records: records,
-        events: found,
-    })
+    accept(start, records, found)
 }
 
-// t is what the trailer says of the records.
-pub(crate) fn scan(recs: &[u8], t: Trace) -> Reading
-    requires { ⌜ (t .records ≡ length (decode (now recs))) × (t .records ≤ 4096) ⌝ }
-    ensures { λ r. ⌜ paper r ≡ walk (t .start) (t .events) [] (decode (now (recs .entry))) ⌝ }
+// The number of the refusal of record r, or 0, where next is the table's entry for it and what has begun and ended before is marked.
+fn fault(next: u8, now_in: u8, owner: u16, r: Record, begun: &[u8; 1025], ended: &[u8; 1025]) -> u16
+    requires { ⌜ next ≡ place «now_in» (r .kind) ⌝ }
+    ensures { λ n. ⌜ n ≡ judge «now_in» owner r (isMarked (now (begun .entry)) (r .first)) (isMarked (now (begun .entry)) (r .second)) (isMarked (now (ended .entry)) (r .second)) ⌝ }
 {
-    let records = t.records;
+    rule::fault(
+        next,
+        now_in,
+        EventId(owner),
+        r,
+        marks::is_marked(begun, r.first),
+        marks::is_marked(begun, r.second),
+        marks::is_marked(ended, r.second),
+    )
+}
+
+// The records of a trace that start there, with the number of begins that the trailer names.
+pub(crate) fn scan(recs: &[u8], start: usize, events: usize) -> Reading
+    requires { ⌜ length (decode (now recs)) ≤ 4096 ⌝ }
+    ensures { λ r. ⌜ paper r ≡ walk start events [] (decode (now (recs .entry))) ⌝ }
+{
+    let records = count(recs);
+    let places = place::table();
     let mut begun = marks::none();
     let mut ended = marks::none();
     let mut now_in: u8 = 0;
@@ -59,27 +68,15 @@ pub(crate) fn scan(recs: &[u8], t: Trace) -> Reading
     let mut i = 0;
     while i < records {
         let r = record_at(recs, i);
-        let checked = rule::check(
-            now_in,
-            EventId(owner),
-            Operation((i + 1) as u16),
-            r,
-            marks::is_marked(&begun, r.first),
-            marks::is_marked(&begun, r.second),
-            marks::is_marked(&ended, r.second),
-        );
-        match checked {
-            Checked::Next(next) => {
-                now_in = next;
-            }
-            Checked::Refused(f) => {
-                return Reading::Refused(f);
-            }
+        let next = place::next(&places, now_in, r.kind);
+        let number = fault(next, now_in, owner, r, &begun, &ended);
+        if number != 0 {
+            return refuse(number, i + 1);
         }
-        marks::note(&mut begun, 1, r);
-        marks::note(&mut ended, 2, r);
+        marks::note(&mut begun, &mut ended, r);
+        now_in = next;
         owner = r.first;
         i += 1;
     }
-    finish(recs, t, now_in)
+    finish(recs, start, events, now_in)
 }

@@ -47,7 +47,9 @@ scan-requires c κs =
     let t = c .before .before .framed .given .0 .0 in
     let fr = framed b (t .start) (t .records) (t .events) (sym (ap paper (c .before .before .framed .given .1)) ∙ c .before .before .before .before .frame .ensures) in
     let ends = fr .ends in
-    (sym (records-length b (t .start) (t .records) (omega arith)) ∙ simp (c .records .ensures), fr .few)
+    let n = records-length b (t .start) (t .records) (omega arith) in
+    let few = fr .few in
+    simp (c .records .ensures) (omega arith)
 
 returns-2 : tie.Need-returns-2
 unfolding readReply recordsReply recordsIn

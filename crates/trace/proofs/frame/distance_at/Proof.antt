@@ -8,11 +8,17 @@ use Rattle.trace.proofs.frame.distance_at.Tie as tie
 two-bytes-requires : tie.Need-two-bytes-requires
 two-bytes-requires c κs = search needs
 
+cast-result : tie.Need-cast-result
+cast-result c = search needs
+
 add-two-bytes : tie.Need-add-two-bytes
 add-two-bytes c = search needs
 
 two-bytes-requires-2 : tie.Need-two-bytes-requires-2
 two-bytes-requires-2 c κs = search needs
+
+cast-result-2 : tie.Need-cast-result-2
+cast-result-2 c = search needs
 
 mul-result : tie.Need-mul-result
 mul-result c = search needs
@@ -22,9 +28,17 @@ add-result c = search needs
 
 returns : tie.Need-returns
 unfolding distance
-returns c = cc
+returns c = simp (c .before .two-bytes .ensures, c .two-bytes2 .ensures)
 
 pub distance-at-spec : {M : Type 1} → statement M
 distance-at-spec =
     tie.close
-    (tie.spec two-bytes-requires add-two-bytes two-bytes-requires-2 mul-result add-result returns)
+    (tie.spec
+    two-bytes-requires
+    cast-result
+    add-two-bytes
+    two-bytes-requires-2
+    cast-result-2
+    mul-result
+    add-result
+    returns)

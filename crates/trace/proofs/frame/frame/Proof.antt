@@ -1,49 +1,37 @@
 -- `trace::frame::frame` meets its contract.
 -- Assumes nothing.
-use borrow.Author.Tests.{lt-leb, le-leb, eq-eqb, ne-eqb}
-use Rattle.trace.specs.Reading.{frameReply, trailerReply, demand}
+use mathlib.Core.Path.{_∙_}
+use borrow.Author.Tests.{lt-leb, le-leb}
+use Rattle.trace.specs.Reading.{frameReply, demand, orElse}
+use Rattle.trace.proofs.Going.{stops}
 use borrow.Author.Needs.{needs}
 use Rattle.trace.proofs.frame.frame.Statement.{statement}
 use Rattle.trace.proofs.frame.frame.Tie as tie
 
+refuse-requires : tie.Need-refuse-requires
+refuse-requires c κs = search needs
+
 returns : tie.Need-returns
 unfolding frameReply demand
-returns c = simp (lt-leb _ _ (c .if1 .taken))
-
-add-if2 : tie.Need-add-if2
-add-if2 c = search needs
-
-shared-slice-read-if2 : tie.Need-shared-slice-read-if2
-shared-slice-read-if2 c = search needs
-
-returns-2 : tie.Need-returns-2
-unfolding frameReply trailerReply demand
-returns-2 c = simp (le-leb _ _ (c .before .before .if1 .left), ne-eqb _ _ (c .if2 .taken))
-
-add-if3 : tie.Need-add-if3
-add-if3 c = search needs
-
-shared-slice-read-if3 : tie.Need-shared-slice-read-if3
-shared-slice-read-if3 c = search needs
-
-returns-3 : tie.Need-returns-3
-unfolding frameReply trailerReply demand
-returns-3 c = simp (le-leb _ _ (c .before .before .before .before .if1 .left), eq-eqb _ _ (c .before .before .if2 .left), ne-eqb _ _ (c .if3 .taken))
+returns c = c .refuse .ensures ∙ simp (lt-leb _ _ (c .before .if1 .taken))
 
 distance-at-requires : tie.Need-distance-at-requires
 distance-at-requires c κs = search needs
 
-returns-4 : tie.Need-returns-4
-unfolding frameReply trailerReply demand
-returns-4 c = simp (le-leb _ _ (c .before .before .before .before .before .before .if1 .left), eq-eqb _ _ (c .before .before .before .before .if2 .left), eq-eqb _ _ (c .before .before .if3 .left), ← c .before .distance-at .ensures, ne-eqb _ _ (c .if4 .taken))
+fault-requires : tie.Need-fault-requires
+fault-requires c κs = search needs
 
-returns-5 : tie.Need-returns-5
-unfolding frameReply trailerReply demand
-returns-5 c = simp (le-leb _ _ (c .before .before .before .before .before .before .before .if1 .left), eq-eqb _ _ (c .before .before .before .before .before .if2 .left), eq-eqb _ _ (c .before .before .before .if3 .left), ← c .before .before .distance-at .ensures, eq-eqb _ _ (c .before .if4 .left), lt-leb _ _ (c .if5 .taken))
+refuse-requires-2 : tie.Need-refuse-requires-2
+refuse-requires-2 c κs = search needs
 
-returns-6 : tie.Need-returns-6
-unfolding frameReply trailerReply demand
-returns-6 c = simp (le-leb _ _ (c .before .before .before .before .before .before .before .before .if1 .left), eq-eqb _ _ (c .before .before .before .before .before .before .if2 .left), eq-eqb _ _ (c .before .before .before .before .if3 .left), ← c .before .before .before .distance-at .ensures, eq-eqb _ _ (c .before .before .if4 .left), le-leb _ _ (c .before .if5 .left), lt-leb _ _ (c .if6 .taken))
+returns-2 : tie.Need-returns-2
+unfolding frameReply demand
+returns-2 c =
+    c .refuse2 .ensures
+    ∙ simp (le-leb _ _ (c .before .before .before .before .if1 .left), ← c .before .before .before .distance-at .ensures) (stops _ _ _ (c .before .if2 .taken) ∙ c .before .before .fault .ensures .0)
+
+sub-accept : tie.Need-sub-accept
+sub-accept c = let l = c .before .fault .ensures .1 (c .if2 .left) in search needs
 
 add-two-bytes : tie.Need-add-two-bytes
 add-two-bytes c = search needs
@@ -51,25 +39,31 @@ add-two-bytes c = search needs
 two-bytes-requires : tie.Need-two-bytes-requires
 two-bytes-requires c κs = search needs
 
-returns-7 : tie.Need-returns-7
-unfolding frameReply trailerReply demand
-returns-7 c = simp (le-leb _ _ (c .before .before .before .before .before .before .before .before .before .if1 .left), eq-eqb _ _ (c .before .before .before .before .before .before .before .if2 .left), eq-eqb _ _ (c .before .before .before .before .before .if3 .left), ← c .before .before .before .before .distance-at .ensures, eq-eqb _ _ (c .before .before .before .if4 .left), le-leb _ _ (c .before .before .if5 .left), le-leb _ _ (c .before .if6 .left), ← c .two-bytes .ensures .0)
+cast-accept : tie.Need-cast-accept
+cast-accept c = search needs
+
+accept-requires : tie.Need-accept-requires
+accept-requires c κs = search needs
+
+returns-3 : tie.Need-returns-3
+unfolding frameReply demand orElse
+returns-3 c =
+    c .accept .ensures
+    ∙ simp (le-leb _ _ (c .before .before .before .before .before .if1 .left), ← c .before .before .before .before .distance-at .ensures, c .before .two-bytes .ensures) (simp (c .before .before .if2 .left) at (c .before .before .before .fault .ensures .0))
 
 pub frame-spec : {M : Type 1} → statement M
 frame-spec =
     tie.close
     (tie.spec
+    refuse-requires
     returns
-    add-if2
-    shared-slice-read-if2
-    returns-2
-    add-if3
-    shared-slice-read-if3
-    returns-3
     distance-at-requires
-    returns-4
-    returns-5
-    returns-6
+    fault-requires
+    refuse-requires-2
+    returns-2
+    sub-accept
     add-two-bytes
     two-bytes-requires
-    returns-7)
+    cast-accept
+    accept-requires
+    returns-3)

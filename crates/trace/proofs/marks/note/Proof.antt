@@ -10,16 +10,24 @@ use Rattle.trace.proofs.marks.note.Tie as tie
 mark-requires : tie.Need-mark-requires
 mark-requires c κs = search needs
 
-same-length : tie.Need-same-length
-same-length c = search needs
-
 returns : tie.Need-returns
 unfolding noted
-returns c = c .before .before .mark .ensures ∙ simp (eq-eqb _ _ (c .before .before .before .before .if1 .taken))
+returns c =
+    let is = eq-eqb _ _ (c .before .before .if1 .taken) in
+    (c .mark .ensures ∙ simp is, simp (c .before .before .if1 .taken))
+
+mark-requires-2 : tie.Need-mark-requires-2
+mark-requires-2 c κs = search needs
 
 returns-2 : tie.Need-returns-2
 unfolding noted
-returns-2 c = simp (ne-eqb _ _ (c .if1 .left))
+returns-2 c =
+    let is = eq-eqb _ _ (c .before .before .if2 .taken) in
+    (simp (ne-eqb _ _ (c .before .before .before .if1 .left)), c .mark2 .ensures ∙ simp is)
+
+returns-3 : tie.Need-returns-3
+unfolding noted
+returns-3 c = (simp (ne-eqb _ _ (c .before .if1 .left)), simp (ne-eqb _ _ (c .if2 .left)))
 
 pub note-spec : {M : Type 1} → statement M
-note-spec = tie.close (tie.spec mark-requires same-length returns returns-2)
+note-spec = tie.close (tie.spec mark-requires returns mark-requires-2 returns-2 returns-3)
