@@ -24,7 +24,7 @@ use Rattle.coverage.specs.Race.{raceb}
 use Rattle.coverage.specs.Neighbours.{conflicts}
 use Rattle.coverage.proofs.Tests.{both, and, either, or-left, or-right, eq→eqb}
 use Rattle.races.specs.Traces.{isAccess, cellsOf, settingOf}
-use Rattle.races.specs.Candidates.{noNexts, isStart, cell, accesses, startOf, Starts, Ahead, Linked, Nexts, On, Jump, Range, FirstRace}
+use Rattle.races.specs.Candidates.{noNexts, isStart, cell, accesses, startOf, Starts, Ahead, Linked, Nexts, NextAccess, On, Jump, Range, FirstRace}
 use Rattle.races.proofs.Instance.{access-inside}
 
 off : (x : Bool) → (T x → ⊥) → x ≡ false
@@ -56,6 +56,9 @@ module _ (tr : List Record) where
 
   of-accesses : (c i : ℕ) → T (accesses tr c i) → T (isAccess (at tr i)) × (cell tr i ≡ c)
   of-accesses c i h = let p = both (isAccess (at tr i)) (eqb (cell tr i) c) h in (p .0, eqb→eq (cell tr i) c (p .1))
+
+  pub accesses-race : (a b : ℕ) → T (raceb (settingOf tr) a b) → T (accesses tr (cell tr a) b)
+  accesses-race a b h = let r = racing a b h in to-accesses (cell tr a) b (r .second) (sym (r .same))
 
   pub race-accesses : (a b : ℕ) → T (raceb (settingOf tr) a b) → T (accesses tr (cell tr b) a)
   race-accesses a b h = let r = racing a b h in to-accesses (cell tr b) a (r .first) (r .same)
@@ -227,27 +230,31 @@ module _ (tr : List Record) where
   linked-all i l w = record { long = w .long; tells = λ a k. w .records a (omega arith) k }
 
   -- From a on to the next access.
-  module _ {nexts : List ℕ} {a b : ℕ} (w : Nexts tr nexts) (on : On tr b a) (l : a < b) (h : b < length tr) where
+  module _ {nexts : List ℕ} {a b : ℕ} (w : Nexts tr nexts) (l : a < b) (h : b < length tr) where
     abbrev number : ℕ
     number = getD nexts a 0
 
     next : Ahead tr (cell tr a) (suc a) number
     next = w .tells a (omega arith)
 
-    skipped : (x : ℕ) → a < x → (number ≢ 0 → suc x < number) → T (raceb (settingOf tr) x b) → ⊥
-    skipped x k m r = next .none x (omega arith) m (subst (λ (c : ℕ). T (accesses tr c x)) (sym (on .same l)) (race-accesses tr x b r))
-
-    pub jump-end : (number ≡ 0) ⊎ (b < number) → Jump tr b a b
-    jump-end e = record { on = record { high = omega arith; same = λ k. absurd (omega arith) }; ahead = l; none = λ x k m r. skipped x k (late e x m) r }
+    pub next-end : (number ≡ 0) ⊎ (b < number) → NextAccess tr b a b
+    next-end e = record { ahead = l; high = omega arith; same = λ k. absurd (omega arith); none = λ x k m. next .none x (omega arith) (late e x m) }
       where
         late : (number ≡ 0) ⊎ (b < number) → (x : ℕ) → x < b → number ≢ 0 → suc x < number
         late (inl z) x m n = absurd (n z)
         late (inr z) x m n = omega arith
 
-    pub jump-next : number ≢ 0 → number ≤ b → Jump tr b a (number - 1)
-    jump-next n m =
+    pub next-some : number ≢ 0 → number ≤ b → NextAccess tr b a (number - 1)
+    next-some n m =
         let k = next .later n in
-        record { on = record { high = omega arith; same = λ _. next .same n ∙ on .same l }; ahead = omega arith; none = λ x u v r. skipped x u (λ _. omega arith) r }
+        record { ahead = omega arith; high = omega arith; same = λ _. next .same n; none = λ x u v. next .none x (omega arith) (λ _. omega arith) }
+
+  -- On the way to b that is the next one.
+  pub next-jump : {a b r : ℕ} → On tr b a → NextAccess tr b a r → Jump tr b a r
+  next-jump {a} {b} {r} on w = record { on = record { high = w .high; same = λ l. w .same l ∙ here }; ahead = w .ahead; none = λ x l k t. w .none x l k (subst (λ (c : ℕ). T (accesses tr c x)) (sym here) (race-accesses tr x b t)) }
+    where
+      here : cell tr a ≡ cell tr b
+      here = on .same (omega (arith, w .ahead, w .high))
 
   -- The first race on the way.
   pub looking-start : (b from : ℕ) → On tr b from → FirstRace tr b from from from

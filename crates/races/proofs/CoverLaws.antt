@@ -5,6 +5,7 @@ use mathlib.Core.Logic.{_≢_, _⊎_, inl, inr}
 use mathlib.Core.Bool.{Bool, true, false, _&&_}
 use mathlib.Core.List.{List, [], _∷_, _++_, map, append-assoc}
 use native.Mathlib.Omega.{arith}
+use native.Mathlib.Decide.{ℕ-discrete}
 use lib.Dec.{T}
 use lib.ListN.{length, set, length-append, length-map}
 use Rattle.trace.specs.declared.Record.{Record}
@@ -22,26 +23,38 @@ use Rattle.coverage.proofs.Leads.{le-leads}
 use Rattle.races.specs.Traces.{settingOf}
 use Rattle.races.specs.Leading.{rows}
 use Rattle.races.specs.Pair.{flat, withEntries, raceEntry, raceEntries, GivesCover}
-use Rattle.races.specs.PairSearch.{racesOn, NoSecond, NoRace, Second, Sought, Next, Written}
+use Rattle.races.specs.Candidates.{accesses, NextAccess}
+use Rattle.races.specs.LeadingPass.{Starts}
+use Rattle.races.specs.PairSearch.{racesOn, NoSecond, NoRace, Along, Second, Sought, Next, Written}
 use Rattle.races.proofs.Instance.{laws}
+use Rattle.races.proofs.CandidateLaws.{racing, accesses-race}
+use Rattle.races.proofs.NoteLaws.{starts-parted}
 use Rattle.races.proofs.PairEntries.{flat-length, no-entries, entries-room, put-more, rank-rises, rank-some, rank-few}
 
 module _ {tr : List Record} (a : Acceptable tr) (b : ℕ) (inside : b < length tr) where
   abbrev ev : ℕ → ℕ
   ev i = eventOf (at tr i)
 
-  pub none-start : (c : ℕ) → NoSecond tr b c (c + 1)
+  second-race : (c x : ℕ) → T (racesOn tr b c x) → T (raceb (settingOf tr) c x)
   unfolding racesOn
-  none-start c x l h =
-      let r = race-of (settingOf tr) c x (both (leads (settingOf tr) b (ev x)) (raceb (settingOf tr) c x) h .1) in
-      omega (arith, r .first)
+  second-race c x h = both (leads (settingOf tr) b (ev x)) (raceb (settingOf tr) c x) h .1
 
-  pub none-next : (c d : ℕ) → racesOn tr b c d ≡ false → NoSecond tr b c d → NoSecond tr b c (d + 1)
-  none-next c d e n x l h = go (lt-or-ge x d)
+  pub along-start : {c d : ℕ} → NextAccess tr b c d → Along tr b c d
+  along-start {c} {d} j = record { ahead = j .ahead; same = j .same; none = λ x l h. go x l (second-race c x h) }
     where
-      go : (x < d) ⊎ (d ≤ x) → ⊥
-      go (inl k) = n x k h
-      go (inr k) = let z : x ≡ d = omega arith in subst T (ap (racesOn tr b c) z ∙ e) h
+      go : (x : ℕ) → x < d → T (raceb (settingOf tr) c x) → ⊥
+      go x l r = j .none x (racing tr c x r .earlier) l (accesses-race tr c x r)
+
+  pub along-next : {c d r : ℕ} → d < b → racesOn tr b c d ≡ false → Along tr b c d → NextAccess tr b d r → Along tr b c r
+  along-next {c} {d} {r} m e w j = record { ahead = omega (arith, w .ahead, j .ahead); same = λ l. j .same l ∙ w .same m; none = λ x l h. go x l h (lt-or-ge x d) }
+    where
+      go : (x : ℕ) → x < r → T (racesOn tr b c x) → (x < d) ⊎ (d ≤ x) → ⊥
+      go x l h (inl k) = w .none x k h
+      go x l h (inr k) = past (ℕ-discrete x d)
+        where
+          past : Dec (x ≡ d) → ⊥
+          past (yes z) = subst T (ap (racesOn tr b c) z ∙ e) h
+          past (no n) = j .none x (omega arith) l (subst (λ (y : ℕ). T (accesses tr y x)) (sym (w .same m)) (accesses-race tr c x (second-race c x h)))
 
   module _ (t c : ℕ) where
     pub second-apart : happensBefore tr (ev t) (ev c) ≡ false → Second tr b t c b
@@ -54,8 +67,12 @@ module _ {tr : List Record} (a : Acceptable tr) (b : ℕ) (inside : b < length t
     second-none d l n = record { found = λ k. absurd (omega arith); none = λ _ x k h. n x (omega arith) }
 
   module _ (t : ℕ) where
-    pub no-race-start : NoRace tr b t 0
-    no-race-start x y l = absurd (omega arith)
+    -- that event action is whole from its first record on
+    pub no-race-start : t < b → (c : ℕ) → Starts tr c t → NoRace tr b t c
+    no-race-start m c s x y l k h r =
+        let z = s .low in
+        let f = laws a .forward t x (omega arith) (omega arith) h (λ e. starts-parted a c t (omega arith) s x t l z (omega arith) (sym e)) in
+        omega arith
 
     pub no-race-next : (c d : ℕ) → b ≤ d → Second tr b t c d → NoRace tr b t c → NoRace tr b t (c + 1)
     no-race-next c d m q n x y l k h = go (lt-or-ge x c)

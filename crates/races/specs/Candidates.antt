@@ -53,12 +53,19 @@ module _ (tr : List Record) where
     pub long : length nexts ≡ 4096
     pub tells : (a : ℕ) → a < length tr → Ahead (cell a) (suc a) (getD nexts a 0)
 
+  -- from a on to r, past no access of a's cell: a record before b with that cell, or b
+  pub record NextAccess (b a r : ℕ) : Type 0 where
+    pub ahead : a < r
+    pub high : r ≤ b
+    pub same : r < b → cell r ≡ cell a
+    pub none : (x : ℕ) → a < x → x < r → T (accesses (cell a) x) → ⊥
+
   -- a stands on the way to b: b itself, or a record before b with b's cell
   pub record On (b a : ℕ) : Type 0 where
     pub high : a ≤ b
     pub same : a < b → cell a ≡ cell b
 
-  -- from a on to r, past no access of the cell
+  -- on that way from a on to r, past no record that races with b
   pub record Jump (b a r : ℕ) : Type 0 where
     pub on : On b r
     pub ahead : a < r

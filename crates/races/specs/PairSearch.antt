@@ -14,6 +14,7 @@ use Rattle.coverage.specs.Race.{before, Race, raceb}
 use Rattle.coverage.specs.Cover.{CoversFrom}
 use Rattle.coverage.specs.Leading.{leads, lastKept}
 use Rattle.races.specs.Traces.{settingOf}
+use Rattle.races.specs.Candidates.{cell}
 use Rattle.races.specs.Pair.{withEntries, raceEntries}
 
 -- the trace that was read in the bytes
@@ -41,6 +42,12 @@ NoSecond tr b c d = (x : ℕ) → x < d → T (racesOn tr b c x) → ⊥
 -- nor any before b, for the records before c whose event action that of t happens before
 abbrev pub NoRace : List Record → ℕ → ℕ → ℕ → Type 0
 NoRace tr b t c = (x y : ℕ) → x < c → y < b → T (happensBefore tr (eventOf (at tr t)) (eventOf (at tr x))) → T (racesOn tr b x y) → ⊥
+
+-- the search for d along the accesses of c's cell
+pub record Along (tr : List Record) (b c d : ℕ) : Type 0 where
+  pub ahead : c < d
+  pub same : d < b → cell tr d ≡ cell tr c
+  pub none : NoSecond tr b c d
 
 -- d is such a record before b, where the event action of t happens before that of c; or there is none, and d is b or above
 pub record Second (tr : List Record) (b t c d : ℕ) : Type 0 where

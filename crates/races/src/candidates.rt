@@ -13,7 +13,7 @@ ghost use Rattle.trace.specs.Reading.{Acceptable};
 ghost use Rattle.trace.specs.Marks.{noMarks};
 ghost use Rattle.races.specs.Traces.{isAccess};
 ghost use Rattle.races.specs.Filled.{Filled};
-ghost use Rattle.races.specs.Candidates.{isStart, Starts, Linked, Nexts, On, Jump, Range, FirstRace, noNexts};
+ghost use Rattle.races.specs.Candidates.{isStart, Starts, Linked, Nexts, NextAccess, Range, FirstRace, noNexts};
 ghost use Rattle.races.specs.ListPass.{Ranges};
 
 // A record number for each cell, none yet.
@@ -101,10 +101,10 @@ pub(crate) fn next_accesses(recs: &[u8]) -> [u16; 4096]
     nexts
 }
 
-// From record a on to the next access of the cell of b, or to b.
+// From record a on to the next access of its cell, or to b.
 pub(crate) fn next_access(recs: &[u8], nexts: &[u16], a: usize, b: usize) -> usize
-    requires { ⌜ Nexts (decode (now recs)) (now nexts) × On (decode (now recs)) b a × (a < b) × (b < length (decode (now recs))) ⌝ }
-    ensures { λ r. ⌜ Jump (decode (now (recs .entry))) b a r ⌝ }
+    requires { ⌜ Nexts (decode (now recs)) (now nexts) × (a < b) × (b < length (decode (now recs))) ⌝ }
+    ensures { λ r. ⌜ NextAccess (decode (now (recs .entry))) b a r ⌝ }
 {
     let number = number_at(nexts, a) as usize;
     if number == 0 {

@@ -58,7 +58,7 @@ pub(crate) fn is_leading(recs: &[u8], ranks: &[u16], work: &[u8], a: usize) -> b
 }
 
 // The first record of the event action of record i.
-fn block_start(recs: &[u8], i: usize) -> usize
+pub(crate) fn block_start(recs: &[u8], i: usize) -> usize
     ensures { λ r. ⌜ Starts (decode (now (recs .entry))) r i ⌝ }
 {
     let e = access::first_at(recs, i);

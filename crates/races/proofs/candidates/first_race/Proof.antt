@@ -1,4 +1,4 @@
-use Rattle.races.proofs.CandidateLaws.{looking-start, looking-next, looking-found, looking-end}
+use Rattle.races.proofs.CandidateLaws.{next-jump, looking-start, looking-next, looking-found, looking-end}
 use Rattle.races.specs.Candidates.{FirstRace}
 use lib.Dec.{T}
 use mathlib.Core.Path.{sym, _∙_, subst}
@@ -25,13 +25,13 @@ returns : tie.Need-returns Inv-loop μ-loop
 returns c = looking-found (decode (now (c .before .before .before .before .before .before .before .before .before .args .recs))) (c .before .before .before .loop .inv) (subst T (sym (sym (c .before .is-race .ensures) ∙ c .if1 .taken)) tt)
 
 next-access-requires : tie.Need-next-access-requires Inv-loop μ-loop
-next-access-requires c κs = (c .before .before .before .before .before .before .before .before .before .pre .0 .1, c .before .before .before .loop .inv .on, omega (arith, c .before .before .before .before .before .before .before .before .before .pre .1 .0 .high, c .before .before .loop-test .taken), c .before .before .before .before .before .before .before .before .before .pre .1 .1)
+next-access-requires c κs = (c .before .before .before .before .before .before .before .before .before .pre .0 .1, omega (arith, c .before .before .before .before .before .before .before .before .before .pre .1 .0 .high, c .before .before .loop-test .taken), c .before .before .before .before .before .before .before .before .before .pre .1 .1)
 
 loop-less : tie.Need-loop-less Inv-loop μ-loop
 loop-less c = omega (arith, c .next-access .ensures .ahead, c .before .before .before .before .before .before .before .before .before .before .pre .1 .0 .high, c .before .before .before .loop-test .taken)
 
 loop-again : tie.Need-loop-again Inv-loop μ-loop
-loop-again c = looking-next (decode (now (c .before .before .before .before .before .before .before .before .before .before .args .recs))) (c .before .before .before .before .loop .inv) (λ t. subst T (sym (c .before .before .is-race .ensures) ∙ c .before .if1 .left) t) (c .next-access .ensures)
+loop-again c = looking-next (decode (now (c .before .before .before .before .before .before .before .before .before .before .args .recs))) (c .before .before .before .before .loop .inv) (λ t. subst T (sym (c .before .before .is-race .ensures) ∙ c .before .if1 .left) t) (next-jump (decode (now (c .before .before .before .before .before .before .before .before .before .before .args .recs))) (c .before .before .before .before .loop .inv .on) (c .next-access .ensures))
 
 returns-2 : tie.Need-returns-2 Inv-loop μ-loop
 returns-2 c = looking-end (decode (now (c .before .before .before .before .before .before .before .args .recs))) (c .before .loop .inv) (c .loop-test .left)

@@ -1,4 +1,4 @@
-use Rattle.races.proofs.CandidateLaws.{jump-end, jump-next}
+use Rattle.races.proofs.CandidateLaws.{next-end, next-some}
 use mathlib.Core.Logic.{inl, inr}
 use mathlib.Core.Path.{sym, _∙_, subst}
 use Prim.Native.Nat.{_<_, _≤_}
@@ -15,16 +15,16 @@ cast-number : tie.Need-cast-number
 cast-number c = search needs
 
 returns : tie.Need-returns
-returns c = jump-end (decode (now (c .before .before .before .before .args .recs))) (c .before .before .before .before .pre .0) (c .before .before .before .before .pre .1) (c .before .before .before .before .pre .2) (c .before .before .before .before .pre .3) (inl (sym (c .before .number-at .ensures) ∙ c .if1 .taken))
+returns c = next-end (decode (now (c .before .before .before .before .args .recs))) (c .before .before .before .before .pre .0) (c .before .before .before .before .pre .1) (c .before .before .before .before .pre .2) (inl (sym (c .before .number-at .ensures) ∙ c .if1 .taken))
 
 returns-2 : tie.Need-returns-2
-returns-2 c = jump-end (decode (now (c .before .before .before .before .before .args .recs))) (c .before .before .before .before .before .pre .0) (c .before .before .before .before .before .pre .1) (c .before .before .before .before .before .pre .2) (c .before .before .before .before .before .pre .3) (inr (subst (λ x. c .before .before .before .before .before .args .b < x) (c .before .before .number-at .ensures) (c .if2 .taken)))
+returns-2 c = next-end (decode (now (c .before .before .before .before .before .args .recs))) (c .before .before .before .before .before .pre .0) (c .before .before .before .before .before .pre .1) (c .before .before .before .before .before .pre .2) (inr (subst (λ x. c .before .before .before .before .before .args .b < x) (c .before .before .number-at .ensures) (c .if2 .taken)))
 
 sub-result : tie.Need-sub-result
 sub-result c = search needs
 
 returns-3 : tie.Need-returns-3
-returns-3 c = let e = c .before .before .number-at .ensures in rw e (jump-next (decode (now (c .before .before .before .before .before .args .recs))) (c .before .before .before .before .before .pre .0) (c .before .before .before .before .before .pre .1) (c .before .before .before .before .before .pre .2) (c .before .before .before .before .before .pre .3) (λ z. c .before .if1 .left (e ∙ z)) (subst (λ x. x ≤ c .before .before .before .before .before .args .b) e (c .if2 .left)))
+returns-3 c = let e = c .before .before .number-at .ensures in rw e (next-some (decode (now (c .before .before .before .before .before .args .recs))) (c .before .before .before .before .before .pre .0) (c .before .before .before .before .before .pre .1) (c .before .before .before .before .before .pre .2) (λ z. c .before .if1 .left (e ∙ z)) (subst (λ x. x ≤ c .before .before .before .before .before .args .b) e (c .if2 .left)))
 
 pub next-access-spec : {M : Type 1} → statement M
 next-access-spec =

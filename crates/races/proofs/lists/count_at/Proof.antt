@@ -1,3 +1,4 @@
+use Rattle.races.proofs.CandidateLaws.{next-jump}
 use Rattle.races.proofs.ListLaws.{firsts-start, firsts-yes, firsts-no, firsts-skip, firsts-length}
 use Rattle.races.specs.ListPass.{firsts}
 use Rattle.races.specs.Candidates.{On}
@@ -28,7 +29,7 @@ add-found : tie.Need-add-found Inv-loop μ-loop
 add-found c = omega (arith, c .before .before .before .loop .inv .0, firsts-length (decode (now (c .before .before .before .before .before .before .before .before .before .args .recs))) (c .before .before .before .before .before .before .before .before .before .args .from) (c .before .before .before .before .before .before .before .before .before .args .b) (c .before .before .before .loop .a))
 
 next-access-requires : tie.Need-next-access-requires Inv-loop μ-loop
-next-access-requires c κs = (c .before .before .before .before .before .before .before .before .before .pre .0 .1, c .before .before .before .loop .inv .2, omega (arith, c .before .before .before .before .before .before .before .before .before .pre .1 .0 .high, c .before .before .loop-test .taken), c .before .before .before .before .before .before .before .before .before .pre .1 .1)
+next-access-requires c κs = (c .before .before .before .before .before .before .before .before .before .pre .0 .1, omega (arith, c .before .before .before .before .before .before .before .before .before .pre .1 .0 .high, c .before .before .loop-test .taken), c .before .before .before .before .before .before .before .before .before .pre .1 .1)
 
 loop-less : tie.Need-loop-less Inv-loop μ-loop
 loop-less c = omega (arith, c .next-access .ensures .ahead, c .before .before .before .before .before .before .before .before .before .before .pre .1 .0 .high, c .before .before .before .loop-test .taken)
@@ -36,7 +37,7 @@ loop-less c = omega (arith, c .next-access .ensures .ahead, c .before .before .b
 loop-again : tie.Need-loop-again Inv-loop μ-loop
 loop-again c =
     let l = c .before .before .before .before .loop in
-    let j = c .next-access .ensures in
+    let j = next-jump (decode (now (c .before .before .before .before .before .before .before .before .before .before .args .recs))) (l .inv .2) (c .next-access .ensures) in
     let m = j .ahead in
     let race = c .before .before .is-race .ensures in
     let f = firsts-skip (decode (now (c .before .before .before .before .before .before .before .before .before .before .args .recs))) (c .before .before .before .before .before .before .before .before .before .before .args .from) (c .before .before .before .before .before .before .before .before .before .before .args .b) (l .a + 1) (c .next-access .result) (omega arith) (λ x u v. j .none x (omega arith) v) in

@@ -1,3 +1,4 @@
+use Rattle.races.proofs.CandidateLaws.{next-jump}
 use Rattle.races.proofs.EntryStores.{Writing, writing-start, writing-size, writing-room, writing-next, writing-end}
 use Rattle.races.specs.Candidates.{On}
 use Prim.Native.Nat.{_-_, _<_}
@@ -28,7 +29,7 @@ write-race-requires c κs =
     }
 
 next-access-requires : tie.Need-next-access-requires Inv-loop μ-loop
-next-access-requires c κs = (c .before .before .before .before .before .before .before .before .before .before .before .before .before .pre .0 .1, c .before .before .before .before .before .loop .inv .1, omega (arith, c .before .before .before .before .before .before .before .before .before .before .before .before .before .pre .1 .0 .high, c .before .before .before .before .loop-test .taken), c .before .before .before .before .before .before .before .before .before .before .before .before .before .pre .0 .0 .inside)
+next-access-requires c κs = (c .before .before .before .before .before .before .before .before .before .before .before .before .before .pre .0 .1, omega (arith, c .before .before .before .before .before .before .before .before .before .before .before .before .before .pre .1 .0 .high, c .before .before .before .before .loop-test .taken), c .before .before .before .before .before .before .before .before .before .before .before .before .before .pre .0 .0 .inside)
 
 loop-less : tie.Need-loop-less Inv-loop μ-loop
 loop-less c = omega (arith, c .next-access .ensures .ahead, c .before .before .before .before .before .before .before .before .before .before .before .before .before .before .pre .1 .0 .high, c .before .before .before .before .before .loop-test .taken)
@@ -36,7 +37,8 @@ loop-less c = omega (arith, c .next-access .ensures .ahead, c .before .before .b
 loop-again : tie.Need-loop-again Inv-loop μ-loop
 loop-again c =
     let h : c .before .before .before .before .before .before .loop .a < c .before .before .before .before .before .before .before .before .before .before .before .before .before .before .args .b = omega (arith, c .before .before .before .before .before .before .before .before .before .before .before .before .before .before .pre .1 .0 .high, c .before .before .before .before .before .loop-test .taken) in
-    (writing-next (c .before .before .before .before .before .before .loop .inv .0) h _ _ (c .before .before .before .write-race .ensures) _ (c .next-access .ensures), c .next-access .ensures .on)
+    let j = next-jump _ (c .before .before .before .before .before .before .loop .inv .1) (c .next-access .ensures) in
+    (writing-next (c .before .before .before .before .before .before .loop .inv .0) h _ _ (c .before .before .before .write-race .ensures) _ j, j .on)
 
 same-length : tie.Need-same-length Inv-loop μ-loop
 same-length c = writing-size (c .before .loop .inv .0)
