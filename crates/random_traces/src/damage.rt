@@ -1,95 +1,106 @@
 // A trace with one thing changed.
 use crate::chance::roll;
 use crate::draft::Draft;
+use crate::draft::byte;
 use crate::draft::put_trailer;
+use crate::slots::NOWHERE;
 use crate::slots::get_byte;
+use crate::slots::pick;
+use crate::slots::plus;
 use crate::slots::put_byte;
 
-fn byte(x: usize) -> u8 {
-    (x % 256) as u8
+// Where the trailer is put, which two records are exchanged, where a byte is put and which, and how long the trace is.
+pub(crate) struct Change {
+    pub end: usize,
+    pub p: usize,
+    pub q: usize,
+    pub at: usize,
+    pub byte: u8,
+    pub length: usize,
+}
+
+// What is between the two, 0 if they stand the other way round.
+pub(crate) fn between(start: usize, end: usize) -> usize {
+    if start <= end {
+        return end - start;
+    }
+    0
 }
 
 // Where one of the records starts.
 fn some_record(d: Draft, seed: usize, purpose: usize) -> usize {
-    let start = d.start;
+    let i = roll(seed, d.end, purpose, between(d.start, d.end) / 5);
+    if 65536 < i {
+        return 0;
+    }
+    pick(d.start < d.end, plus(d.start, 5 * i), 0)
+}
+
+// Where the byte is put, by the way that the seed chose.
+fn place(d: Draft, seed: usize, how: usize) -> usize {
+    let p = some_record(d, seed, 31);
     let end = d.end;
-    if end <= start {
-        return 0;
+    match how {
+        3 => roll(seed, end, 33, plus(end, 8)),
+        4 => plus(end, roll(seed, end, 35, 8)),
+        5 => plus(p, pick(roll(seed, end, 36, 2) == 0, 1, 3)),
+        6 => plus(p, 3),
+        8 => p,
+        _ => NOWHERE,
     }
-    let i = roll(seed, end, purpose, (end - start) / 5);
-    if 65536 < i || 65536 < start {
-        return 0;
+}
+
+fn length(d: Draft, seed: usize, how: usize) -> usize {
+    let whole = plus(d.end, 8);
+    let end = some_record(d, seed, 30);
+    match how {
+        0 => roll(seed, d.end, 38, whole),
+        1 => pick(d.start <= end, plus(end, 8), 0),
+        _ => whole,
     }
-    start + 5 * i
+}
+
+// A way that the seed chooses: 0 cuts the bytes short, 1 leaves the last records out, 2 exchanges neighbours, 7 two records; the others change a byte.
+fn choose(d: Draft, seed: usize) -> Change {
+    let how = roll(seed, d.end, 37, 9);
+    let p = pick(how == 2, some_record(d, seed, 39), some_record(d, seed, 40));
+    let q = pick(how == 2, plus(p, 5), some_record(d, seed, 41));
+    let exchanges = (how == 2) | (how == 7);
+    Change {
+        end: pick(how == 1, some_record(d, seed, 30), d.end),
+        p: p,
+        q: pick(exchanges, q, p),
+        at: place(d, seed, how),
+        byte: byte(pick(
+            how == 3,
+            roll(seed, d.end, 34, 256),
+            roll(seed, d.end, 32, 8),
+        )),
+        length: length(d, seed, how),
+    }
 }
 
 // Exchanges two records.
 fn exchange(bytes: &mut [u8], p: usize, q: usize) {
     let mut i = 0;
     while i < 5 {
-        let x = std::num::wrapping_add_usize(p, i);
-        let y = std::num::wrapping_add_usize(q, i);
-        let b = get_byte(bytes, x);
-        let other = get_byte(bytes, y);
-        put_byte(bytes, x, other);
-        put_byte(bytes, y, b);
+        let b = get_byte(bytes, plus(p, i));
+        let other = get_byte(bytes, plus(q, i));
+        put_byte(bytes, plus(p, i), other);
+        put_byte(bytes, plus(q, i), b);
         i += 1;
     }
 }
 
-// The last records left out, with a trailer after the others.
-fn shorten(bytes: &mut [u8], d: Draft, seed: usize) -> usize {
-    let start = d.start;
-    let end = some_record(d, seed, 30);
-    if start <= end {
-        return put_trailer(bytes, end, end - start, d.events);
-    }
-    0
+fn apply(bytes: &mut [u8], d: Draft, x: Change) {
+    put_trailer(bytes, x.end, between(d.start, x.end), d.events);
+    exchange(bytes, x.p, x.q);
+    put_byte(bytes, x.at, x.byte);
 }
 
-// A byte of a record or of the trailer.
-fn change(bytes: &mut [u8], d: Draft, seed: usize, how: usize) {
-    let p = some_record(d, seed, 31);
-    let end = d.end;
-    let small = byte(roll(seed, end, 32, 8));
-    let mut at = p;
-    let mut b = small;
-    if how == 3 {
-        at = roll(seed, end, 33, std::num::wrapping_add_usize(end, 8));
-        b = byte(roll(seed, end, 34, 256));
-    }
-    if how == 4 {
-        at = std::num::wrapping_add_usize(end, roll(seed, end, 35, 8));
-    }
-    if how == 5 {
-        at = std::num::wrapping_add_usize(p, 1 + 2 * roll(seed, end, 36, 2));
-    }
-    if how == 6 {
-        at = std::num::wrapping_add_usize(p, 3);
-    }
-    put_byte(bytes, at, b);
-}
-
-// Changes the trace in a way that the seed chooses, and gives its length.
+// Changes the trace, and gives its length.
 pub(crate) fn damage(bytes: &mut [u8], d: Draft, seed: usize) -> usize {
-    let end = d.end;
-    let whole = std::num::wrapping_add_usize(end, 8);
-    let how = roll(seed, end, 37, 9);
-    if how == 0 {
-        return roll(seed, end, 38, whole);
-    }
-    if how == 1 {
-        return shorten(bytes, d, seed);
-    }
-    if how == 2 {
-        let p = some_record(d, seed, 39);
-        exchange(bytes, p, std::num::wrapping_add_usize(p, 5));
-        return whole;
-    }
-    if how == 7 {
-        exchange(bytes, some_record(d, seed, 40), some_record(d, seed, 41));
-        return whole;
-    }
-    change(bytes, d, seed, how);
-    whole
+    let x = choose(d, seed);
+    apply(bytes, d, x);
+    x.length
 }

@@ -1,6 +1,9 @@
 // Traces put together by chance, each of them acceptable.
 use crate::chance::roll;
+use crate::slots::get_byte;
 use crate::slots::narrow;
+use crate::slots::pick;
+use crate::slots::plus;
 use crate::slots::put_byte;
 
 // What a seed settles: how many event actions, at most how many body records each (less 1), how often it joins (of 8), forks and writes (of 16), how many cells,
@@ -25,31 +28,20 @@ pub(crate) struct Draft {
 }
 
 // Most traces are small, one in sixteen is large; one in eight has numbers up to 1,024.
-pub(crate) fn shape_of(seed: usize) -> Shape {
-    let mut events = roll(seed, 0, 1, 8);
-    let mut body = 2 + roll(seed, 0, 2, 5);
-    if roll(seed, 0, 3, 16) == 0 {
-        events = 8 + roll(seed, 0, 4, 17);
-        body = 2 + roll(seed, 0, 5, 4);
-    }
-    let mut mask = roll(seed, 0, 6, 32);
-    if roll(seed, 0, 7, 8) == 0 {
-        mask = roll(seed, 0, 8, 1024);
-    }
-    let mut before = 0;
-    if roll(seed, 0, 9, 4) == 0 {
-        before = roll(seed, 0, 10, 12);
-    }
+fn shape_of(seed: usize) -> Shape {
+    let large = roll(seed, 0, 3, 16) == 0;
+    let far = roll(seed, 0, 7, 8) == 0;
+    let behind = roll(seed, 0, 9, 4) == 0;
     Shape {
         seed: seed,
-        events: events,
-        body: body,
+        events: pick(large, plus(8, roll(seed, 0, 4, 17)), roll(seed, 0, 1, 8)),
+        body: plus(2, pick(large, roll(seed, 0, 5, 4), roll(seed, 0, 2, 5))),
         joins: roll(seed, 0, 11, 6),
         forks: roll(seed, 0, 12, 7),
-        writes: 4 + roll(seed, 0, 13, 9),
-        cells: 1 + roll(seed, 0, 14, 6),
-        before: before,
-        mask: mask,
+        writes: plus(4, roll(seed, 0, 13, 9)),
+        cells: plus(1, roll(seed, 0, 14, 6)),
+        before: pick(behind, roll(seed, 0, 10, 12), 0),
+        mask: pick(far, roll(seed, 0, 8, 1024), roll(seed, 0, 6, 32)),
     }
 }
 
@@ -58,31 +50,44 @@ fn number(s: Shape, j: usize) -> u16 {
     narrow(1 + (j ^ s.mask) % 1024)
 }
 
-pub(crate) fn put_record(bytes: &mut [u8], at: usize, kind: u8, first: u16, second: u16) -> usize {
-    if 65536 < at {
-        return at;
+pub(crate) fn byte(x: usize) -> u8 {
+    (x % 256) as u8
+}
+
+// Puts the bytes of a part at a place; where it ends.
+fn put_part(bytes: &mut [u8], at: usize, part: &[u8]) -> usize {
+    let n = part.len();
+    let mut i = 0;
+    while i < n {
+        put_byte(bytes, plus(at, i), get_byte(part, i));
+        i += 1;
     }
-    put_byte(bytes, at, kind);
-    put_byte(bytes, at + 1, (first % 256) as u8);
-    put_byte(bytes, at + 2, (first / 256) as u8);
-    put_byte(bytes, at + 3, (second % 256) as u8);
-    put_byte(bytes, at + 4, (second / 256) as u8);
-    at + 5
+    plus(at, n)
+}
+
+fn put_record(bytes: &mut [u8], at: usize, kind: u8, first: u16, second: u16) -> usize {
+    let part = [
+        kind,
+        (first % 256) as u8,
+        (first / 256) as u8,
+        (second % 256) as u8,
+        (second / 256) as u8,
+    ];
+    put_part(bytes, at, &part)
 }
 
 pub(crate) fn put_trailer(bytes: &mut [u8], at: usize, distance: usize, begins: usize) -> usize {
-    if 65536 < at {
-        return at;
-    }
-    put_byte(bytes, at, (distance % 256) as u8);
-    put_byte(bytes, at + 1, (distance / 256 % 256) as u8);
-    put_byte(bytes, at + 2, 0);
-    put_byte(bytes, at + 3, 0);
-    put_byte(bytes, at + 4, (begins % 256) as u8);
-    put_byte(bytes, at + 5, (begins / 256 % 256) as u8);
-    put_byte(bytes, at + 6, 1);
-    put_byte(bytes, at + 7, 0xA7);
-    at + 8
+    let part = [
+        byte(distance),
+        byte(distance / 256),
+        0,
+        0,
+        byte(begins),
+        byte(begins / 256),
+        1,
+        0xA7,
+    ];
+    put_part(bytes, at, &part)
 }
 
 // Bytes of the job file.
@@ -90,33 +95,24 @@ fn put_before(bytes: &mut [u8], s: Shape) {
     let n = s.before;
     let mut i = 0;
     while i < n {
-        put_byte(bytes, i, (roll(s.seed, i, 15, 200) % 256) as u8);
+        put_byte(bytes, i, byte(roll(s.seed, i, 15, 200)));
         i += 1;
     }
 }
 
-// Event action j waits for one that has ended.
-fn put_join(bytes: &mut [u8], at: usize, s: Shape, j: usize) -> usize {
-    if j == 0 {
-        return at;
-    }
-    let other = roll(s.seed, at, 16, j);
-    put_record(bytes, at, 4, number(s, j), number(s, other))
+fn join_count(s: Shape, at: usize, j: usize) -> usize {
+    let joins = roll(s.seed, at, 17, 8) < s.joins;
+    pick(joins & (0 < j), plus(1, roll(s.seed, at, 18, 3)), 0)
 }
 
-fn join_count(s: Shape, at: usize) -> usize {
-    if roll(s.seed, at, 17, 8) < s.joins {
-        return 1 + roll(s.seed, at, 18, 3);
-    }
-    0
-}
-
+// Event action j waits for some that have ended.
 fn put_joins(bytes: &mut [u8], from: usize, s: Shape, j: usize) -> usize {
-    let n = join_count(s, from);
+    let n = join_count(s, from, j);
     let mut at = from;
     let mut i = 0;
     while i < n {
-        at = put_join(bytes, at, s, j);
+        let other = roll(s.seed, at, 16, j);
+        at = put_record(bytes, at, 4, number(s, j), number(s, other));
         i += 1;
     }
     at
@@ -127,26 +123,34 @@ fn not_begun(s: Shape, at: usize, j: usize) -> usize {
     if s.events < j {
         return s.events;
     }
-    let left = roll(
-        s.seed,
-        at,
-        19,
-        std::num::wrapping_add_usize(s.events - j, 1),
-    );
-    std::num::wrapping_add_usize(std::num::wrapping_add_usize(j, 1), left)
+    let left = roll(s.seed, at, 19, plus(s.events - j, 1));
+    plus(plus(j, 1), left)
 }
 
-// A fork, a read or a write of event action j.
-fn put_step(bytes: &mut [u8], at: usize, s: Shape, j: usize) -> usize {
-    if roll(s.seed, at, 20, 16) < s.forks {
-        let started = not_begun(s, at, j);
-        return put_record(bytes, at, 3, number(s, j), number(s, started));
+// Whether a body record is a fork; else it's a read or a write.
+fn is_fork(s: Shape, at: usize) -> bool {
+    roll(s.seed, at, 20, 16) < s.forks
+}
+
+fn body_kind(s: Shape, at: usize) -> u8 {
+    if is_fork(s, at) {
+        return 3;
     }
-    let cell = number(s, roll(s.seed, at, 21, s.cells));
     if roll(s.seed, at, 22, 16) < s.writes {
-        return put_record(bytes, at, 6, number(s, j), cell);
+        return 6;
     }
-    put_record(bytes, at, 5, number(s, j), cell)
+    5
+}
+
+fn body_second(s: Shape, at: usize, j: usize) -> u16 {
+    number(
+        s,
+        pick(
+            is_fork(s, at),
+            not_begun(s, at, j),
+            roll(s.seed, at, 21, s.cells),
+        ),
+    )
 }
 
 fn put_body(bytes: &mut [u8], from: usize, s: Shape, j: usize) -> usize {
@@ -154,7 +158,13 @@ fn put_body(bytes: &mut [u8], from: usize, s: Shape, j: usize) -> usize {
     let mut at = from;
     let mut i = 0;
     while i < n {
-        at = put_step(bytes, at, s, j);
+        at = put_record(
+            bytes,
+            at,
+            body_kind(s, at),
+            number(s, j),
+            body_second(s, at, j),
+        );
         i += 1;
     }
     at
@@ -178,17 +188,13 @@ fn put_events(bytes: &mut [u8], s: Shape) -> usize {
     at
 }
 
-// The trace of a seed, with its trailer.
+// The trace of a seed, without its trailer.
 pub(crate) fn put_trace(bytes: &mut [u8], seed: usize) -> Draft {
     let s = shape_of(seed);
     put_before(bytes, s);
     let end = put_events(bytes, s);
-    let start = s.before;
-    if start <= end {
-        put_trailer(bytes, end, end - start, s.events);
-    }
     Draft {
-        start: start,
+        start: s.before,
         end: end,
         events: s.events,
     }

@@ -1,15 +1,28 @@
 // The reader's answer by document 01's words: each record against all that stand before it.
 use crate::paths::first;
+use crate::paths::is_kind;
 use crate::paths::second;
+use crate::slots::both;
+use crate::slots::either;
 use crate::slots::get_byte;
+use crate::slots::less;
 use crate::slots::more;
+use crate::slots::pick;
+use crate::slots::plus;
 use trace::Trace;
 use trace::access;
 
 // A refusal's number and place; number 0 for an accepted trace.
 pub(crate) struct Verdict {
-    pub number: u16,
+    pub number: usize,
     pub place: usize,
+}
+
+fn found(number: usize, place: usize) -> Verdict {
+    Verdict {
+        number: number,
+        place: place,
+    }
 }
 
 fn wide(x: u8) -> usize {
@@ -18,84 +31,77 @@ fn wide(x: u8) -> usize {
 
 // Two bytes as a number, low byte first.
 fn pair(low: u8, high: u8) -> usize {
-    let x = wide(low);
     let y = wide(high);
-    if x < 256 {
-        if y < 256 {
-            return x + 256 * y;
-        }
+    if y < 256 {
+        return plus(wide(low), 256 * y);
     }
-    1000000
+    0
 }
 
-// Whether one of the first n records has the kind and the event.
-fn has(recs: &[u8], n: usize, kind: u8, event: usize) -> bool {
-    let mut j = 0;
-    while j < n {
-        if access::kind_at(recs, j) == kind && first(recs, j) == event {
-            return true;
+fn has_at(recs: &[u8], i: usize, kind: u8, event: usize) -> bool {
+    both(is_kind(recs, i, kind), first(recs, i) == event)
+}
+
+// The first of n records that has the kind and the event, or n.
+pub(crate) fn find(recs: &[u8], n: usize, kind: u8, event: usize) -> usize {
+    let mut i = 0;
+    while i < n {
+        if has_at(recs, i, kind, event) {
+            return i;
         }
-        j += 1;
+        i += 1;
     }
-    false
+    n
 }
 
 fn is_number(x: usize) -> bool {
-    0 < x && x <= 1024
+    both(0 < x, x <= 1024)
 }
 
 // "event or cell not 1 to 1,024, or second of a begin or end not 0"
-fn has_numbers(kind: u8, x: usize, y: usize) -> bool {
-    if kind < 3 {
-        return is_number(x) && y == 0;
-    }
-    is_number(x) && is_number(y)
+fn has_numbers(recs: &[u8], i: usize) -> bool {
+    let y = second(recs, i);
+    let short = access::kind_at(recs, i) < 3;
+    let right = either(both(short, y == 0), both(!short, is_number(y)));
+    both(is_number(first(recs, i)), right)
 }
 
 // Record i has its place after the record before it, which has its own: "joins (perhaps none), begin, then forks, reads and writes, then end", all with one first.
 fn has_place(recs: &[u8], i: usize) -> bool {
-    let kind = access::kind_at(recs, i);
-    let opens = kind == 1 || kind == 4;
+    let opens = either(is_kind(recs, i, 1), is_kind(recs, i, 4));
     if i == 0 {
         return opens;
     }
-    let before = access::kind_at(recs, i - 1);
     let same = first(recs, i - 1) == first(recs, i);
-    match before {
+    match access::kind_at(recs, i - 1) {
         2 => opens,
-        4 => opens && same,
-        _ => !opens && same,
+        4 => both(opens, same),
+        _ => both(!opens, same),
     }
 }
 
 // "begin or join whose first has begun already; fork whose second has begun already, itself included"
 fn has_begun(recs: &[u8], i: usize) -> bool {
     match access::kind_at(recs, i) {
-        1 | 4 => has(recs, i, 1, first(recs, i)),
-        3 => has(recs, i, 1, second(recs, i)),
+        1 | 4 => find(recs, i, 1, first(recs, i)) < i,
+        3 => find(recs, i, 1, second(recs, i)) < i,
         _ => false,
     }
 }
 
+// "join whose second has not ended"
+fn waits(recs: &[u8], i: usize) -> bool {
+    both(is_kind(recs, i, 4), i <= find(recs, i, 2, second(recs, i)))
+}
+
 // The refusal of record i, where none before it is refused; 0 for none.
-fn refusal_at(recs: &[u8], i: usize) -> u16 {
+fn refusal_at(recs: &[u8], i: usize) -> usize {
     let kind = access::kind_at(recs, i);
-    if kind == 0 || 6 < kind {
-        return 4;
-    }
-    if !has_numbers(kind, first(recs, i), second(recs, i)) {
-        return 5;
-    }
-    if !has_place(recs, i) {
-        return 6;
-    }
-    if has_begun(recs, i) {
-        return 7;
-    }
-    if kind == 4 && !has(recs, i, 2, second(recs, i)) {
-        return 8;
-    }
-    0
+    let ended = pick(waits(recs, i), 8, 0);
+    let begun = pick(has_begun(recs, i), 7, ended);
+    let place = pick(has_place(recs, i), begun, 6);
+    let numbers = pick(has_numbers(recs, i), place, 5);
+    pick(either(kind == 0, 6 < kind), 4, numbers)
 }
 
 // The first record that is refused, or as many as there are.
@@ -107,7 +113,7 @@ fn first_refused(recs: &[u8], n: usize) -> usize {
         }
         i += 1;
     }
-    i
+    n
 }
 
 // How many records are of the kind.
@@ -116,79 +122,74 @@ pub(crate) fn count_kind(recs: &[u8], kind: u8) -> usize {
     let mut found = 0;
     let mut i = 0;
     while i < n {
-        found = more(found, access::kind_at(recs, i) == kind);
+        found = more(found, is_kind(recs, i, kind));
         i += 1;
     }
     found
 }
 
-fn refused(number: u16, place: usize) -> Verdict {
-    Verdict {
-        number: number,
-        place: place,
-    }
-}
-
-// "the trace stops inside an event action or after a join"
-fn stops_inside(recs: &[u8], n: usize) -> bool {
-    if 0 < n {
-        return access::kind_at(recs, n - 1) != 2;
-    }
-    false
+// Where every record has passed: "the trace stops inside an event action or after a join", "begins differ from the trailer's number".
+fn judge_end(recs: &[u8], n: usize, begins: usize) -> Verdict {
+    let ends = either(n == 0, is_kind(recs, less(n), 2));
+    let number = pick(count_kind(recs, 1) == begins, 0, 10);
+    found(pick(ends, number, 9), pick(ends, 0, n))
 }
 
 fn judge_records(recs: &[u8], begins: usize) -> Verdict {
     let n = access::count(recs);
     let i = first_refused(recs, n);
     if i < n {
-        return refused(refusal_at(recs, i), i + 1);
+        return found(refusal_at(recs, i), plus(i, 1));
     }
-    if stops_inside(recs, n) {
-        return refused(9, n);
-    }
-    if count_kind(recs, 1) != begins {
-        return refused(10, 0);
-    }
-    refused(0, 0)
+    judge_end(recs, n, begins)
 }
 
 fn byte_after(bytes: &[u8], at: usize, i: usize) -> u8 {
-    get_byte(bytes, std::num::wrapping_add_usize(at, i))
+    get_byte(bytes, plus(at, i))
+}
+
+fn pair_after(bytes: &[u8], at: usize, i: usize) -> usize {
+    pair(byte_after(bytes, at, i), byte_after(bytes, at, plus(i, 1)))
 }
 
 // The distance in the trailer at `at`; any that has more than two bytes is above 20,480.
 fn distance(bytes: &[u8], at: usize) -> usize {
-    if byte_after(bytes, at, 2) != 0 || byte_after(bytes, at, 3) != 0 {
-        return 1000000;
+    let high = pair_after(bytes, at, 2);
+    pick(high == 0, pair_after(bytes, at, 0), 1000000)
+}
+
+// The refusal of the trailer at `at`, with the distance d; 0 for none.
+fn trailer_refusal(bytes: &[u8], at: usize, d: usize) -> usize {
+    let long = either(20480 < d, at < d);
+    let reach = pick(either(d % 5 != 0, long), 3, 0);
+    let edition = pick(byte_after(bytes, at, 6) == 1, reach, 2);
+    pick(byte_after(bytes, at, 7) == 0xA7, edition, 1)
+}
+
+// The records that stand before the trailer at `at`, as far back as d.
+fn judge_before(bytes: &[u8], at: usize, d: usize) -> Verdict {
+    if at < d {
+        return found(3, 0);
     }
-    pair(byte_after(bytes, at, 0), byte_after(bytes, at, 1))
+    let t = Trace {
+        start: at - d,
+        records: d / 5,
+        events: 0,
+    };
+    judge_records(access::records(bytes, t), pair_after(bytes, at, 4))
 }
 
 // The trailer first, then each record in turn, then the end.
 pub(crate) fn judge(bytes: &[u8]) -> Verdict {
     let n = bytes.len();
     if n < 8 {
-        return refused(1, 0);
+        return found(1, 0);
     }
-    let end = n - 8;
-    if byte_after(bytes, end, 7) != 0xA7 {
-        return refused(1, 0);
+    let at = n - 8;
+    let d = distance(bytes, at);
+    let number = trailer_refusal(bytes, at, d);
+    if number != 0 {
+        return found(number, 0);
     }
-    if byte_after(bytes, end, 6) != 1 {
-        return refused(2, 0);
-    }
-    let d = distance(bytes, end);
-    if d % 5 != 0 || 20480 < d {
-        return refused(3, 0);
-    }
-    if end < d {
-        return refused(3, 0);
-    }
-    let t = Trace {
-        start: end - d,
-        records: d / 5,
-        events: 0,
-    };
-    let begins = pair(byte_after(bytes, end, 4), byte_after(bytes, end, 5));
-    judge_records(access::records(bytes, t), begins)
+    judge_before(bytes, at, d)
 }

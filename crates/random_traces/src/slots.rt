@@ -1,6 +1,9 @@
-// Reads and stores at any index: past the end a read gives 0 and a store does nothing.
+// Reads and stores at any index: past the end a read gives 0 and a store does nothing. Small sums that never wrap.
 
-fn wide(x: u16) -> usize {
+// An index past the end of every slice.
+pub(crate) const NOWHERE: usize = 1000000;
+
+pub(crate) fn wide(x: u16) -> usize {
     x as usize
 }
 
@@ -25,12 +28,6 @@ pub(crate) fn put(s: &mut [u16], i: usize, x: usize) {
     }
 }
 
-pub(crate) fn put_if(s: &mut [u16], yes: bool, i: usize, x: usize) {
-    if yes {
-        put(s, i, x);
-    }
-}
-
 pub(crate) fn get_byte(s: &[u8], i: usize) -> u8 {
     if i < s.len() {
         return s[i];
@@ -44,22 +41,33 @@ pub(crate) fn put_byte(s: &mut [u8], i: usize, b: u8) {
     }
 }
 
-// Entry u of row t in a table of rows of 32.
-pub(crate) fn slot(t: usize, u: usize) -> usize {
-    if t < 2048 {
-        if u < 32 {
-            return 32 * t + u;
-        }
+pub(crate) fn plus(a: usize, b: usize) -> usize {
+    std::num::wrapping_add_usize(a, b)
+}
+
+pub(crate) fn less(n: usize) -> usize {
+    if 0 < n {
+        return n - 1;
     }
-    65535
+    0
+}
+
+pub(crate) fn pick(yes: bool, x: usize, y: usize) -> usize {
+    if yes {
+        return x;
+    }
+    y
 }
 
 // n, and 1 more where it is so.
 pub(crate) fn more(n: usize, yes: bool) -> usize {
-    if yes {
-        if n < 1000000000 {
-            return n + 1;
-        }
-    }
-    n
+    plus(n, pick(yes, 1, 0))
+}
+
+pub(crate) fn both(a: bool, b: bool) -> bool {
+    a & b
+}
+
+pub(crate) fn either(a: bool, b: bool) -> bool {
+    a | b
 }

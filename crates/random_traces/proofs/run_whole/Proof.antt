@@ -1,14 +1,13 @@
 -- `random_traces::run_whole` meets its contract.
 -- Assumes nothing.
 use borrow.Author.Needs.{needs}
-use Prim.Native.Nat.{_-_}
-use lib.ListN.{length}
-use mathlib.Core.Path.{_≡_}
+use Prim.Native.Nat.{_≤_, _-_}
 use Rattle.random_traces.proofs.run_whole.Statement.{statement}
 use Rattle.random_traces.proofs.run_whole.Tie as tie
+use Rattle.random_traces.proofs.cases.whole.Reads as whole-reads
 
 abbrev Inv-loop : tie.InvT-loop
-Inv-loop tally₀ seed₀ tally seed = length tally ≡ length tally₀
+Inv-loop tally₀ seed₀ tally seed = seed₀ ≤ seed
 
 abbrev μ-loop : tie.MeasureT-loop
 μ-loop tally₀ seed₀ tally seed = 2000 - seed
@@ -28,22 +27,10 @@ loop-less c = search needs
 loop-again : tie.Need-loop-again Inv-loop μ-loop
 loop-again c = search needs
 
-same-length : tie.Need-same-length Inv-loop μ-loop
-same-length c = search needs
-
 returns : tie.Need-returns Inv-loop μ-loop
 returns c = search needs
 
 pub run-whole-spec : {M : Type 1} → statement M
 run-whole-spec =
     tie.close
-    (tie.spec
-    Inv-loop
-    μ-loop
-    loop-holds
-    whole-requires
-    add-seed
-    loop-less
-    loop-again
-    same-length
-    returns)
+    (tie.spec Inv-loop μ-loop loop-holds whole-requires add-seed loop-less loop-again returns)

@@ -4,21 +4,19 @@ use borrow.Author.Needs.{needs}
 use Prim.Native.Nat.{_≤_, _-_}
 use Rattle.random_traces.proofs.chains.choose.Statement.{statement}
 use Rattle.random_traces.proofs.chains.choose.Tie as tie
+use Rattle.random_traces.proofs.chains.is_free.Reads as is-free-reads
 
 abbrev Inv-loop : tie.InvT-loop
-Inv-loop last reach chains u c₀ c = c₀ ≤ c
+Inv-loop table chains u c₀ c = c₀ ≤ c
 
 abbrev μ-loop : tie.MeasureT-loop
-μ-loop last reach chains u c₀ c = chains - c
+μ-loop table chains u c₀ c = chains - c
 
 loop-holds : tie.Need-loop-holds Inv-loop μ-loop
 loop-holds c = search needs
 
-get-requires : tie.Need-get-requires Inv-loop μ-loop
-get-requires c κs = search needs
-
-reaches-requires : tie.Need-reaches-requires Inv-loop μ-loop
-reaches-requires c κs = search needs
+is-free-requires : tie.Need-is-free-requires Inv-loop μ-loop
+is-free-requires c κs = search needs
 
 returns : tie.Need-returns Inv-loop μ-loop
 returns c = search needs
@@ -42,8 +40,7 @@ choose-spec =
     Inv-loop
     μ-loop
     loop-holds
-    get-requires
-    reaches-requires
+    is-free-requires
     returns
     add-c
     loop-less

@@ -4,12 +4,13 @@ use borrow.Author.Needs.{needs}
 use Prim.Native.Nat.{_≤_, _-_}
 use Rattle.random_traces.proofs.chains.first_on.Statement.{statement}
 use Rattle.random_traces.proofs.chains.first_on.Tie as tie
+use Rattle.random_traces.proofs.paths.chain_of.Reads as chain-of-reads
 
 abbrev Inv-loop : tie.InvT-loop
-Inv-loop events count chain t₀ t = t₀ ≤ t
+Inv-loop table count chain t₀ t = t₀ ≤ t
 
 abbrev μ-loop : tie.MeasureT-loop
-μ-loop events count chain t₀ t = count - t
+μ-loop table count chain t₀ t = count - t
 
 loop-holds : tie.Need-loop-holds Inv-loop μ-loop
 loop-holds c = search needs

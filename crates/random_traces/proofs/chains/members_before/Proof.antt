@@ -4,12 +4,16 @@ use borrow.Author.Needs.{needs}
 use Prim.Native.Nat.{_≤_, _-_}
 use Rattle.random_traces.proofs.chains.members_before.Statement.{statement}
 use Rattle.random_traces.proofs.chains.members_before.Tie as tie
+use Rattle.random_traces.proofs.paths.chain_of.Reads as chain-of-reads
+use Rattle.random_traces.proofs.paths.reaches.Reads as reaches-reads
+use Rattle.random_traces.proofs.slots.both.Reads as both-reads
+use Rattle.random_traces.proofs.slots.more.Reads as more-reads
 
 abbrev Inv-loop : tie.InvT-loop
-Inv-loop events count reach u chain found₀ t₀ found t = t₀ ≤ t
+Inv-loop table count u chain found₀ t₀ found t = t₀ ≤ t
 
 abbrev μ-loop : tie.MeasureT-loop
-μ-loop events count reach u chain found₀ t₀ found t = count - t
+μ-loop table count u chain found₀ t₀ found t = count - t
 
 loop-holds : tie.Need-loop-holds Inv-loop μ-loop
 loop-holds c = search needs
@@ -19,6 +23,9 @@ chain-of-requires c κs = search needs
 
 reaches-requires : tie.Need-reaches-requires Inv-loop μ-loop
 reaches-requires c κs = search needs
+
+both-requires : tie.Need-both-requires Inv-loop μ-loop
+both-requires c κs = search needs
 
 more-requires : tie.Need-more-requires Inv-loop μ-loop
 more-requires c κs = search needs
@@ -44,6 +51,7 @@ members-before-spec =
     loop-holds
     chain-of-requires
     reaches-requires
+    both-requires
     more-requires
     add-t
     loop-less

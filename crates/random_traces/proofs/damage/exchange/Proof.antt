@@ -6,6 +6,9 @@ use lib.ListN.{length}
 use mathlib.Core.Path.{_≡_}
 use Rattle.random_traces.proofs.damage.exchange.Statement.{statement}
 use Rattle.random_traces.proofs.damage.exchange.Tie as tie
+use Rattle.random_traces.proofs.slots.get_byte.Reads as get-byte-reads
+use Rattle.random_traces.proofs.slots.plus.Reads as plus-reads
+use Rattle.random_traces.proofs.slots.put_byte.Reads as put-byte-reads
 
 abbrev Inv-loop : tie.InvT-loop
 Inv-loop bytes₀ p q i₀ bytes i = length bytes ≡ length bytes₀
@@ -16,20 +19,26 @@ abbrev μ-loop : tie.MeasureT-loop
 loop-holds : tie.Need-loop-holds Inv-loop μ-loop
 loop-holds c = search needs
 
-wrapping-add-usize-requires : tie.Need-wrapping-add-usize-requires Inv-loop μ-loop
-wrapping-add-usize-requires c κs = search needs
-
-wrapping-add-usize-requires-2 : tie.Need-wrapping-add-usize-requires-2 Inv-loop μ-loop
-wrapping-add-usize-requires-2 c κs = search needs
+plus-requires : tie.Need-plus-requires Inv-loop μ-loop
+plus-requires c κs = search needs
 
 get-byte-requires : tie.Need-get-byte-requires Inv-loop μ-loop
 get-byte-requires c κs = search needs
 
+plus-requires-2 : tie.Need-plus-requires-2 Inv-loop μ-loop
+plus-requires-2 c κs = search needs
+
 get-byte-requires-2 : tie.Need-get-byte-requires-2 Inv-loop μ-loop
 get-byte-requires-2 c κs = search needs
 
+plus-requires-3 : tie.Need-plus-requires-3 Inv-loop μ-loop
+plus-requires-3 c κs = search needs
+
 put-byte-requires : tie.Need-put-byte-requires Inv-loop μ-loop
 put-byte-requires c κs = search needs
+
+plus-requires-4 : tie.Need-plus-requires-4 Inv-loop μ-loop
+plus-requires-4 c κs = search needs
 
 put-byte-requires-2 : tie.Need-put-byte-requires-2 Inv-loop μ-loop
 put-byte-requires-2 c κs = search needs
@@ -56,11 +65,13 @@ exchange-spec =
     Inv-loop
     μ-loop
     loop-holds
-    wrapping-add-usize-requires
-    wrapping-add-usize-requires-2
+    plus-requires
     get-byte-requires
+    plus-requires-2
     get-byte-requires-2
+    plus-requires-3
     put-byte-requires
+    plus-requires-4
     put-byte-requires-2
     add-i
     loop-less

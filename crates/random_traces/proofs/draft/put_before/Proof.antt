@@ -6,6 +6,9 @@ use lib.ListN.{length}
 use mathlib.Core.Path.{_≡_}
 use Rattle.random_traces.proofs.draft.put_before.Statement.{statement}
 use Rattle.random_traces.proofs.draft.put_before.Tie as tie
+use Rattle.random_traces.proofs.chance.roll.Reads as roll-reads
+use Rattle.random_traces.proofs.draft.byte.Reads as byte-reads
+use Rattle.random_traces.proofs.slots.put_byte.Reads as put-byte-reads
 
 abbrev Inv-loop : tie.InvT-loop
 Inv-loop bytes₀ s n i₀ bytes i = length bytes ≡ length bytes₀
@@ -19,8 +22,8 @@ loop-holds c = search needs
 roll-requires : tie.Need-roll-requires Inv-loop μ-loop
 roll-requires c κs = search needs
 
-cast-put-byte : tie.Need-cast-put-byte Inv-loop μ-loop
-cast-put-byte c = search needs
+byte-requires : tie.Need-byte-requires Inv-loop μ-loop
+byte-requires c κs = search needs
 
 put-byte-requires : tie.Need-put-byte-requires Inv-loop μ-loop
 put-byte-requires c κs = search needs
@@ -48,7 +51,7 @@ put-before-spec =
     μ-loop
     loop-holds
     roll-requires
-    cast-put-byte
+    byte-requires
     put-byte-requires
     add-i
     loop-less

@@ -6,6 +6,11 @@ use lib.ListN.{length}
 use mathlib.Core.Path.{_≡_}
 use Rattle.random_traces.proofs.draft.put_body.Statement.{statement}
 use Rattle.random_traces.proofs.draft.put_body.Tie as tie
+use Rattle.random_traces.proofs.chance.roll.Reads as roll-reads
+use Rattle.random_traces.proofs.draft.body_kind.Reads as body-kind-reads
+use Rattle.random_traces.proofs.draft.body_second.Reads as body-second-reads
+use Rattle.random_traces.proofs.draft.number.Reads as number-reads
+use Rattle.random_traces.proofs.draft.put_record.Reads as put-record-reads
 
 abbrev Inv-loop : tie.InvT-loop
 Inv-loop bytes₀ from s j n at₀ i₀ bytes at i = length bytes ≡ length bytes₀
@@ -19,8 +24,17 @@ roll-requires c κs = search needs
 loop-holds : tie.Need-loop-holds Inv-loop μ-loop
 loop-holds c = search needs
 
-put-step-requires : tie.Need-put-step-requires Inv-loop μ-loop
-put-step-requires c κs = search needs
+body-kind-requires : tie.Need-body-kind-requires Inv-loop μ-loop
+body-kind-requires c κs = search needs
+
+number-requires : tie.Need-number-requires Inv-loop μ-loop
+number-requires c κs = search needs
+
+body-second-requires : tie.Need-body-second-requires Inv-loop μ-loop
+body-second-requires c κs = search needs
+
+put-record-requires : tie.Need-put-record-requires Inv-loop μ-loop
+put-record-requires c κs = search needs
 
 add-i : tie.Need-add-i Inv-loop μ-loop
 add-i c = search needs
@@ -45,7 +59,10 @@ put-body-spec =
     μ-loop
     roll-requires
     loop-holds
-    put-step-requires
+    body-kind-requires
+    number-requires
+    body-second-requires
+    put-record-requires
     add-i
     loop-less
     loop-again

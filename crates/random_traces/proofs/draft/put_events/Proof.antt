@@ -6,6 +6,7 @@ use lib.ListN.{length}
 use mathlib.Core.Path.{_≡_}
 use Rattle.random_traces.proofs.draft.put_events.Statement.{statement}
 use Rattle.random_traces.proofs.draft.put_events.Tie as tie
+use Rattle.random_traces.proofs.draft.put_event.Reads as put-event-reads
 
 abbrev Inv-loop : tie.InvT-loop
 Inv-loop bytes₀ s n at₀ j₀ bytes at j = length bytes ≡ length bytes₀

@@ -6,6 +6,10 @@ use lib.ListN.{length}
 use mathlib.Core.Path.{_≡_}
 use Rattle.random_traces.proofs.draft.put_joins.Statement.{statement}
 use Rattle.random_traces.proofs.draft.put_joins.Tie as tie
+use Rattle.random_traces.proofs.chance.roll.Reads as roll-reads
+use Rattle.random_traces.proofs.draft.join_count.Reads as join-count-reads
+use Rattle.random_traces.proofs.draft.number.Reads as number-reads
+use Rattle.random_traces.proofs.draft.put_record.Reads as put-record-reads
 
 abbrev Inv-loop : tie.InvT-loop
 Inv-loop bytes₀ from s j n at₀ i₀ bytes at i = length bytes ≡ length bytes₀
@@ -19,8 +23,17 @@ join-count-requires c κs = search needs
 loop-holds : tie.Need-loop-holds Inv-loop μ-loop
 loop-holds c = search needs
 
-put-join-requires : tie.Need-put-join-requires Inv-loop μ-loop
-put-join-requires c κs = search needs
+roll-requires : tie.Need-roll-requires Inv-loop μ-loop
+roll-requires c κs = search needs
+
+number-requires : tie.Need-number-requires Inv-loop μ-loop
+number-requires c κs = search needs
+
+number-requires-2 : tie.Need-number-requires-2 Inv-loop μ-loop
+number-requires-2 c κs = search needs
+
+put-record-requires : tie.Need-put-record-requires Inv-loop μ-loop
+put-record-requires c κs = search needs
 
 add-i : tie.Need-add-i Inv-loop μ-loop
 add-i c = search needs
@@ -45,7 +58,10 @@ put-joins-spec =
     μ-loop
     join-count-requires
     loop-holds
-    put-join-requires
+    roll-requires
+    number-requires
+    number-requires-2
+    put-record-requires
     add-i
     loop-less
     loop-again

@@ -4,6 +4,9 @@ use borrow.Author.Needs.{needs}
 use Prim.Native.Nat.{_≤_, _-_}
 use Rattle.random_traces.proofs.judge.count_kind.Statement.{statement}
 use Rattle.random_traces.proofs.judge.count_kind.Tie as tie
+use Rattle.random_traces.proofs.paths.is_kind.Reads as is-kind-reads
+use Rattle.random_traces.proofs.slots.more.Reads as more-reads
+use Rattle.trace.proofs.access.count.Reads as count-reads
 
 abbrev Inv-loop : tie.InvT-loop
 Inv-loop recs kind n found₀ i₀ found i = i₀ ≤ i
@@ -17,8 +20,8 @@ count-requires c κs = search needs
 loop-holds : tie.Need-loop-holds Inv-loop μ-loop
 loop-holds c = search needs
 
-kind-at-requires : tie.Need-kind-at-requires Inv-loop μ-loop
-kind-at-requires c κs = search needs
+is-kind-requires : tie.Need-is-kind-requires Inv-loop μ-loop
+is-kind-requires c κs = search needs
 
 more-requires : tie.Need-more-requires Inv-loop μ-loop
 more-requires c κs = search needs
@@ -43,7 +46,7 @@ count-kind-spec =
     μ-loop
     count-requires
     loop-holds
-    kind-at-requires
+    is-kind-requires
     more-requires
     add-i
     loop-less

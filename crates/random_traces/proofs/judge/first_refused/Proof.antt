@@ -4,6 +4,7 @@ use borrow.Author.Needs.{needs}
 use Prim.Native.Nat.{_≤_, _-_}
 use Rattle.random_traces.proofs.judge.first_refused.Statement.{statement}
 use Rattle.random_traces.proofs.judge.first_refused.Tie as tie
+use Rattle.random_traces.proofs.judge.refusal_at.Reads as refusal-at-reads
 
 abbrev Inv-loop : tie.InvT-loop
 Inv-loop recs n i₀ i = i₀ ≤ i

@@ -1,20 +1,23 @@
 -- `random_traces::order_cases::compare_questions` meets its contract.
 -- Assumes nothing.
 use borrow.Author.Needs.{needs}
-use Prim.Native.Nat.{_-_}
-use lib.ListN.{length}
-use mathlib.Core.Path.{_≡_}
+use Prim.Native.Nat.{_≤_, _-_}
 use Rattle.random_traces.proofs.order_cases.compare_questions.Statement.{statement}
 use Rattle.random_traces.proofs.order_cases.compare_questions.Tie as tie
+use Rattle.random_traces.proofs.order_cases.compare_question.Reads as compare-question-reads
+use Rattle.random_traces.proofs.slots.both.Reads as both-reads
 
 abbrev Inv-loop : tie.InvT-loop
-Inv-loop bytes events count reach width clocks tally₀ x₀ tally x = length tally ≡ length tally₀
+Inv-loop bytes table k clocks tally₀ x₀ tally x = x₀ ≤ x
 
 abbrev μ-loop : tie.MeasureT-loop
-μ-loop bytes events count reach width clocks tally₀ x₀ tally x = 1024 - x
+μ-loop bytes table k clocks tally₀ x₀ tally x = 1024 - x
 
 loop-holds : tie.Need-loop-holds Inv-loop μ-loop
 loop-holds c = search needs
+
+both-requires : tie.Need-both-requires Inv-loop μ-loop
+both-requires c κs = search needs
 
 compare-question-requires : tie.Need-compare-question-requires Inv-loop μ-loop
 compare-question-requires c κs = search needs
@@ -28,9 +31,6 @@ loop-less c = search needs
 loop-again : tie.Need-loop-again Inv-loop μ-loop
 loop-again c = search needs
 
-same-length : tie.Need-same-length Inv-loop μ-loop
-same-length c = search needs
-
 returns : tie.Need-returns Inv-loop μ-loop
 returns c = search needs
 
@@ -41,9 +41,9 @@ compare-questions-spec =
     Inv-loop
     μ-loop
     loop-holds
+    both-requires
     compare-question-requires
     add-x
     loop-less
     loop-again
-    same-length
     returns)

@@ -6,24 +6,23 @@ use lib.ListN.{length}
 use mathlib.Core.Path.{_≡_}
 use Rattle.random_traces.proofs.paths.close.Statement.{statement}
 use Rattle.random_traces.proofs.paths.close.Tie as tie
+use Rattle.random_traces.proofs.paths.through.Reads as through-reads
+use Rattle.random_traces.proofs.slots.put.Reads as put-reads
 
 abbrev Inv-loop : tie.InvT-loop
-Inv-loop reach₀ x₀ reach x = length reach ≡ length reach₀
+Inv-loop table₀ x₀ table x = length table ≡ length table₀
 
 abbrev μ-loop : tie.MeasureT-loop
-μ-loop reach₀ x₀ reach x = 32768 - x
+μ-loop table₀ x₀ table x = 32768 - x
 
 loop-holds : tie.Need-loop-holds Inv-loop μ-loop
 loop-holds c = search needs
 
-leads-through-requires : tie.Need-leads-through-requires Inv-loop μ-loop
-leads-through-requires c κs = search needs
+through-requires : tie.Need-through-requires Inv-loop μ-loop
+through-requires c κs = search needs
 
-slot-requires : tie.Need-slot-requires Inv-loop μ-loop
-slot-requires c κs = search needs
-
-put-if-requires : tie.Need-put-if-requires Inv-loop μ-loop
-put-if-requires c κs = search needs
+put-requires : tie.Need-put-requires Inv-loop μ-loop
+put-requires c κs = search needs
 
 add-x : tie.Need-add-x Inv-loop μ-loop
 add-x c = search needs
@@ -47,9 +46,8 @@ close-spec =
     Inv-loop
     μ-loop
     loop-holds
-    leads-through-requires
-    slot-requires
-    put-if-requires
+    through-requires
+    put-requires
     add-x
     loop-less
     loop-again

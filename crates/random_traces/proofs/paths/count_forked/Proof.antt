@@ -4,12 +4,18 @@ use borrow.Author.Needs.{needs}
 use Prim.Native.Nat.{_≤_, _-_}
 use Rattle.random_traces.proofs.paths.count_forked.Statement.{statement}
 use Rattle.random_traces.proofs.paths.count_forked.Tie as tie
+use Rattle.random_traces.proofs.paths.is_kind.Reads as is-kind-reads
+use Rattle.random_traces.proofs.paths.rank.Reads as rank-reads
+use Rattle.random_traces.proofs.paths.second.Reads as second-reads
+use Rattle.random_traces.proofs.slots.both.Reads as both-reads
+use Rattle.random_traces.proofs.slots.more.Reads as more-reads
+use Rattle.trace.proofs.access.count.Reads as count-reads
 
 abbrev Inv-loop : tie.InvT-loop
-Inv-loop recs events count n found₀ i₀ found i = i₀ ≤ i
+Inv-loop recs table count n found₀ i₀ found i = i₀ ≤ i
 
 abbrev μ-loop : tie.MeasureT-loop
-μ-loop recs events count n found₀ i₀ found i = n - i
+μ-loop recs table count n found₀ i₀ found i = n - i
 
 count-requires : tie.Need-count-requires Inv-loop μ-loop
 count-requires c κs = search needs
@@ -23,8 +29,8 @@ second-requires c κs = search needs
 rank-requires : tie.Need-rank-requires Inv-loop μ-loop
 rank-requires c κs = search needs
 
-kind-at-requires : tie.Need-kind-at-requires Inv-loop μ-loop
-kind-at-requires c κs = search needs
+is-kind-requires : tie.Need-is-kind-requires Inv-loop μ-loop
+is-kind-requires c κs = search needs
 
 both-requires : tie.Need-both-requires Inv-loop μ-loop
 both-requires c κs = search needs
@@ -54,7 +60,7 @@ count-forked-spec =
     loop-holds
     second-requires
     rank-requires
-    kind-at-requires
+    is-kind-requires
     both-requires
     more-requires
     add-i

@@ -6,12 +6,17 @@ use lib.ListN.{length}
 use mathlib.Core.Path.{_≡_}
 use Rattle.random_traces.proofs.paths.find_actions.Statement.{statement}
 use Rattle.random_traces.proofs.paths.find_actions.Tie as tie
+use Rattle.random_traces.proofs.paths.first.Reads as first-reads
+use Rattle.random_traces.proofs.paths.rank.Reads as rank-reads
+use Rattle.random_traces.proofs.paths.slot.Reads as slot-reads
+use Rattle.random_traces.proofs.slots.put.Reads as put-reads
+use Rattle.trace.proofs.access.count.Reads as count-reads
 
 abbrev Inv-loop : tie.InvT-loop
-Inv-loop recs events₀ count ev₀ n i₀ events ev i = (length events ≡ length events₀) × (length ev ≡ length ev₀)
+Inv-loop recs count table₀ n i₀ table i = length table ≡ length table₀
 
 abbrev μ-loop : tie.MeasureT-loop
-μ-loop recs events₀ count ev₀ n i₀ events ev i = n - i
+μ-loop recs count table₀ n i₀ table i = n - i
 
 count-requires : tie.Need-count-requires Inv-loop μ-loop
 count-requires c κs = search needs
@@ -25,20 +30,11 @@ first-requires c κs = search needs
 rank-requires : tie.Need-rank-requires Inv-loop μ-loop
 rank-requires c κs = search needs
 
-put-requires : tie.Need-put-requires Inv-loop μ-loop
-put-requires c κs = search needs
-
-kind-at-requires : tie.Need-kind-at-requires Inv-loop μ-loop
-kind-at-requires c κs = search needs
-
 slot-requires : tie.Need-slot-requires Inv-loop μ-loop
 slot-requires c κs = search needs
 
-add-put-if : tie.Need-add-put-if Inv-loop μ-loop
-add-put-if c = search needs
-
-put-if-requires : tie.Need-put-if-requires Inv-loop μ-loop
-put-if-requires c κs = search needs
+put-requires : tie.Need-put-requires Inv-loop μ-loop
+put-requires c κs = search needs
 
 add-i : tie.Need-add-i Inv-loop μ-loop
 add-i c = search needs
@@ -51,9 +47,6 @@ loop-again c = search needs
 
 same-length : tie.Need-same-length Inv-loop μ-loop
 same-length c = search needs
-
-same-length-2 : tie.Need-same-length-2 Inv-loop μ-loop
-same-length-2 c = search needs
 
 returns : tie.Need-returns Inv-loop μ-loop
 returns c = search needs
@@ -68,14 +61,10 @@ find-actions-spec =
     loop-holds
     first-requires
     rank-requires
-    put-requires
-    kind-at-requires
     slot-requires
-    add-put-if
-    put-if-requires
+    put-requires
     add-i
     loop-less
     loop-again
     same-length
-    same-length-2
     returns)

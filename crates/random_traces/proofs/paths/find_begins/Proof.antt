@@ -6,12 +6,19 @@ use lib.ListN.{length}
 use mathlib.Core.Path.{_≡_}
 use Rattle.random_traces.proofs.paths.find_begins.Statement.{statement}
 use Rattle.random_traces.proofs.paths.find_begins.Tie as tie
+use Rattle.random_traces.proofs.paths.first.Reads as first-reads
+use Rattle.random_traces.proofs.paths.is_kind.Reads as is-kind-reads
+use Rattle.random_traces.proofs.paths.slot.Reads as slot-reads
+use Rattle.random_traces.proofs.slots.more.Reads as more-reads
+use Rattle.random_traces.proofs.slots.pick.Reads as pick-reads
+use Rattle.random_traces.proofs.slots.put.Reads as put-reads
+use Rattle.trace.proofs.access.count.Reads as count-reads
 
 abbrev Inv-loop : tie.InvT-loop
-Inv-loop recs events₀ n found₀ i₀ events found i = length events ≡ length events₀
+Inv-loop recs table₀ n found₀ i₀ table found i = length table ≡ length table₀
 
 abbrev μ-loop : tie.MeasureT-loop
-μ-loop recs events₀ n found₀ i₀ events found i = n - i
+μ-loop recs table₀ n found₀ i₀ table found i = n - i
 
 count-requires : tie.Need-count-requires Inv-loop μ-loop
 count-requires c κs = search needs
@@ -19,26 +26,20 @@ count-requires c κs = search needs
 loop-holds : tie.Need-loop-holds Inv-loop μ-loop
 loop-holds c = search needs
 
-kind-at-requires : tie.Need-kind-at-requires Inv-loop μ-loop
-kind-at-requires c κs = search needs
+is-kind-requires : tie.Need-is-kind-requires Inv-loop μ-loop
+is-kind-requires c κs = search needs
 
 slot-requires : tie.Need-slot-requires Inv-loop μ-loop
 slot-requires c κs = search needs
 
+pick-requires : tie.Need-pick-requires Inv-loop μ-loop
+pick-requires c κs = search needs
+
 first-requires : tie.Need-first-requires Inv-loop μ-loop
 first-requires c κs = search needs
 
-put-if-requires : tie.Need-put-if-requires Inv-loop μ-loop
-put-if-requires c κs = search needs
-
-slot-requires-2 : tie.Need-slot-requires-2 Inv-loop μ-loop
-slot-requires-2 c κs = search needs
-
-add-put-if : tie.Need-add-put-if Inv-loop μ-loop
-add-put-if c = search needs
-
-put-if-requires-2 : tie.Need-put-if-requires-2 Inv-loop μ-loop
-put-if-requires-2 c κs = search needs
+put-requires : tie.Need-put-requires Inv-loop μ-loop
+put-requires c κs = search needs
 
 more-requires : tie.Need-more-requires Inv-loop μ-loop
 more-requires c κs = search needs
@@ -66,13 +67,11 @@ find-begins-spec =
     μ-loop
     count-requires
     loop-holds
-    kind-at-requires
+    is-kind-requires
     slot-requires
+    pick-requires
     first-requires
-    put-if-requires
-    slot-requires-2
-    add-put-if
-    put-if-requires-2
+    put-requires
     more-requires
     add-i
     loop-less

@@ -6,12 +6,15 @@ use lib.ListN.{length}
 use mathlib.Core.Path.{_≡_}
 use Rattle.random_traces.proofs.paths.find_links.Statement.{statement}
 use Rattle.random_traces.proofs.paths.find_links.Tie as tie
+use Rattle.random_traces.proofs.paths.link_slot.Reads as link-slot-reads
+use Rattle.random_traces.proofs.slots.put.Reads as put-reads
+use Rattle.trace.proofs.access.count.Reads as count-reads
 
 abbrev Inv-loop : tie.InvT-loop
-Inv-loop recs events count reach₀ n i₀ reach i = length reach ≡ length reach₀
+Inv-loop recs count table₀ n i₀ table i = length table ≡ length table₀
 
 abbrev μ-loop : tie.MeasureT-loop
-μ-loop recs events count reach₀ n i₀ reach i = n - i
+μ-loop recs count table₀ n i₀ table i = n - i
 
 count-requires : tie.Need-count-requires Inv-loop μ-loop
 count-requires c κs = search needs
@@ -19,8 +22,11 @@ count-requires c κs = search needs
 loop-holds : tie.Need-loop-holds Inv-loop μ-loop
 loop-holds c = search needs
 
-link-requires : tie.Need-link-requires Inv-loop μ-loop
-link-requires c κs = search needs
+link-slot-requires : tie.Need-link-slot-requires Inv-loop μ-loop
+link-slot-requires c κs = search needs
+
+put-requires : tie.Need-put-requires Inv-loop μ-loop
+put-requires c κs = search needs
 
 add-i : tie.Need-add-i Inv-loop μ-loop
 add-i c = search needs
@@ -45,7 +51,8 @@ find-links-spec =
     μ-loop
     count-requires
     loop-holds
-    link-requires
+    link-slot-requires
+    put-requires
     add-i
     loop-less
     loop-again

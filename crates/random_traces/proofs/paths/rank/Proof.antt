@@ -4,12 +4,13 @@ use borrow.Author.Needs.{needs}
 use Prim.Native.Nat.{_≤_, _-_}
 use Rattle.random_traces.proofs.paths.rank.Statement.{statement}
 use Rattle.random_traces.proofs.paths.rank.Tie as tie
+use Rattle.random_traces.proofs.paths.number_of.Reads as number-of-reads
 
 abbrev Inv-loop : tie.InvT-loop
-Inv-loop events count event t₀ t = t₀ ≤ t
+Inv-loop table count event t₀ t = t₀ ≤ t
 
 abbrev μ-loop : tie.MeasureT-loop
-μ-loop events count event t₀ t = count - t
+μ-loop table count event t₀ t = count - t
 
 loop-holds : tie.Need-loop-holds Inv-loop μ-loop
 loop-holds c = search needs

@@ -1,0 +1,49 @@
+-- `random_traces::cases::compare_lists` meets its contract.
+-- Assumes nothing.
+use borrow.Author.Needs.{needs}
+use Prim.Native.Nat.{_≤_, _-_}
+use Rattle.random_traces.proofs.cases.compare_lists.Statement.{statement}
+use Rattle.random_traces.proofs.cases.compare_lists.Tie as tie
+use Rattle.random_traces.proofs.cases.compare_case.Reads as compare-case-reads
+use Rattle.random_traces.proofs.expectations.accepted.Reads as accepted-reads
+
+abbrev Inv-loop : tie.InvT-loop
+Inv-loop bytes recs table k tally₀ call₀ tally call = call₀ ≤ call
+
+abbrev μ-loop : tie.MeasureT-loop
+μ-loop bytes recs table k tally₀ call₀ tally call = 3 - call
+
+loop-holds : tie.Need-loop-holds Inv-loop μ-loop
+loop-holds c = search needs
+
+accepted-requires : tie.Need-accepted-requires Inv-loop μ-loop
+accepted-requires c κs = search needs
+
+compare-case-requires : tie.Need-compare-case-requires Inv-loop μ-loop
+compare-case-requires c κs = search needs
+
+add-call : tie.Need-add-call Inv-loop μ-loop
+add-call c = search needs
+
+loop-less : tie.Need-loop-less Inv-loop μ-loop
+loop-less c = search needs
+
+loop-again : tie.Need-loop-again Inv-loop μ-loop
+loop-again c = search needs
+
+returns : tie.Need-returns Inv-loop μ-loop
+returns c = search needs
+
+pub compare-lists-spec : {M : Type 1} → statement M
+compare-lists-spec =
+    tie.close
+    (tie.spec
+    Inv-loop
+    μ-loop
+    loop-holds
+    accepted-requires
+    compare-case-requires
+    add-call
+    loop-less
+    loop-again
+    returns)
