@@ -23,8 +23,9 @@ pub(crate) const ALL_RACES: usize = 1;
 
 pub(crate) const PAIR: usize = 3;
 
-// What is asked: the call, whether it is the pair question of a race, the width, how many clocks, work bytes and list numbers are lent, and two records. What is expected: the group to count it in, a refusal's
-// number (0 for none) and place; how many of the clocks are then as the rows say, or 0; how many work bytes are 0; how many list numbers are those of the list, and how many entries they are. All other lent memory is unchanged.
+// What is asked: the call, whether it is the pair question of a race, the width, how many clocks, work bytes and list numbers are lent, and two records. What is
+// expected: the group to count it in, a refusal's number (0 for none) and place; how many of the clocks are then as the rows say, or 0; how many work bytes are 0; how
+// many list numbers are those of the list, and how many entries they are. All other lent memory is unchanged.
 pub(crate) struct Case {
     pub call: usize,
     pub asks: bool,

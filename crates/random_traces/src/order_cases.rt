@@ -5,17 +5,18 @@ use crate::paths;
 use crate::slots::narrow;
 use crate::slots::pick;
 use crate::slots::plus;
+use crate::slots::wide;
 use crate::tally;
 use crate::tally::Counts;
 use order::Answer;
 use trace::EventId;
 
-// 1 yes, 0 no, 11 where one has no begin in the trace.
+// 1 yes, 0 no, 11 where one has no begin in the trace: refusal 11, place 0.
 fn code(r: Answer) -> usize {
     match r {
         Answer::Yes => 1,
         Answer::No => 0,
-        Answer::Refused(f) => crate::slots::wide(f.number),
+        Answer::Refused(f) => plus(wide(f.number), wide(f.place.0)),
     }
 }
 

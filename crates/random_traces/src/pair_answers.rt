@@ -126,7 +126,7 @@ fn is_arranged(recs: &[u8], table: &[usize], kept: usize, b: usize) -> bool {
 }
 
 // "ev(b) up to b, and the whole of each other event action t from which happens-before and races lead to b": the entries are those, and their records are an
-// arrangement that runs b and not a.
+// arrangement whose last record is b, without a.
 fn is_open(
     recs: &[u8],
     table: &[usize],
@@ -139,8 +139,9 @@ fn is_open(
 ) -> bool {
     let kept = leads | paths::before(table, action_of(recs, table, b));
     let found = count_kept(recs, table, events, kept, list, b);
-    let without = !is_kept(recs, table, kept, b, a);
-    without & (found == n) & is_arranged(recs, table, kept, b)
+    let last = second_of(list, less(n)) == plus(b, 1);
+    let ends = !is_kept(recs, table, kept, b, a) & last;
+    ends & (found == n) & is_arranged(recs, table, kept, b)
 }
 
 // The answer for race (a, b), with n entries.
