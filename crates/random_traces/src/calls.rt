@@ -1,9 +1,10 @@
 // One call of the product, with what it must answer and leave in lent memory.
+use crate::chains;
+use crate::definitions;
+use crate::judge::byte_at;
 use crate::known::Known;
 use crate::pair_answers;
-use crate::slots::both;
-use crate::slots::get;
-use crate::slots::get_byte;
+use crate::slots::get_short;
 use crate::slots::narrow;
 use crate::slots::pick;
 use crate::slots::plus;
@@ -20,15 +21,14 @@ pub(crate) const FILL: usize = 0;
 
 pub(crate) const ALL_RACES: usize = 1;
 
-pub(crate) const SHORT_LIST: usize = 2;
-
 pub(crate) const PAIR: usize = 3;
 
-// What is asked: the call, the width, how many clocks, work bytes and list numbers are lent, and two records. What is expected: the group to count it in, a refusal's
-// number (0 for none) and place; how many of the clocks are then as the rows say, or 0; how many work bytes are 0; how many list numbers are those that stand in the
-// table from a place on, and how many entries they are. All other lent memory is unchanged.
+// What is asked: the call, whether it is the pair question of a race, the width, how many clocks, work bytes and list numbers are lent, and two records. What is
+// expected: the group to count it in, a refusal's number (0 for none) and place; how many of the clocks are then as the rows say, or 0; how many work bytes are 0; how
+// many list numbers are those of the list, and how many entries they are. All other lent memory is unchanged.
 pub(crate) struct Case {
     pub call: usize,
+    pub asks: bool,
     pub width: usize,
     pub clocks: usize,
     pub work: usize,
@@ -41,7 +41,6 @@ pub(crate) struct Case {
     pub rows: usize,
     pub zeros: usize,
     pub cleared: usize,
-    pub from: usize,
     pub listed: usize,
     pub count: usize,
 }
@@ -125,18 +124,18 @@ fn record_number(i: usize) -> Operation {
 }
 
 fn call(c: Case, bytes: &[u8], clocks: &mut [u16], work: &mut [u8], list: &mut [u16]) -> Reply {
-    let width = c.width;
-    let which = c.call;
-    match which {
-        1 => of_listing(races::all_races(bytes, width, clocks, work, list)),
-        2 => of_listing(races::short_list(bytes, width, clocks, work, list)),
-        3 => {
-            let a = record_number(c.a);
-            let b = record_number(c.b);
-            of_pair(races::pair::ask_pair(bytes, width, clocks, work, list, a, b))
-        }
-        _ => of_filling(order::fill(bytes, width, clocks)),
+    if c.call == PAIR {
+        let a = record_number(c.a);
+        let b = record_number(c.b);
+        return of_pair(races::pair::ask_pair(bytes, c.width, clocks, work, list, a, b));
     }
+    if c.call == ALL_RACES {
+        return of_listing(races::all_races(bytes, c.width, clocks, work, list));
+    }
+    if c.call == FILL {
+        return of_filling(order::fill(bytes, c.width, clocks));
+    }
+    of_listing(races::short_list(bytes, c.width, clocks, work, list))
 }
 
 // What stands in lent memory beforehand.
@@ -161,34 +160,23 @@ fn at_most(n: usize, most: usize) -> usize
     most
 }
 
-fn clocks_agree(c: Case, table: &[u16], clocks: &[u16]) -> bool {
+fn clocks_agree(c: Case, table: &[usize], clocks: &[u16]) -> bool {
     let mut i = 0;
     while i < 1100 {
         let unfilled = pick(i < c.zeros, 0, 7);
-        let expected = pick(
-            i < c.rows,
-            get(table, plus(crate::paths::ROWS, i)),
-            unfilled,
-        );
-        if get(clocks, i) != expected {
+        let expected = pick(i < c.rows, chains::clock(table, c.width, i), unfilled);
+        if get_short(clocks, i) != expected {
             return false;
         }
         i += 1;
     }
     true
-}
-
-fn expected_byte(i: usize, cleared: usize) -> u8 {
-    if i < cleared {
-        return 0;
-    }
-    3
 }
 
 fn work_agrees(c: Case, work: &[u8]) -> bool {
     let mut i = 0;
     while i < 64 {
-        if get_byte(work, i) != expected_byte(i, c.cleared) {
+        if byte_at(work, i) != pick(i < c.cleared, 0, 3) {
             return false;
         }
         i += 1;
@@ -196,12 +184,13 @@ fn work_agrees(c: Case, work: &[u8]) -> bool {
     true
 }
 
-fn list_agrees(c: Case, table: &[u16], list: &[u16]) -> bool {
+fn list_agrees(c: Case, recs: &[u8], table: &[usize], list: &[u16]) -> bool {
     let n = c.list;
     let mut i = 0;
     while i < n {
-        let expected = pick(i < c.listed, get(table, plus(c.from, i)), 9);
-        if get(list, i) != expected {
+        let number = definitions::number_in_list(recs, table, c.call == ALL_RACES, i);
+        let expected = pick(i < c.listed, number, 9);
+        if get_short(list, i) != expected {
             return false;
         }
         i += 1;
@@ -211,28 +200,30 @@ fn list_agrees(c: Case, table: &[u16], list: &[u16]) -> bool {
 
 // The figures of an answer that is no refusal.
 fn figures_agree(c: Case, k: Known, r: Reply) -> bool {
-    let sizes = both(r.events == k.events, r.records == k.records);
     let chains = r.chains == k.chains;
-    let which = c.call;
-    match which {
-        0 => chains,
-        _ => both(both(sizes, chains), r.count == c.count),
+    if c.call == FILL {
+        return chains;
     }
+    let sizes = (r.events == k.events) & (r.records == k.records);
+    sizes & chains & (r.count == c.count)
 }
 
 fn reply_agrees(c: Case, k: Known, r: Reply) -> bool {
-    if c.number == 0 {
-        return both(r.number == 0, figures_agree(c, k, r));
+    if r.number != c.number {
+        return false;
     }
-    both(r.number == c.number, r.place == c.place)
+    if c.number == 0 {
+        return figures_agree(c, k, r);
+    }
+    r.place == c.place
 }
 
-fn answer_agrees(c: Case, k: Known, r: Reply, recs: &[u8], table: &[u16], list: &[u16]) -> bool {
-    if both(c.call == PAIR, c.number == 0) {
-        let asked = pair_answers::agrees(recs, table, k, list, r.covered, r.count, c.a, c.b);
-        return both(r.number == 0, asked);
+fn answer_agrees(c: Case, k: Known, r: Reply, recs: &[u8], table: &[usize], list: &[u16]) -> bool {
+    if c.asks {
+        let agrees = pair_answers::agrees(recs, table, k, list, r.covered, r.count, c.a, c.b);
+        return agrees & (r.number == 0);
     }
-    both(reply_agrees(c, k, r), list_agrees(c, table, list))
+    reply_agrees(c, k, r) & list_agrees(c, recs, table, list)
 }
 
 fn with_list(
@@ -240,7 +231,7 @@ fn with_list(
     k: Known,
     bytes: &[u8],
     recs: &[u8],
-    table: &[u16],
+    table: &[usize],
     clocks: &mut [u16],
     work: &mut [u8],
 ) -> Outcome {
@@ -256,36 +247,28 @@ fn with_list(
     }
 }
 
-// The outcome, with what is found of lent memory.
-fn and_lent(o: Outcome, agrees: bool) -> Outcome {
-    Outcome {
-        right: o.right,
-        lent: both(o.lent, agrees),
-        covered: o.covered,
-        count: o.count,
-    }
-}
-
 fn with_work(
     c: Case,
     k: Known,
     bytes: &[u8],
     recs: &[u8],
-    table: &[u16],
+    table: &[usize],
     clocks: &mut [u16],
 ) -> Outcome {
     let mut space = work_space();
     let work: &mut [u8] = &mut space;
     let n = at_most(c.work, 64);
-    let o = with_list(c, k, bytes, recs, table, clocks, &mut work[..n]);
-    and_lent(o, work_agrees(c, work))
+    let mut o = with_list(c, k, bytes, recs, table, clocks, &mut work[..n]);
+    o.lent = work_agrees(c, work);
+    o
 }
 
 // The call of a case.
-pub(crate) fn ask(c: Case, k: Known, bytes: &[u8], recs: &[u8], table: &[u16]) -> Outcome {
+pub(crate) fn ask(c: Case, k: Known, bytes: &[u8], recs: &[u8], table: &[usize]) -> Outcome {
     let mut space = clock_space();
     let clocks: &mut [u16] = &mut space;
     let n = at_most(c.clocks, 1100);
-    let o = with_work(c, k, bytes, recs, table, &mut clocks[..n]);
-    and_lent(o, clocks_agree(c, table, clocks))
+    let mut o = with_work(c, k, bytes, recs, table, &mut clocks[..n]);
+    o.lent = o.lent & clocks_agree(c, table, clocks);
+    o
 }

@@ -1,5 +1,6 @@
 // Traces put together by chance, each of them acceptable.
 use crate::chance::roll;
+use crate::slots::fives;
 use crate::slots::get_byte;
 use crate::slots::narrow;
 use crate::slots::pick;
@@ -27,21 +28,26 @@ pub(crate) struct Draft {
     pub events: usize,
 }
 
-// Most traces are small, one in sixteen is large; one in eight has numbers up to 1,024.
+// An event action: its rank, from 0, where it starts, and how many joins and body records it has.
+struct Action {
+    j: usize,
+    from: usize,
+    joins: usize,
+    body: usize,
+}
+
+// Most traces are small, some have up to 24 event actions.
 fn shape_of(seed: usize) -> Shape {
-    let large = roll(seed, 0, 3, 16) == 0;
-    let far = roll(seed, 0, 7, 8) == 0;
-    let behind = roll(seed, 0, 9, 4) == 0;
     Shape {
         seed: seed,
-        events: pick(large, plus(8, roll(seed, 0, 4, 17)), roll(seed, 0, 1, 8)),
-        body: plus(2, pick(large, roll(seed, 0, 5, 4), roll(seed, 0, 2, 5))),
+        events: roll(seed, 0, 1, plus(1, roll(seed, 0, 3, roll(seed, 0, 4, 26)))),
+        body: plus(2, roll(seed, 0, 2, 5)),
         joins: roll(seed, 0, 11, 6),
         forks: roll(seed, 0, 12, 7),
         writes: plus(4, roll(seed, 0, 13, 9)),
         cells: plus(1, roll(seed, 0, 14, 6)),
-        before: pick(behind, roll(seed, 0, 10, 12), 0),
-        mask: pick(far, roll(seed, 0, 8, 1024), roll(seed, 0, 6, 32)),
+        before: roll(seed, 0, 9, 12),
+        mask: roll(seed, 0, 8, 1024),
     }
 }
 
@@ -90,32 +96,19 @@ pub(crate) fn put_trailer(bytes: &mut [u8], at: usize, distance: usize, begins: 
     put_part(bytes, at, &part)
 }
 
-// Bytes of the job file.
-fn put_before(bytes: &mut [u8], s: Shape) {
-    let n = s.before;
-    let mut i = 0;
-    while i < n {
-        put_byte(bytes, i, byte(roll(s.seed, i, 15, 200)));
-        i += 1;
-    }
-}
-
 fn join_count(s: Shape, at: usize, j: usize) -> usize {
     let joins = roll(s.seed, at, 17, 8) < s.joins;
     pick(joins & (0 < j), plus(1, roll(s.seed, at, 18, 3)), 0)
 }
 
-// Event action j waits for some that have ended.
-fn put_joins(bytes: &mut [u8], from: usize, s: Shape, j: usize) -> usize {
-    let n = join_count(s, from, j);
-    let mut at = from;
-    let mut i = 0;
-    while i < n {
-        let other = roll(s.seed, at, 16, j);
-        at = put_record(bytes, at, 4, number(s, j), number(s, other));
-        i += 1;
+fn action_at(s: Shape, from: usize, j: usize) -> Action {
+    let joins = join_count(s, from, j);
+    Action {
+        j: j,
+        from: from,
+        joins: joins,
+        body: roll(s.seed, plus(from, fives(plus(joins, 1))), 23, s.body),
     }
-    at
 }
 
 // One that hasn't begun: a later one, or one of two that never begin.
@@ -127,13 +120,9 @@ fn not_begun(s: Shape, at: usize, j: usize) -> usize {
     plus(plus(j, 1), left)
 }
 
-// Whether a body record is a fork; else it's a read or a write.
-fn is_fork(s: Shape, at: usize) -> bool {
-    roll(s.seed, at, 20, 16) < s.forks
-}
-
+// A fork, a read or a write.
 fn body_kind(s: Shape, at: usize) -> u8 {
-    if is_fork(s, at) {
+    if roll(s.seed, at, 20, 16) < s.forks {
         return 3;
     }
     if roll(s.seed, at, 22, 16) < s.writes {
@@ -142,47 +131,48 @@ fn body_kind(s: Shape, at: usize) -> u8 {
     5
 }
 
-fn body_second(s: Shape, at: usize, j: usize) -> u16 {
-    number(
-        s,
-        pick(
-            is_fork(s, at),
-            not_begun(s, at, j),
-            roll(s.seed, at, 21, s.cells),
-        ),
-    )
+// The kind of record r of an event action, from 0.
+fn kind_of(s: Shape, x: Action, at: usize, r: usize) -> u8 {
+    if r < x.joins {
+        return 4;
+    }
+    if r == x.joins {
+        return 1;
+    }
+    if r <= plus(x.joins, x.body) {
+        return body_kind(s, at);
+    }
+    2
 }
 
-fn put_body(bytes: &mut [u8], from: usize, s: Shape, j: usize) -> usize {
-    let n = roll(s.seed, from, 23, s.body);
-    let mut at = from;
-    let mut i = 0;
-    while i < n {
-        at = put_record(
-            bytes,
-            at,
-            body_kind(s, at),
-            number(s, j),
-            body_second(s, at, j),
-        );
-        i += 1;
+// The second of a record of that kind.
+fn second_of(s: Shape, x: Action, at: usize, kind: u8) -> u16 {
+    match kind {
+        1 | 2 => 0,
+        3 => number(s, not_begun(s, at, x.j)),
+        4 => number(s, roll(s.seed, at, 16, x.j)),
+        _ => number(s, roll(s.seed, at, 21, s.cells)),
+    }
+}
+
+fn put_action(bytes: &mut [u8], s: Shape, x: Action) -> usize {
+    let n = plus(plus(x.joins, x.body), 2);
+    let mut at = x.from;
+    let mut r = 0;
+    while r < n {
+        let kind = kind_of(s, x, at, r);
+        at = put_record(bytes, at, kind, number(s, x.j), second_of(s, x, at, kind));
+        r += 1;
     }
     at
 }
 
-fn put_event(bytes: &mut [u8], from: usize, s: Shape, j: usize) -> usize {
-    let joined = put_joins(bytes, from, s, j);
-    let begun = put_record(bytes, joined, 1, number(s, j), 0);
-    let done = put_body(bytes, begun, s, j);
-    put_record(bytes, done, 2, number(s, j), 0)
-}
-
-fn put_events(bytes: &mut [u8], s: Shape) -> usize {
+fn put_actions(bytes: &mut [u8], s: Shape) -> usize {
     let n = s.events;
     let mut at = s.before;
     let mut j = 0;
     while j < n {
-        at = put_event(bytes, at, s, j);
+        at = put_action(bytes, s, action_at(s, at, j));
         j += 1;
     }
     at
@@ -191,8 +181,7 @@ fn put_events(bytes: &mut [u8], s: Shape) -> usize {
 // The trace of a seed, without its trailer.
 pub(crate) fn put_trace(bytes: &mut [u8], seed: usize) -> Draft {
     let s = shape_of(seed);
-    put_before(bytes, s);
-    let end = put_events(bytes, s);
+    let end = put_actions(bytes, s);
     Draft {
         start: s.before,
         end: end,

@@ -1,25 +1,17 @@
-// What each call must answer about an accepted trace, and in each of the ways of refusing it.
-use crate::calls::ALL_RACES;
+// What each call must answer about an accepted trace, asked in each of these ways: 0 accepted, 1 width 0, 2 width 1,025, 3 a clock too few, 4 a work byte too few, 5 a
+// chain too few, 6 a list number too few, 7 two records that are no race, 8 a record that is not in the trace.
 use crate::calls::Case;
 use crate::calls::FILL;
 use crate::calls::PAIR;
 use crate::chains;
 use crate::known::Known;
-use crate::paths;
-use crate::slots::both;
+use crate::slots::fives;
 use crate::slots::less;
 use crate::slots::pick;
 use crate::slots::plus;
 use crate::tally;
 
-fn times_five(n: usize) -> usize {
-    if n < 6000 {
-        return 5 * n;
-    }
-    0
-}
-
-// How many entries the list of a call has.
+// How many entries the list of a call has, for the pair question how many it asks for.
 fn entries_of(k: Known, call: usize) -> usize {
     match call {
         0 => 0,
@@ -29,115 +21,97 @@ fn entries_of(k: Known, call: usize) -> usize {
     }
 }
 
-// How many numbers they take; for the pair question, those that it asks for.
+// How many numbers they take.
 fn numbers_of(k: Known, call: usize) -> usize {
     let n = entries_of(k, call);
-    pick(call == PAIR, plus(n, n), times_five(n))
+    pick(call == PAIR, plus(n, n), fives(n))
 }
 
-// A call that is not refused. The list space has a few numbers more than it takes.
-pub(crate) fn accepted(k: Known, call: usize) -> Case {
+fn width_in(k: Known, way: usize) -> usize {
+    match way {
+        1 => 0,
+        2 => 1025,
+        5 => less(k.chains),
+        _ => k.width,
+    }
+}
+
+fn clocks_in(k: Known, way: usize) -> usize {
+    match way {
+        3 => less(k.clocks),
+        5 => chains::row_start(k.events, less(k.chains)),
+        _ => k.clocks,
+    }
+}
+
+fn number_in(way: usize) -> usize {
+    match way {
+        0 => 0,
+        1..=3 => 21,
+        4 => 22,
+        5 => 23,
+        6 => 24,
+        7 => 12,
+        _ => 11,
+    }
+}
+
+fn group_in(call: usize, way: usize) -> usize {
+    match way {
+        0 => plus(tally::CALLS, call),
+        1..=3 => tally::WIDTH,
+        4 => tally::WORK_SPACE,
+        5 => tally::CHAINS,
+        6 => tally::LIST_SPACE,
+        _ => tally::NO_RACE,
+    }
+}
+
+// The list space has a few numbers more than it takes, or one less.
+pub(crate) fn case_of(k: Known, call: usize, way: usize, a: usize, b: usize) -> Case {
     let numbers = numbers_of(k, call);
+    let clocks = clocks_in(k, way);
+    let filled = (way == 0) | (way == 6) | (way == 7);
+    let past = (filled | (way == 5)) & (call != FILL);
     Case {
         call: call,
-        width: k.width,
-        clocks: k.clocks,
-        work: k.events,
-        list: plus(numbers, 4),
-        a: 0,
-        b: 0,
-        group: plus(tally::CALLS, call),
-        number: 0,
-        place: 0,
-        rows: k.clocks,
-        zeros: 0,
-        cleared: pick(call == FILL, 0, k.events),
-        from: pick(call == ALL_RACES, paths::ALL, paths::SHORT),
-        listed: numbers,
+        asks: (call == PAIR) & (way == 0),
+        width: width_in(k, way),
+        clocks: clocks,
+        work: pick(way == 4, less(k.events), k.events),
+        list: pick(way == 6, less(numbers), plus(numbers, 4)),
+        a: a,
+        b: b,
+        group: group_in(call, way),
+        number: number_in(way),
+        place: pick(way == 5, k.begin, 0),
+        rows: pick(filled, clocks, 0),
+        zeros: pick(way == 5, clocks, 0),
+        cleared: pick(past, k.events, 0),
+        listed: pick(way == 0, numbers, 0),
         count: entries_of(k, call),
     }
 }
 
-pub(crate) fn about(c: Case, a: usize, b: usize) -> Case {
-    let mut next = c;
-    next.a = a;
-    next.b = b;
-    next
+// Any call about a trace that is refused: all lent memory is unchanged.
+pub(crate) fn refused(k: Known, call: usize, number: usize, place: usize) -> Case {
+    let mut c = case_of(k, call, 8, 0, 0);
+    c.group = tally::REFUSED_TRACE;
+    c.number = number;
+    c.place = place;
+    c
 }
 
-// A refusal after which the list is unchanged.
-pub(crate) fn refused(c: Case, group: usize, number: usize, place: usize) -> Case {
-    let mut next = c;
-    next.group = group;
-    next.number = number;
-    next.place = place;
-    next.listed = 0;
-    next
-}
-
-// A refusal after which all lent memory is unchanged.
-pub(crate) fn untouched(c: Case, group: usize, number: usize, place: usize) -> Case {
-    let mut next = refused(c, group, number, place);
-    next.rows = 0;
-    next.cleared = 0;
-    next
-}
-
-fn with_sizes(c: Case, width: usize, clocks: usize) -> Case {
-    let mut next = c;
-    next.width = width;
-    next.clocks = clocks;
-    next
-}
-
-fn with_work(c: Case, work: usize) -> Case {
-    let mut next = c;
-    next.work = work;
-    next
-}
-
-fn with_list(c: Case, list: usize) -> Case {
-    let mut next = c;
-    next.list = list;
-    next
-}
-
-fn with_zeros(c: Case, zeros: usize) -> Case {
-    let mut next = c;
-    next.rows = 0;
-    next.zeros = zeros;
-    next
-}
-
-// Refusal 23: one chain too few.
-fn too_narrow(k: Known, c: Case) -> Case {
-    let width = less(k.chains);
-    let clocks = chains::row_start(k.events, width);
-    let sized = with_zeros(with_sizes(c, width, clocks), clocks);
-    refused(sized, tally::CHAINS, 23, k.begin)
-}
-
-// The ways of refusing: 0 width 0, 1 width 1,025, 2 a clock too few, 3 a work byte too few, 4 a chain too few, 5 a list number too few.
-pub(crate) fn in_state(k: Known, c: Case, way: usize) -> Case {
-    match way {
-        0 => untouched(with_sizes(c, 0, c.clocks), tally::WIDTH, 21, 0),
-        1 => untouched(with_sizes(c, 1025, c.clocks), tally::WIDTH, 21, 0),
-        2 => untouched(with_sizes(c, c.width, less(c.clocks)), tally::WIDTH, 21, 0),
-        3 => untouched(with_work(c, less(c.work)), tally::WORK_SPACE, 22, 0),
-        4 => too_narrow(k, c),
-        _ => refused(with_list(c, less(c.listed)), tally::LIST_SPACE, 24, 0),
+// Whether a call can be asked in that way. Filling has no work space and no list; the pair question needs a race, and is asked about each of them elsewhere.
+pub(crate) fn can_ask(k: Known, call: usize, way: usize) -> bool {
+    if (call == PAIR) & ((k.races == 0) | (way == 0)) {
+        return false;
     }
-}
-
-// Whether a call can be refused in that way. Filling has no work space and no list; the pair question needs a race.
-pub(crate) fn can_refuse(k: Known, c: Case, way: usize) -> bool {
-    let asks = (c.call != PAIR) | (0 < k.races);
-    let able = match way {
-        0 | 1 => true,
-        2 => 0 < k.clocks,
-        3 => both(c.call != FILL, 0 < k.events),
-        4 => both(1 < k.chains, k.chains < 10),
-        _ => 0 < c.listed,
-    };
-    both(asks, able)
+    match way {
+        3 => 0 < k.clocks,
+        4 => (call != FILL) & (0 < k.events),
+        5 => (1 < k.chains) & (k.chains < 10),
+        6 => 0 < numbers_of(k, call),
+        _ => true,
+    }
 }

@@ -2,11 +2,8 @@
 use crate::paths::first;
 use crate::paths::is_kind;
 use crate::paths::second;
-use crate::slots::both;
-use crate::slots::either;
 use crate::slots::get_byte;
 use crate::slots::less;
-use crate::slots::more;
 use crate::slots::pick;
 use crate::slots::plus;
 use trace::Trace;
@@ -25,28 +22,11 @@ fn found(number: usize, place: usize) -> Verdict {
     }
 }
 
-fn wide(x: u8) -> usize {
-    x as usize
-}
-
-// Two bytes as a number, low byte first.
-fn pair(low: u8, high: u8) -> usize {
-    let y = wide(high);
-    if y < 256 {
-        return plus(wide(low), 256 * y);
-    }
-    0
-}
-
-fn has_at(recs: &[u8], i: usize, kind: u8, event: usize) -> bool {
-    both(is_kind(recs, i, kind), first(recs, i) == event)
-}
-
 // The first of n records that has the kind and the event, or n.
 pub(crate) fn find(recs: &[u8], n: usize, kind: u8, event: usize) -> usize {
     let mut i = 0;
     while i < n {
-        if has_at(recs, i, kind, event) {
+        if is_kind(recs, i, kind) & (first(recs, i) == event) {
             return i;
         }
         i += 1;
@@ -55,28 +35,29 @@ pub(crate) fn find(recs: &[u8], n: usize, kind: u8, event: usize) -> usize {
 }
 
 fn is_number(x: usize) -> bool {
-    both(0 < x, x <= 1024)
+    (0 < x) & (x <= 1024)
 }
 
 // "event or cell not 1 to 1,024, or second of a begin or end not 0"
 fn has_numbers(recs: &[u8], i: usize) -> bool {
     let y = second(recs, i);
-    let short = access::kind_at(recs, i) < 3;
-    let right = either(both(short, y == 0), both(!short, is_number(y)));
-    both(is_number(first(recs, i)), right)
+    if access::kind_at(recs, i) < 3 {
+        return is_number(first(recs, i)) & (y == 0);
+    }
+    is_number(first(recs, i)) & is_number(y)
 }
 
 // Record i has its place after the record before it, which has its own: "joins (perhaps none), begin, then forks, reads and writes, then end", all with one first.
 fn has_place(recs: &[u8], i: usize) -> bool {
-    let opens = either(is_kind(recs, i, 1), is_kind(recs, i, 4));
+    let opens = is_kind(recs, i, 1) | is_kind(recs, i, 4);
     if i == 0 {
         return opens;
     }
     let same = first(recs, i - 1) == first(recs, i);
     match access::kind_at(recs, i - 1) {
         2 => opens,
-        4 => both(opens, same),
-        _ => both(!opens, same),
+        4 => opens & same,
+        _ => !opens & same,
     }
 }
 
@@ -91,7 +72,7 @@ fn has_begun(recs: &[u8], i: usize) -> bool {
 
 // "join whose second has not ended"
 fn waits(recs: &[u8], i: usize) -> bool {
-    both(is_kind(recs, i, 4), i <= find(recs, i, 2, second(recs, i)))
+    is_kind(recs, i, 4) & (i <= find(recs, i, 2, second(recs, i)))
 }
 
 // The refusal of record i, where none before it is refused; 0 for none.
@@ -101,7 +82,7 @@ fn refusal_at(recs: &[u8], i: usize) -> usize {
     let begun = pick(has_begun(recs, i), 7, ended);
     let place = pick(has_place(recs, i), begun, 6);
     let numbers = pick(has_numbers(recs, i), place, 5);
-    pick(either(kind == 0, 6 < kind), 4, numbers)
+    pick((kind == 0) | (6 < kind), 4, numbers)
 }
 
 // The first record that is refused, or as many as there are.
@@ -119,18 +100,18 @@ fn first_refused(recs: &[u8], n: usize) -> usize {
 // How many records are of the kind.
 pub(crate) fn count_kind(recs: &[u8], kind: u8) -> usize {
     let n = access::count(recs);
-    let mut found = 0;
+    let mut count = 0;
     let mut i = 0;
     while i < n {
-        found = more(found, is_kind(recs, i, kind));
+        count = plus(count, pick(is_kind(recs, i, kind), 1, 0));
         i += 1;
     }
-    found
+    count
 }
 
 // Where every record has passed: "the trace stops inside an event action or after a join", "begins differ from the trailer's number".
 fn judge_end(recs: &[u8], n: usize, begins: usize) -> Verdict {
-    let ends = either(n == 0, is_kind(recs, less(n), 2));
+    let ends = (n == 0) | is_kind(recs, less(n), 2);
     let number = pick(count_kind(recs, 1) == begins, 0, 10);
     found(pick(ends, number, 9), pick(ends, 0, n))
 }
@@ -144,26 +125,33 @@ fn judge_records(recs: &[u8], begins: usize) -> Verdict {
     judge_end(recs, n, begins)
 }
 
-fn byte_after(bytes: &[u8], at: usize, i: usize) -> u8 {
-    get_byte(bytes, plus(at, i))
+pub(crate) fn byte_at(bytes: &[u8], at: usize) -> usize {
+    crate::slots::wide(get_byte(bytes, at) as u16)
 }
 
-fn pair_after(bytes: &[u8], at: usize, i: usize) -> usize {
-    pair(byte_after(bytes, at, i), byte_after(bytes, at, plus(i, 1)))
+// Two bytes as a number, low byte first.
+fn pair_at(bytes: &[u8], at: usize) -> usize {
+    let high = byte_at(bytes, plus(at, 1));
+    if high < 256 {
+        return plus(byte_at(bytes, at), 256 * high);
+    }
+    0
 }
 
 // The distance in the trailer at `at`; any that has more than two bytes is above 20,480.
 fn distance(bytes: &[u8], at: usize) -> usize {
-    let high = pair_after(bytes, at, 2);
-    pick(high == 0, pair_after(bytes, at, 0), 1000000)
+    pick(
+        pair_at(bytes, plus(at, 2)) == 0,
+        pair_at(bytes, at),
+        1000000,
+    )
 }
 
 // The refusal of the trailer at `at`, with the distance d; 0 for none.
 fn trailer_refusal(bytes: &[u8], at: usize, d: usize) -> usize {
-    let long = either(20480 < d, at < d);
-    let reach = pick(either(d % 5 != 0, long), 3, 0);
-    let edition = pick(byte_after(bytes, at, 6) == 1, reach, 2);
-    pick(byte_after(bytes, at, 7) == 0xA7, edition, 1)
+    let reach = pick((d % 5 != 0) | (20480 < d) | (at < d), 3, 0);
+    let edition = pick(byte_at(bytes, plus(at, 6)) == 1, reach, 2);
+    pick(byte_at(bytes, plus(at, 7)) == 0xA7, edition, 1)
 }
 
 // The records that stand before the trailer at `at`, as far back as d.
@@ -176,7 +164,7 @@ fn judge_before(bytes: &[u8], at: usize, d: usize) -> Verdict {
         records: d / 5,
         events: 0,
     };
-    judge_records(access::records(bytes, t), pair_after(bytes, at, 4))
+    judge_records(access::records(bytes, t), pair_at(bytes, plus(at, 4)))
 }
 
 // The trailer first, then each record in turn, then the end.
@@ -185,11 +173,10 @@ pub(crate) fn judge(bytes: &[u8]) -> Verdict {
     if n < 8 {
         return found(1, 0);
     }
-    let at = n - 8;
-    let d = distance(bytes, at);
-    let number = trailer_refusal(bytes, at, d);
+    let d = distance(bytes, n - 8);
+    let number = trailer_refusal(bytes, n - 8, d);
     if number != 0 {
         return found(number, 0);
     }
-    judge_before(bytes, at, d)
+    judge_before(bytes, n - 8, d)
 }

@@ -1,8 +1,8 @@
 // What the plain search knows of one accepted trace, beside the table.
 use crate::chains;
+use crate::definitions;
 use crate::judge;
 use crate::paths;
-use crate::races_by_definition;
 use crate::slots::less;
 use crate::slots::plus;
 use trace::access;
@@ -20,32 +20,26 @@ pub(crate) struct Known {
 }
 
 // The event actions and the paths; how many event actions.
-fn find_order(recs: &[u8], table: &mut [u16]) -> usize {
+fn find_order(recs: &[u8], table: &mut [usize]) -> usize {
     let events = paths::find_begins(recs, table);
-    paths::find_actions(recs, events, table);
-    paths::find_paths(recs, events, table);
+    paths::find_paths(recs, table);
     events
 }
 
-// The chains and the rows; how many chains.
-fn find_clocks(table: &mut [u16], events: usize) -> usize {
-    let chains = chains::find_chains(table, events);
-    chains::find_rows(table, events, chains::width_for(chains));
-    chains
-}
-
 // The record number of the begin that needs the last chain.
-fn begin_of_last(recs: &[u8], table: &[u16], events: usize, chains: usize) -> usize {
-    let t = chains::first_on(table, events, less(chains));
-    let event = paths::number_of(table, t);
-    plus(judge::find(recs, access::count(recs), 1, event), 1)
+fn begin_of_last(recs: &[u8], table: &[usize], chains: usize) -> usize {
+    let t = chains::first_on(table, less(chains));
+    plus(
+        judge::find(recs, access::count(recs), 1, paths::number_of(table, t)),
+        1,
+    )
 }
 
-pub(crate) fn find_all(recs: &[u8], table: &mut [u16]) -> Known {
+pub(crate) fn find_all(recs: &[u8], table: &mut [usize]) -> Known {
     let events = find_order(recs, table);
-    let chains = find_clocks(table, events);
-    let races = races_by_definition::find_races(recs, table);
-    let entries = races_by_definition::find_short(recs, table, races);
+    let chains = chains::find_chains(table, events);
+    let races = definitions::find_races(recs, table);
+    let entries = definitions::find_short(recs, table, races);
     let width = chains::width_for(chains);
     Known {
         events: events,
@@ -55,7 +49,7 @@ pub(crate) fn find_all(recs: &[u8], table: &mut [u16]) -> Known {
         clocks: chains::row_start(events, width),
         races: races,
         entries: entries,
-        begin: begin_of_last(recs, table, events, chains),
+        begin: begin_of_last(recs, table, chains),
     }
 }
 

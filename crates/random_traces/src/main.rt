@@ -4,6 +4,7 @@ mod cases;
 mod chains;
 mod chance;
 mod damage;
+mod definitions;
 mod draft;
 mod expectations;
 mod judge;
@@ -11,32 +12,22 @@ mod known;
 mod order_cases;
 mod pair_answers;
 mod paths;
-mod races_by_definition;
 mod slots;
 mod tally;
 
 use tally::Counts;
 
-fn run_whole(before: Counts) -> Counts {
+// 2,000 traces as they were put together, then each of them damaged three times.
+fn run(before: Counts) -> Counts {
     let mut tally = before;
-    let mut seed = 0;
-    while seed < 2000 {
-        tally = cases::whole(seed, tally);
-        seed += 1;
-    }
-    tally
-}
-
-fn run_damaged(before: Counts) -> Counts {
-    let mut tally = before;
-    let mut other = 0;
-    while other < 6000 {
-        tally = cases::damaged(other / 3, other, tally);
-        other += 1;
+    let mut x = 0;
+    while x < 8000 {
+        tally = cases::compare(x, tally);
+        x += 1;
     }
     tally
 }
 
 fn main() {
-    tally::show(run_damaged(run_whole(tally::nothing())));
+    tally::show(run(tally::nothing()));
 }

@@ -1,31 +1,30 @@
-// Event actions and the paths between them, by plain search. An event action is known by its rank, from 0 in order of begin, a record by its position, from 0.
-// What is found of a trace stands in one table: the numbers of the event actions, their chains, the paths, the event action of each record, the clock rows, and
-// both lists.
-use crate::slots::NOWHERE;
-use crate::slots::both;
-use crate::slots::either;
+// Event actions and the paths between them, by plain search. An event action is known by its rank, from 1 in order of begin, a record by its position, from 0. What
+// is found of a trace stands in one table: the numbers of the event actions and the sets of those that happen before each, the chains as sets of their members, the
+// ranks by event number, the records and marks of the races, and which of them are in the short list.
+use crate::slots::bit;
 use crate::slots::get;
-use crate::slots::more;
+use crate::slots::is_in;
 use crate::slots::pick;
 use crate::slots::plus;
 use crate::slots::put;
 use trace::access;
 
-const CHAIN: usize = 32;
+const BEFORE: usize = 64;
 
-const PATH: usize = 1024;
+pub(crate) const MEMBERS: usize = 128;
 
-const ACTION: usize = 2048;
+const RANK: usize = 1024;
 
-// Where in the table the clock rows and the lists start.
-pub(crate) const ROWS: usize = 2560;
+pub(crate) const FIRST: usize = 4096;
 
-pub(crate) const ALL: usize = 4096;
+pub(crate) const SECOND: usize = 10096;
 
-pub(crate) const SHORT: usize = 32768;
+pub(crate) const MARK: usize = 16096;
 
-pub(crate) fn table_space() -> [u16; 65536] {
-    [0; 65536]
+pub(crate) const SHORT: usize = 22096;
+
+pub(crate) fn table_space() -> [usize; 28096] {
+    [0; 28096]
 }
 
 pub(crate) fn first(recs: &[u8], i: usize) -> usize {
@@ -40,132 +39,76 @@ pub(crate) fn is_kind(recs: &[u8], i: usize, kind: u8) -> bool {
     access::kind_at(recs, i) == kind
 }
 
-// Entry i of the n from a place of the table.
-fn slot(from: usize, n: usize, i: usize) -> usize {
-    pick(i < n, plus(from, i), NOWHERE)
+// The event number of t.
+pub(crate) fn number_of(table: &[usize], t: usize) -> usize {
+    get(table, t)
 }
 
-pub(crate) fn number_of(table: &[u16], t: usize) -> usize {
-    get(table, slot(0, 32, t))
-}
-
-pub(crate) fn chain_slot(t: usize) -> usize {
-    slot(CHAIN, 32, t)
-}
-
-pub(crate) fn chain_of(table: &[u16], t: usize) -> usize {
-    get(table, chain_slot(t))
+// The rank of an event, 0 where it has no begin.
+fn rank(table: &[usize], event: usize) -> usize {
+    get(table, plus(RANK, event))
 }
 
 // The event action of record i.
-pub(crate) fn action_of(table: &[u16], i: usize) -> usize {
-    get(table, slot(ACTION, 512, i))
+pub(crate) fn action_of(recs: &[u8], table: &[usize], i: usize) -> usize {
+    rank(table, first(recs, i))
 }
 
-fn path_slot(t: usize, u: usize) -> usize {
-    if t < 32 {
-        return slot(32 * t + PATH, 32, u);
+// The set of those that happen before u.
+pub(crate) fn before(table: &[usize], u: usize) -> usize {
+    get(table, plus(BEFORE, u)) | bit(u)
+}
+
+pub(crate) fn reaches(table: &[usize], t: usize, u: usize) -> bool {
+    is_in(before(table, u), t)
+}
+
+// Record i, where `found` begins stand before it; how many then.
+fn put_begin(recs: &[u8], table: &mut [usize], found: usize, i: usize) -> usize {
+    if !is_kind(recs, i, 1) {
+        return found;
     }
-    NOWHERE
-}
-
-// Whether t happens before u.
-pub(crate) fn reaches(table: &[u16], t: usize, u: usize) -> bool {
-    either(t == u, get(table, path_slot(t, u)) == 1)
-}
-
-// The begins in their order; how many.
-pub(crate) fn find_begins(recs: &[u8], table: &mut [u16]) -> usize {
-    let n = access::count(recs);
-    let mut found = 0;
-    let mut i = 0;
-    while i < n {
-        let begins = is_kind(recs, i, 1);
-        put(
-            table,
-            pick(begins, slot(0, 32, found), NOWHERE),
-            first(recs, i),
-        );
-        found = more(found, begins);
-        i += 1;
-    }
-    found
-}
-
-// The rank of an event, or as many as there are where it has no begin.
-pub(crate) fn rank(table: &[u16], count: usize, event: usize) -> usize {
-    let mut t = 0;
-    while t < count {
-        if number_of(table, t) == event {
-            return t;
-        }
-        t += 1;
-    }
+    let t = plus(found, 1);
+    put(table, t, first(recs, i));
+    put(table, plus(RANK, first(recs, i)), t);
     t
 }
 
-// The event action of each record.
-pub(crate) fn find_actions(recs: &[u8], count: usize, table: &mut [u16]) {
-    let n = access::count(recs);
-    let mut i = 0;
-    while i < n {
-        let t = rank(table, count, first(recs, i));
-        put(table, slot(ACTION, 512, i), t);
-        i += 1;
-    }
-}
-
-// Where the table has the link that record i is, NOWHERE if it is no fork and no join, or one of the two doesn't begin.
-fn link_slot(recs: &[u8], table: &[u16], count: usize, i: usize) -> usize {
-    let x = rank(table, count, first(recs, i));
-    let y = rank(table, count, second(recs, i));
-    let begin = both(x < count, y < count);
-    let fork = pick(is_kind(recs, i, 3), path_slot(x, y), NOWHERE);
-    let join = pick(is_kind(recs, i, 4), path_slot(y, x), fork);
-    pick(begin, join, NOWHERE)
-}
-
-fn find_links(recs: &[u8], count: usize, table: &mut [u16]) {
-    let n = access::count(recs);
-    let mut i = 0;
-    while i < n {
-        let at = link_slot(recs, table, count, i);
-        put(table, at, 1);
-        i += 1;
-    }
-}
-
-// Where the table has the path from t to u, if one leads through m; else NOWHERE.
-fn through(table: &[u16], m: usize, t: usize, u: usize) -> usize {
-    let leads = both(reaches(table, t, m), reaches(table, m, u));
-    pick(leads, path_slot(t, u), NOWHERE)
-}
-
-// Paths through each event action in turn: t to u through m, for x = (m, t, u).
-fn close(table: &mut [u16]) {
-    let mut x = 0;
-    while x < 32768 {
-        let at = through(table, x / 1024, x / 32 % 32, x % 32);
-        put(table, at, 1);
-        x += 1;
-    }
-}
-
-// "t = u or a path of forks (from starter to started) and joins (from waited-for to waiting) leads from t to u"
-pub(crate) fn find_paths(recs: &[u8], count: usize, table: &mut [u16]) {
-    find_links(recs, count, table);
-    close(table);
-}
-
-// How many forks start an event that begins.
-pub(crate) fn count_forked(recs: &[u8], table: &[u16], count: usize) -> usize {
+// The begins in their order; how many.
+pub(crate) fn find_begins(recs: &[u8], table: &mut [usize]) -> usize {
     let n = access::count(recs);
     let mut found = 0;
     let mut i = 0;
     while i < n {
-        let begins = rank(table, count, second(recs, i)) < count;
-        found = more(found, both(is_kind(recs, i, 3), begins));
+        found = put_begin(recs, table, found, i);
         i += 1;
     }
     found
+}
+
+// The two that a fork or a join orders; 0 for the later one where record i is neither.
+fn earlier(recs: &[u8], table: &[usize], i: usize) -> usize {
+    let joined = rank(table, second(recs, i));
+    pick(is_kind(recs, i, 3), action_of(recs, table, i), joined)
+}
+
+fn later(recs: &[u8], table: &[usize], i: usize) -> usize {
+    let forked = pick(is_kind(recs, i, 3), rank(table, second(recs, i)), 0);
+    pick(is_kind(recs, i, 4), action_of(recs, table, i), forked)
+}
+
+// Those that happen before the later one, with those before the earlier one.
+fn joined(recs: &[u8], table: &[usize], i: usize) -> usize {
+    before(table, earlier(recs, table, i)) | before(table, later(recs, table, i))
+}
+
+// "t = u or a path of forks (from starter to started) and joins (from waited-for to waiting) leads from t to u": 32 rounds over all records.
+pub(crate) fn find_paths(recs: &[u8], table: &mut [usize]) {
+    let mut x = 0;
+    while x < 16384 {
+        let set = joined(recs, table, x % 512);
+        let u = later(recs, table, x % 512);
+        put(table, plus(BEFORE, u), set);
+        x += 1;
+    }
 }

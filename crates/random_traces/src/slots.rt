@@ -1,9 +1,13 @@
-// Reads and stores at any index: past the end a read gives 0 and a store does nothing. Small sums that never wrap.
+// Reads and stores at any index: past the end a read gives 0 and a store does nothing. Sums that wrap, bits, and a choice between two numbers.
 
 // An index past the end of every slice.
 pub(crate) const NOWHERE: usize = 1000000;
 
 pub(crate) fn wide(x: u16) -> usize {
+    x as usize
+}
+
+pub(crate) fn size(x: u32) -> usize {
     x as usize
 }
 
@@ -15,17 +19,24 @@ pub(crate) fn narrow(x: usize) -> u16 {
     65535
 }
 
-pub(crate) fn get(s: &[u16], i: usize) -> usize {
+pub(crate) fn get(s: &[usize], i: usize) -> usize {
     if i < s.len() {
-        return wide(s[i]);
+        return s[i];
     }
     0
 }
 
-pub(crate) fn put(s: &mut [u16], i: usize, x: usize) {
+pub(crate) fn put(s: &mut [usize], i: usize, x: usize) {
     if i < s.len() {
-        s[i] = narrow(x);
+        s[i] = x;
     }
+}
+
+pub(crate) fn get_short(s: &[u16], i: usize) -> usize {
+    if i < s.len() {
+        return wide(s[i]);
+    }
+    0
 }
 
 pub(crate) fn get_byte(s: &[u8], i: usize) -> u8 {
@@ -59,15 +70,22 @@ pub(crate) fn pick(yes: bool, x: usize, y: usize) -> usize {
     y
 }
 
-// n, and 1 more where it is so.
-pub(crate) fn more(n: usize, yes: bool) -> usize {
-    plus(n, pick(yes, 1, 0))
+// A set of numbers below 64 has bit t set where t is in it.
+pub(crate) fn bit(t: usize) -> usize {
+    if t < 64 {
+        return 1 << t;
+    }
+    0
 }
 
-pub(crate) fn both(a: bool, b: bool) -> bool {
-    a & b
+pub(crate) fn is_in(set: usize, t: usize) -> bool {
+    set & bit(t) != 0
 }
 
-pub(crate) fn either(a: bool, b: bool) -> bool {
-    a | b
+// Five for each of n, up to 6,000.
+pub(crate) fn fives(n: usize) -> usize {
+    if n < 6000 {
+        return 5 * n;
+    }
+    NOWHERE
 }

@@ -5,7 +5,6 @@ use native.Mathlib.Omega.{arith}
 use borrow.Author.Needs.{needs}
 use Rattle.random_traces.proofs.calls.ask.Statement.{statement}
 use Rattle.random_traces.proofs.calls.ask.Tie as tie
-use Rattle.random_traces.proofs.calls.and_lent.Reads as and-lent-reads
 use Rattle.random_traces.proofs.calls.at_most.Reads as at-most-reads
 use Rattle.random_traces.proofs.calls.clock_space.Reads as clock-space-reads
 use Rattle.random_traces.proofs.calls.clocks_agree.Reads as clocks-agree-reads
@@ -32,9 +31,6 @@ with-work-requires c κs = search needs
 clocks-agree-requires : tie.Need-clocks-agree-requires
 clocks-agree-requires c κs = search needs
 
-and-lent-requires : tie.Need-and-lent-requires
-and-lent-requires c κs = search needs
-
 returns : tie.Need-returns
 returns c = search needs
 
@@ -49,5 +45,4 @@ ask-spec =
     slice-aggregate-with-work
     with-work-requires
     clocks-agree-requires
-    and-lent-requires
     returns)

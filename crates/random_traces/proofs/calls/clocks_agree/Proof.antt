@@ -4,9 +4,9 @@ use borrow.Author.Needs.{needs}
 use Prim.Native.Nat.{_≤_, _-_}
 use Rattle.random_traces.proofs.calls.clocks_agree.Statement.{statement}
 use Rattle.random_traces.proofs.calls.clocks_agree.Tie as tie
-use Rattle.random_traces.proofs.slots.get.Reads as get-reads
+use Rattle.random_traces.proofs.chains.clock.Reads as clock-reads
+use Rattle.random_traces.proofs.slots.get_short.Reads as get-short-reads
 use Rattle.random_traces.proofs.slots.pick.Reads as pick-reads
-use Rattle.random_traces.proofs.slots.plus.Reads as plus-reads
 
 abbrev Inv-loop : tie.InvT-loop
 Inv-loop c table clocks i₀ i = i₀ ≤ i
@@ -20,17 +20,14 @@ loop-holds c = search needs
 pick-requires : tie.Need-pick-requires Inv-loop μ-loop
 pick-requires c κs = search needs
 
-plus-requires : tie.Need-plus-requires Inv-loop μ-loop
-plus-requires c κs = search needs
-
-get-requires : tie.Need-get-requires Inv-loop μ-loop
-get-requires c κs = search needs
+clock-requires : tie.Need-clock-requires Inv-loop μ-loop
+clock-requires c κs = search needs
 
 pick-requires-2 : tie.Need-pick-requires-2 Inv-loop μ-loop
 pick-requires-2 c κs = search needs
 
-get-requires-2 : tie.Need-get-requires-2 Inv-loop μ-loop
-get-requires-2 c κs = search needs
+get-short-requires : tie.Need-get-short-requires Inv-loop μ-loop
+get-short-requires c κs = search needs
 
 returns : tie.Need-returns Inv-loop μ-loop
 returns c = search needs
@@ -55,10 +52,9 @@ clocks-agree-spec =
     μ-loop
     loop-holds
     pick-requires
-    plus-requires
-    get-requires
+    clock-requires
     pick-requires-2
-    get-requires-2
+    get-short-requires
     returns
     add-i
     loop-less

@@ -4,30 +4,27 @@ use borrow.Author.Needs.{needs}
 use Prim.Native.Nat.{_≤_, _-_}
 use Rattle.random_traces.proofs.calls.list_agrees.Statement.{statement}
 use Rattle.random_traces.proofs.calls.list_agrees.Tie as tie
-use Rattle.random_traces.proofs.slots.get.Reads as get-reads
+use Rattle.random_traces.proofs.definitions.number_in_list.Reads as number-in-list-reads
+use Rattle.random_traces.proofs.slots.get_short.Reads as get-short-reads
 use Rattle.random_traces.proofs.slots.pick.Reads as pick-reads
-use Rattle.random_traces.proofs.slots.plus.Reads as plus-reads
 
 abbrev Inv-loop : tie.InvT-loop
-Inv-loop c table list n i₀ i = i₀ ≤ i
+Inv-loop c recs table list n i₀ i = i₀ ≤ i
 
 abbrev μ-loop : tie.MeasureT-loop
-μ-loop c table list n i₀ i = n - i
+μ-loop c recs table list n i₀ i = n - i
 
 loop-holds : tie.Need-loop-holds Inv-loop μ-loop
 loop-holds c = search needs
 
-plus-requires : tie.Need-plus-requires Inv-loop μ-loop
-plus-requires c κs = search needs
-
-get-requires : tie.Need-get-requires Inv-loop μ-loop
-get-requires c κs = search needs
+number-in-list-requires : tie.Need-number-in-list-requires Inv-loop μ-loop
+number-in-list-requires c κs = search needs
 
 pick-requires : tie.Need-pick-requires Inv-loop μ-loop
 pick-requires c κs = search needs
 
-get-requires-2 : tie.Need-get-requires-2 Inv-loop μ-loop
-get-requires-2 c κs = search needs
+get-short-requires : tie.Need-get-short-requires Inv-loop μ-loop
+get-short-requires c κs = search needs
 
 returns : tie.Need-returns Inv-loop μ-loop
 returns c = search needs
@@ -51,10 +48,9 @@ list-agrees-spec =
     Inv-loop
     μ-loop
     loop-holds
-    plus-requires
-    get-requires
+    number-in-list-requires
     pick-requires
-    get-requires-2
+    get-short-requires
     returns
     add-i
     loop-less

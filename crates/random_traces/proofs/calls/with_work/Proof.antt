@@ -5,7 +5,6 @@ use native.Mathlib.Omega.{arith}
 use borrow.Author.Needs.{needs}
 use Rattle.random_traces.proofs.calls.with_work.Statement.{statement}
 use Rattle.random_traces.proofs.calls.with_work.Tie as tie
-use Rattle.random_traces.proofs.calls.and_lent.Reads as and-lent-reads
 use Rattle.random_traces.proofs.calls.at_most.Reads as at-most-reads
 use Rattle.random_traces.proofs.calls.with_list.Reads as with-list-reads
 use Rattle.random_traces.proofs.calls.work_agrees.Reads as work-agrees-reads
@@ -32,9 +31,6 @@ with-list-requires c κs = search needs
 work-agrees-requires : tie.Need-work-agrees-requires
 work-agrees-requires c κs = search needs
 
-and-lent-requires : tie.Need-and-lent-requires
-and-lent-requires c κs = search needs
-
 same-length : tie.Need-same-length
 same-length c = search needs
 
@@ -52,6 +48,5 @@ with-work-spec =
     slice-aggregate-with-list
     with-list-requires
     work-agrees-requires
-    and-lent-requires
     same-length
     returns)

@@ -4,8 +4,8 @@ use borrow.Author.Needs.{needs}
 use Prim.Native.Nat.{_≤_, _-_}
 use Rattle.random_traces.proofs.calls.work_agrees.Statement.{statement}
 use Rattle.random_traces.proofs.calls.work_agrees.Tie as tie
-use Rattle.random_traces.proofs.calls.expected_byte.Reads as expected-byte-reads
-use Rattle.random_traces.proofs.slots.get_byte.Reads as get-byte-reads
+use Rattle.random_traces.proofs.judge.byte_at.Reads as byte-at-reads
+use Rattle.random_traces.proofs.slots.pick.Reads as pick-reads
 
 abbrev Inv-loop : tie.InvT-loop
 Inv-loop c work i₀ i = i₀ ≤ i
@@ -16,11 +16,11 @@ abbrev μ-loop : tie.MeasureT-loop
 loop-holds : tie.Need-loop-holds Inv-loop μ-loop
 loop-holds c = search needs
 
-get-byte-requires : tie.Need-get-byte-requires Inv-loop μ-loop
-get-byte-requires c κs = search needs
+byte-at-requires : tie.Need-byte-at-requires Inv-loop μ-loop
+byte-at-requires c κs = search needs
 
-expected-byte-requires : tie.Need-expected-byte-requires Inv-loop μ-loop
-expected-byte-requires c κs = search needs
+pick-requires : tie.Need-pick-requires Inv-loop μ-loop
+pick-requires c κs = search needs
 
 returns : tie.Need-returns Inv-loop μ-loop
 returns c = search needs
@@ -44,8 +44,8 @@ work-agrees-spec =
     Inv-loop
     μ-loop
     loop-holds
-    get-byte-requires
-    expected-byte-requires
+    byte-at-requires
+    pick-requires
     returns
     add-i
     loop-less

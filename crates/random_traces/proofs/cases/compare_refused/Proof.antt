@@ -5,8 +5,7 @@ use Prim.Native.Nat.{_≤_, _-_}
 use Rattle.random_traces.proofs.cases.compare_refused.Statement.{statement}
 use Rattle.random_traces.proofs.cases.compare_refused.Tie as tie
 use Rattle.random_traces.proofs.cases.compare_case.Reads as compare-case-reads
-use Rattle.random_traces.proofs.expectations.accepted.Reads as accepted-reads
-use Rattle.random_traces.proofs.expectations.untouched.Reads as untouched-reads
+use Rattle.random_traces.proofs.expectations.refused.Reads as refused-reads
 use Rattle.random_traces.proofs.known.nothing.Reads as nothing-reads
 
 abbrev Inv-loop : tie.InvT-loop
@@ -21,11 +20,8 @@ nothing-requires c κs = search needs
 loop-holds : tie.Need-loop-holds Inv-loop μ-loop
 loop-holds c = search needs
 
-accepted-requires : tie.Need-accepted-requires Inv-loop μ-loop
-accepted-requires c κs = search needs
-
-untouched-requires : tie.Need-untouched-requires Inv-loop μ-loop
-untouched-requires c κs = search needs
+refused-requires : tie.Need-refused-requires Inv-loop μ-loop
+refused-requires c κs = search needs
 
 slice-aggregate-compare-case : tie.Need-slice-aggregate-compare-case Inv-loop μ-loop
 slice-aggregate-compare-case c = search needs
@@ -53,8 +49,7 @@ compare-refused-spec =
     μ-loop
     nothing-requires
     loop-holds
-    accepted-requires
-    untouched-requires
+    refused-requires
     slice-aggregate-compare-case
     compare-case-requires
     add-call

@@ -4,7 +4,8 @@ use borrow.Author.Needs.{needs}
 use Prim.Native.Nat.{_≤_, _-_}
 use Rattle.random_traces.proofs.chains.choose.Statement.{statement}
 use Rattle.random_traces.proofs.chains.choose.Tie as tie
-use Rattle.random_traces.proofs.chains.is_free.Reads as is-free-reads
+use Rattle.random_traces.proofs.chains.members.Reads as members-reads
+use Rattle.random_traces.proofs.chains.members_before.Reads as members-before-reads
 
 abbrev Inv-loop : tie.InvT-loop
 Inv-loop table chains u c₀ c = c₀ ≤ c
@@ -15,8 +16,11 @@ abbrev μ-loop : tie.MeasureT-loop
 loop-holds : tie.Need-loop-holds Inv-loop μ-loop
 loop-holds c = search needs
 
-is-free-requires : tie.Need-is-free-requires Inv-loop μ-loop
-is-free-requires c κs = search needs
+members-before-requires : tie.Need-members-before-requires Inv-loop μ-loop
+members-before-requires c κs = search needs
+
+members-requires : tie.Need-members-requires Inv-loop μ-loop
+members-requires c κs = search needs
 
 returns : tie.Need-returns Inv-loop μ-loop
 returns c = search needs
@@ -40,7 +44,8 @@ choose-spec =
     Inv-loop
     μ-loop
     loop-holds
-    is-free-requires
+    members-before-requires
+    members-requires
     returns
     add-c
     loop-less

@@ -5,14 +5,15 @@ use Prim.Native.Nat.{_≤_, _-_}
 use Rattle.random_traces.proofs.judge.count_kind.Statement.{statement}
 use Rattle.random_traces.proofs.judge.count_kind.Tie as tie
 use Rattle.random_traces.proofs.paths.is_kind.Reads as is-kind-reads
-use Rattle.random_traces.proofs.slots.more.Reads as more-reads
+use Rattle.random_traces.proofs.slots.pick.Reads as pick-reads
+use Rattle.random_traces.proofs.slots.plus.Reads as plus-reads
 use Rattle.trace.proofs.access.count.Reads as count-reads
 
 abbrev Inv-loop : tie.InvT-loop
-Inv-loop recs kind n found₀ i₀ found i = i₀ ≤ i
+Inv-loop recs kind n count₀ i₀ count i = i₀ ≤ i
 
 abbrev μ-loop : tie.MeasureT-loop
-μ-loop recs kind n found₀ i₀ found i = n - i
+μ-loop recs kind n count₀ i₀ count i = n - i
 
 count-requires : tie.Need-count-requires Inv-loop μ-loop
 count-requires c κs = search needs
@@ -23,8 +24,11 @@ loop-holds c = search needs
 is-kind-requires : tie.Need-is-kind-requires Inv-loop μ-loop
 is-kind-requires c κs = search needs
 
-more-requires : tie.Need-more-requires Inv-loop μ-loop
-more-requires c κs = search needs
+pick-requires : tie.Need-pick-requires Inv-loop μ-loop
+pick-requires c κs = search needs
+
+plus-requires : tie.Need-plus-requires Inv-loop μ-loop
+plus-requires c κs = search needs
 
 add-i : tie.Need-add-i Inv-loop μ-loop
 add-i c = search needs
@@ -47,7 +51,8 @@ count-kind-spec =
     count-requires
     loop-holds
     is-kind-requires
-    more-requires
+    pick-requires
+    plus-requires
     add-i
     loop-less
     loop-again

@@ -4,7 +4,8 @@ use borrow.Author.Needs.{needs}
 use Prim.Native.Nat.{_≤_, _-_}
 use Rattle.random_traces.proofs.judge.find.Statement.{statement}
 use Rattle.random_traces.proofs.judge.find.Tie as tie
-use Rattle.random_traces.proofs.judge.has_at.Reads as has-at-reads
+use Rattle.random_traces.proofs.paths.first.Reads as first-reads
+use Rattle.random_traces.proofs.paths.is_kind.Reads as is-kind-reads
 
 abbrev Inv-loop : tie.InvT-loop
 Inv-loop recs n kind event i₀ i = i₀ ≤ i
@@ -15,8 +16,11 @@ abbrev μ-loop : tie.MeasureT-loop
 loop-holds : tie.Need-loop-holds Inv-loop μ-loop
 loop-holds c = search needs
 
-has-at-requires : tie.Need-has-at-requires Inv-loop μ-loop
-has-at-requires c κs = search needs
+is-kind-requires : tie.Need-is-kind-requires Inv-loop μ-loop
+is-kind-requires c κs = search needs
+
+first-requires : tie.Need-first-requires Inv-loop μ-loop
+first-requires c κs = search needs
 
 returns : tie.Need-returns Inv-loop μ-loop
 returns c = search needs
@@ -40,7 +44,8 @@ find-spec =
     Inv-loop
     μ-loop
     loop-holds
-    has-at-requires
+    is-kind-requires
+    first-requires
     returns
     add-i
     loop-less

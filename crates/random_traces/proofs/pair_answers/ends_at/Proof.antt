@@ -4,14 +4,14 @@ use borrow.Author.Needs.{needs}
 use Prim.Native.Nat.{_≤_, _-_}
 use Rattle.random_traces.proofs.pair_answers.ends_at.Statement.{statement}
 use Rattle.random_traces.proofs.pair_answers.ends_at.Tie as tie
-use Rattle.random_traces.proofs.slots.get.Reads as get-reads
+use Rattle.random_traces.proofs.slots.get_short.Reads as get-short-reads
 use Rattle.random_traces.proofs.slots.plus.Reads as plus-reads
 
 abbrev Inv-loop : tie.InvT-loop
 Inv-loop list n i₀ i = i₀ ≤ i
 
 abbrev μ-loop : tie.MeasureT-loop
-μ-loop list n i₀ i = 1024 - i
+μ-loop list n i₀ i = 256 - i
 
 plus-requires : tie.Need-plus-requires Inv-loop μ-loop
 plus-requires c κs = search needs
@@ -19,8 +19,8 @@ plus-requires c κs = search needs
 loop-holds : tie.Need-loop-holds Inv-loop μ-loop
 loop-holds c = search needs
 
-get-requires : tie.Need-get-requires Inv-loop μ-loop
-get-requires c κs = search needs
+get-short-requires : tie.Need-get-short-requires Inv-loop μ-loop
+get-short-requires c κs = search needs
 
 returns : tie.Need-returns Inv-loop μ-loop
 returns c = search needs
@@ -45,7 +45,7 @@ ends-at-spec =
     μ-loop
     plus-requires
     loop-holds
-    get-requires
+    get-short-requires
     returns
     add-i
     loop-less

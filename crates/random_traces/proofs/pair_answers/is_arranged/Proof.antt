@@ -4,15 +4,15 @@ use borrow.Author.Needs.{needs}
 use Prim.Native.Nat.{_≤_, _-_}
 use Rattle.random_traces.proofs.pair_answers.is_arranged.Statement.{statement}
 use Rattle.random_traces.proofs.pair_answers.is_arranged.Tie as tie
+use Rattle.random_traces.proofs.definitions.grid.Reads as grid-reads
 use Rattle.random_traces.proofs.pair_answers.is_arranged_at.Reads as is-arranged-at-reads
-use Rattle.random_traces.proofs.races_by_definition.grid.Reads as grid-reads
 use Rattle.trace.proofs.access.count.Reads as count-reads
 
 abbrev Inv-loop : tie.InvT-loop
-Inv-loop recs table kept b count n x₀ x = x₀ ≤ x
+Inv-loop recs table kept b n x₀ x = x₀ ≤ x
 
 abbrev μ-loop : tie.MeasureT-loop
-μ-loop recs table kept b count n x₀ x = n - x
+μ-loop recs table kept b n x₀ x = n - x
 
 count-requires : tie.Need-count-requires Inv-loop μ-loop
 count-requires c κs = search needs

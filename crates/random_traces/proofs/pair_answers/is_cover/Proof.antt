@@ -4,10 +4,9 @@ use borrow.Author.Needs.{needs}
 use Prim.Native.Nat.{_≤_, _-_}
 use Rattle.random_traces.proofs.pair_answers.is_cover.Statement.{statement}
 use Rattle.random_traces.proofs.pair_answers.is_cover.Tie as tie
+use Rattle.random_traces.proofs.definitions.is_before.Reads as is-before-reads
 use Rattle.random_traces.proofs.pair_answers.continues.Reads as continues-reads
 use Rattle.random_traces.proofs.pair_answers.second_of.Reads as second-of-reads
-use Rattle.random_traces.proofs.races_by_definition.is_before.Reads as is-before-reads
-use Rattle.random_traces.proofs.slots.both.Reads as both-reads
 use Rattle.random_traces.proofs.slots.less.Reads as less-reads
 
 abbrev Inv-loop : tie.InvT-loop
@@ -46,9 +45,6 @@ less-requires-2 c κs = search needs
 is-before-requires : tie.Need-is-before-requires Inv-loop μ-loop
 is-before-requires c κs = search needs
 
-both-requires : tie.Need-both-requires Inv-loop μ-loop
-both-requires c κs = search needs
-
 returns-2 : tie.Need-returns-2 Inv-loop μ-loop
 returns-2 c = search needs
 
@@ -68,5 +64,4 @@ is-cover-spec =
     second-of-requires
     less-requires-2
     is-before-requires
-    both-requires
     returns-2)

@@ -6,12 +6,7 @@ use lib.ListN.{length}
 use mathlib.Core.Path.{_≡_}
 use Rattle.random_traces.proofs.paths.find_begins.Statement.{statement}
 use Rattle.random_traces.proofs.paths.find_begins.Tie as tie
-use Rattle.random_traces.proofs.paths.first.Reads as first-reads
-use Rattle.random_traces.proofs.paths.is_kind.Reads as is-kind-reads
-use Rattle.random_traces.proofs.paths.slot.Reads as slot-reads
-use Rattle.random_traces.proofs.slots.more.Reads as more-reads
-use Rattle.random_traces.proofs.slots.pick.Reads as pick-reads
-use Rattle.random_traces.proofs.slots.put.Reads as put-reads
+use Rattle.random_traces.proofs.paths.put_begin.Reads as put-begin-reads
 use Rattle.trace.proofs.access.count.Reads as count-reads
 
 abbrev Inv-loop : tie.InvT-loop
@@ -26,23 +21,8 @@ count-requires c κs = search needs
 loop-holds : tie.Need-loop-holds Inv-loop μ-loop
 loop-holds c = search needs
 
-is-kind-requires : tie.Need-is-kind-requires Inv-loop μ-loop
-is-kind-requires c κs = search needs
-
-slot-requires : tie.Need-slot-requires Inv-loop μ-loop
-slot-requires c κs = search needs
-
-pick-requires : tie.Need-pick-requires Inv-loop μ-loop
-pick-requires c κs = search needs
-
-first-requires : tie.Need-first-requires Inv-loop μ-loop
-first-requires c κs = search needs
-
-put-requires : tie.Need-put-requires Inv-loop μ-loop
-put-requires c κs = search needs
-
-more-requires : tie.Need-more-requires Inv-loop μ-loop
-more-requires c κs = search needs
+put-begin-requires : tie.Need-put-begin-requires Inv-loop μ-loop
+put-begin-requires c κs = search needs
 
 add-i : tie.Need-add-i Inv-loop μ-loop
 add-i c = search needs
@@ -67,12 +47,7 @@ find-begins-spec =
     μ-loop
     count-requires
     loop-holds
-    is-kind-requires
-    slot-requires
-    pick-requires
-    first-requires
-    put-requires
-    more-requires
+    put-begin-requires
     add-i
     loop-less
     loop-again
