@@ -2,17 +2,18 @@
 use Prim.Native.Nat.{ℕ, zero, suc, _+_, _-_, _≤_, _<_}
 use mathlib.Core.Path.{_≡_, refl, sym, ap, _∙_, subst}
 use mathlib.Core.Logic.{_≢_, _⊎_, inl, inr}
-use mathlib.Core.Bool.{Bool, true, false, cond, _&&_, _||_}
+use mathlib.Core.Bool.{Bool, true, false, not, cond, _&&_, _||_}
 use mathlib.Core.List.{List}
 use native.Mathlib.Omega.{arith}
+use native.Mathlib.Numerals.{add-one}
 use native.Mathlib.Nat.{eq-or-lt-of-le, le-of-suc-le-suc}
 use native.Mathlib.Decide.{ℕ-discrete}
 use borrow.Author.Tests.{eq-eqb, ne-eqb}
-use lib.Dec.{T, ltb, eqb, eqb→eq, ltb→lt}
+use lib.Dec.{T, ltb, eqb, eqb→eq, ltb→lt, T-not}
 use lib.ListN.{length, getD, set, length-set, length-replicate, getD-replicate}
 use lib.Seq.{getD-set-same, getD-set-other}
 use Rattle.trace.specs.declared.Record.{Record}
-use Rattle.trace.specs.Records.{at, isRead, isWrite}
+use Rattle.trace.specs.Records.{at, isRead, isWrite, eventOf}
 use Rattle.trace.specs.Reading.{Acceptable}
 use Rattle.trace.specs.Marks.{noMarks}
 use Rattle.trace.specs.Rule.{numbered}
@@ -24,8 +25,9 @@ use Rattle.coverage.specs.Race.{raceb}
 use Rattle.coverage.specs.Neighbours.{conflicts}
 use Rattle.coverage.proofs.Tests.{both, and, either, or-left, or-right, eq→eqb}
 use Rattle.races.specs.Traces.{isAccess, cellsOf, settingOf}
-use Rattle.races.specs.Candidates.{noNexts, isStart, cell, accesses, startOf, Starts, Ahead, Linked, Nexts, NextAccess, On, Jump, Range, FirstRace}
-use Rattle.races.proofs.Instance.{access-inside}
+use Rattle.races.specs.Candidates.{isStart, isOrdered, cell, accesses, startOf, Starts, Upto, Quiet, Last, Lasts, NextAccess, On, Jump, FirstRace}
+use Rattle.order.specs.HappensBefore.{happensBefore}
+use Rattle.races.proofs.Instance.{laws}
 
 off : (x : Bool) → (T x → ⊥) → x ≡ false
 off true h = absurd (h tt)
@@ -182,72 +184,111 @@ module _ (tr : List Record) (short : Bool) where
           at-cell c l (yes d) = rw (p, d, next) (same ∙ sym (starts-same b ∙ rw (← same, f) refl))
           at-cell c l (no d) = rw (p, next) (s .tells c l ∙ sym (starts-other b c (λ q. d (sym q))))
 
--- The next accesses, linked from the last record down.
-module _ (tr : List Record) where
-  pub linked-none : (i : ℕ) → length tr ≤ i → Linked tr i noNexts noMarks
-  unfolding noNexts noMarks
-  linked-none i h = record {
-    long = length-replicate {A = ℕ} 4096 0;
-    wide = length-replicate {A = ℕ} 1025 0;
-    records = λ a l k. absurd (omega arith);
-    cells = λ c l. rw (getD-replicate {A = ℕ} 1025 c 0 0 l) (record { none = λ x k n t. let z = access-inside tr x (of-accesses tr c x t .0) in omega arith; later = λ n. absurd (n refl); same = λ n. absurd (n refl) });
-  }
+pub ordered-none : (tr : List Record) (v b : ℕ) → v ≡ 0 → false ≡ isOrdered tr v b
+unfolding isOrdered
+ordered-none tr v b z = rw (eq-eqb v 0 z) refl
 
-  pub linked-next : {i : ℕ} {nexts ahead : List ℕ} → i < length tr → length tr ≤ 4096 → cell tr i < 1025 → Linked tr (suc i) nexts ahead → (nexts′ ahead′ : List ℕ) → nexts′ ≡ set nexts i (getD ahead (cell tr i) 0) → ahead′ ≡ cond (isAccess (at tr i)) (set ahead (cell tr i) (i + 1)) ahead → Linked tr i nexts′ ahead′
-  linked-next {i} {nexts} {ahead} h few low w nexts′ ahead′ p q = record {
-    long = ap length p ∙ (length-set nexts i (getD ahead (cell tr i) 0) ∙ w .long);
-    wide = wide (isAccess (at tr i)) q;
-    records = λ a l k. rw p (one a l k (ℕ-discrete a i));
-    cells = λ c l. cells c l (isAccess (at tr i)) refl q (ℕ-discrete c (cell tr i));
-  }
+pub ordered-some : (tr : List Record) (v b : ℕ) → v ≢ 0 → happensBefore tr (eventOf (at tr (v - 1))) (eventOf (at tr b)) ≡ isOrdered tr v b
+unfolding isOrdered
+ordered-some tr v b n = rw (ne-eqb v 0 n) refl
+
+-- The last accesses of the cells, one record after the other.
+module _ {tr : List Record} (acc : Acceptable tr) (short : Bool) where
+  pub lasts-none : Lasts tr short 0 noMarks
+  unfolding noMarks
+  lasts-none = record { size = length-replicate {A = ℕ} 1025 0; tells = λ c l. rw (getD-replicate {A = ℕ} 1025 c 0 0 l) (record { high = omega arith; upto = λ n. absurd (n refl) }) }
+
+  -- b's event action comes after that of a record that comes after all of them
+  pub ordered-quiet : {b : ℕ} {lasts : List ℕ} → Lasts tr short b lasts → cell tr b < 1025 → T (isOrdered tr (getD lasts (cell tr b) 0) b) → Quiet tr short b
+  unfolding isOrdered
+  ordered-quiet {b} {lasts} s low h =
+      let v = getD lasts (cell tr b) 0 in
+      let p = both (not (eqb v 0)) (happensBefore tr (eventOf (at tr (v - 1))) (eventOf (at tr b))) h in
+      let n : v ≢ 0 = λ z. T-not (eqb v 0) (p .0) (eq→eqb v 0 z) in
+      record { tells = λ x l k t. laws acc .le-trans _ _ _ (s .tells (cell tr b) low .upto n .tells x l k t) (p .1) }
+
+  -- one record more of another kind or cell
+  upto-still : {b c e : ℕ} → startOf tr short c (suc b) ≡ startOf tr short c b → (T (accesses tr c b) → ⊥) → Upto tr short c b e → Upto tr short c (suc b) e
+  upto-still {b} {c} {e} f n w = record { tells = λ x l k t. go x (rw f at l) (eq-or-lt-of-le (le-of-suc-le-suc k)) t }
     where
-      wide : (t : Bool) → ahead′ ≡ cond t (set ahead (cell tr i) (i + 1)) ahead → length ahead′ ≡ 1025
-      wide true e = ap length e ∙ (length-set ahead (cell tr i) (i + 1) ∙ w .wide)
-      wide false e = ap length e ∙ w .wide
+      go : (x : ℕ) → startOf tr short c b ≤ suc x → (x ≡ b) ⊎ (x < b) → T (accesses tr c x) → T (happensBefore tr (eventOf (at tr x)) e)
+      go x l (inl q) t = absurd (n (subst (λ (y : ℕ). T (accesses tr c y)) q t))
+      go x l (inr k) t = w .tells x l k t
 
-      one : (a : ℕ) → i ≤ a → a < length tr → Dec (a ≡ i) → Ahead tr (cell tr a) (suc a) (getD (set nexts i (getD ahead (cell tr i) 0)) a 0)
-      one a l k (yes e) = let z = w .long in rw (e, getD-set-same nexts i (getD ahead (cell tr i) 0) 0 (omega arith)) (w .cells (cell tr i) low)
-      one a l k (no n) = rw (getD-set-other nexts i a (getD ahead (cell tr i) 0) 0 n) (w .records a (omega arith) k)
+  -- b itself comes last
+  upto-own : {b c : ℕ} → ((x : ℕ) → startOf tr short c (suc b) ≤ suc x → x < b → T (accesses tr c x) → T (happensBefore tr (eventOf (at tr x)) (eventOf (at tr b)))) → Upto tr short c (suc b) (eventOf (at tr b))
+  upto-own {b} {c} f = record { tells = λ x l k t. go x l (eq-or-lt-of-le (le-of-suc-le-suc k)) t }
+    where
+      go : (x : ℕ) → startOf tr short c (suc b) ≤ suc x → (x ≡ b) ⊎ (x < b) → T (accesses tr c x) → T (happensBefore tr (eventOf (at tr x)) (eventOf (at tr b)))
+      go x l (inl q) t = subst (λ (y : ℕ). T (happensBefore tr (eventOf (at tr y)) (eventOf (at tr b)))) (sym q) (laws acc .le-refl (eventOf (at tr b)))
+      go x l (inr k) t = f x l k t
 
-      still : (c : ℕ) → (T (accesses tr c i) → ⊥) → c < 1025 → Ahead tr c i (getD ahead c 0)
-      still c n l =
-          let v = w .cells c l in
-          record { none = λ x k m t. past x k (ℕ-discrete x i) m t; later = λ m. let z = v .later m in omega arith; same = v .same }
+  unstarted : (b : ℕ) → isAccess (at tr b) ≡ false → isStart short (startOf tr short (cell tr b) b) (at tr b) ≡ false
+  unfolding isStart
+  unstarted b f = rw f refl
+
+  abbrev fresh : ℕ → Bool
+  fresh b = isStart short (startOf tr short (cell tr b) b) (at tr b)
+
+  start-moves : (b : ℕ) → fresh b ≡ true → startOf tr short (cell tr b) (suc b) ≡ suc b
+  start-moves b e = rw (starts-same tr short b, e) refl
+
+  start-stays : (b : ℕ) → fresh b ≡ false → startOf tr short (cell tr b) (suc b) ≡ startOf tr short (cell tr b) b
+  start-stays b e = rw (starts-same tr short b, e) refl
+
+  -- the access b becomes the start of its cell, or comes after all from the start on
+  upto-last : {b : ℕ} (quiet : Bool) → (T quiet → Quiet tr short b) → (p : Bool) → fresh b ≡ p → T (p || quiet) → Upto tr short (cell tr b) (suc b) (eventOf (at tr b))
+  upto-last {b} quiet q true e h = upto-own (λ x l k t. absurd (omega (arith, l, start-moves b e)))
+  upto-last {b} quiet q false e h = upto-own (λ x l k t. q h .tells x (rw (start-stays b e) at l) k t)
+
+  pub lasts-next : {b : ℕ} {lasts : List ℕ} (quiet : Bool) → cell tr b < 1025 → (T quiet → Quiet tr short b) → Lasts tr short b lasts → (lasts′ : List ℕ) → lasts′ ≡ cond (isAccess (at tr b)) (set lasts (cell tr b) (cond (fresh b || quiet) (b + 1) 0)) lasts → Lasts tr short (b + 1) lasts′
+  lasts-next {b} {lasts} quiet low q s lasts′ e = go (isAccess (at tr b)) refl e
+    where
+      next : b + 1 ≡ suc b
+      next = omega arith
+
+      still : (c : ℕ) → startOf tr short c (suc b) ≡ startOf tr short c b → (T (accesses tr c b) → ⊥) → c < 1025 → Last tr short c (suc b) (getD lasts c 0)
+      still c f n l = let w = s .tells c l in let h = w .high in record { high = omega arith; upto = λ m. upto-still f n (w .upto m) }
+
+      other : (c : ℕ) → c ≢ cell tr b → c < 1025 → Last tr short c (suc b) (getD lasts c 0)
+      other c d l = still c (starts-other tr short b c (λ z. d (sym z))) (λ t. d (sym (of-accesses tr c b t .1))) l
+
+      last : (p : Bool) → (fresh b || quiet) ≡ p → Last tr short (cell tr b) (suc b) (cond p (suc b) 0)
+      last true f = let g : suc b - 1 ≡ b = omega arith in record { high = omega arith; upto = λ m. rw g (upto-last quiet q (fresh b) refl (subst T (sym f) tt)) }
+      last false f = record { high = omega arith; upto = λ m. absurd (m refl) }
+
+      unread : isAccess (at tr b) ≡ false → startOf tr short (cell tr b) (suc b) ≡ startOf tr short (cell tr b) b
+      unread f = start-stays b (unstarted b f)
+
+      go : (t : Bool) → isAccess (at tr b) ≡ t → lasts′ ≡ cond t (set lasts (cell tr b) (cond (fresh b || quiet) (b + 1) 0)) lasts → Lasts tr short (b + 1) lasts′
+      go true f p = record { size = ap length p ∙ (length-set lasts (cell tr b) (cond (fresh b || quiet) (b + 1) 0) ∙ s .size); tells = λ c l. rw (p, next) (at-cell c l (ℕ-discrete c (cell tr b))) }
         where
-          past : (x : ℕ) → i ≤ x → Dec (x ≡ i) → (getD ahead c 0 ≢ 0 → suc x < getD ahead c 0) → T (accesses tr c x) → ⊥
-          past x k (yes e) m t = n (subst (λ (y : ℕ). T (accesses tr c y)) e t)
-          past x k (no d) m t = w .cells c l .none x (omega arith) m t
+          at-cell : (c : ℕ) → c < 1025 → Dec (c ≡ cell tr b) → Last tr short c (suc b) (getD (set lasts (cell tr b) (cond (fresh b || quiet) (suc b) 0)) c 0)
+          at-cell c l (yes d) = let z = s .size in rw (d, getD-set-same lasts (cell tr b) (cond (fresh b || quiet) (suc b) 0) 0 (omega arith)) (last (fresh b || quiet) refl)
+          at-cell c l (no d) = rw (getD-set-other lasts (cell tr b) c (cond (fresh b || quiet) (suc b) 0) 0 d) (other c d l)
+      go false f p = record { size = ap length p ∙ s .size; tells = λ c l. rw (p, next) (at-cell c l (ℕ-discrete c (cell tr b))) }
+        where
+          at-cell : (c : ℕ) → c < 1025 → Dec (c ≡ cell tr b) → Last tr short c (suc b) (getD lasts c 0)
+          at-cell c l (yes d) = still c (rw d (unread f)) (λ t. subst T f (of-accesses tr c b t .0)) l
+          at-cell c l (no d) = other c d l
 
-      cells : (c : ℕ) → c < 1025 → (t : Bool) → isAccess (at tr i) ≡ t → ahead′ ≡ cond t (set ahead (cell tr i) (i + 1)) ahead → Dec (c ≡ cell tr i) → Ahead tr c i (getD ahead′ c 0)
-      cells c l true f e (yes d) =
-          let z = w .wide in
-          let g : i + 1 - 1 ≡ i = omega arith in
-          rw (e, d, getD-set-same ahead (cell tr i) (i + 1) 0 (omega arith)) (record { none = λ x k m t. let y = m (λ u. omega arith) in omega arith; later = λ m. omega arith; same = λ m. rw g refl })
-      cells c l true f e (no d) = rw (e, getD-set-other ahead (cell tr i) c (i + 1) 0 d) (still c (λ t. d (sym (of-accesses tr c i t .1))) l)
-      cells c l false f e d = rw e (still c (λ t. subst T f (of-accesses tr c i t .0)) l)
+module _ (tr : List Record) where
+  -- From a on to the next record that may access its cell: none up to i.
+  pub scan-start : (a : ℕ) → NextAccess tr (a + 1) a (a + 1)
+  scan-start a = record { ahead = omega arith; high = omega arith; same = λ k. absurd (omega arith); none = λ x l k t. omega arith }
 
-  pub linked-all : (i : ℕ) {nexts ahead : List ℕ} → i ≤ 0 → Linked tr i nexts ahead → Nexts tr nexts
-  linked-all i l w = record { long = w .long; tells = λ a k. w .records a (omega arith) k }
+  pub scan-next : {a i : ℕ} → NextAccess tr i a i → cell tr i ≢ cell tr a → NextAccess tr (i + 1) a (i + 1)
+  scan-next {a} {i} w n = let h = w .ahead in record { ahead = omega arith; high = omega arith; same = λ k. absurd (omega arith); none = λ x l k t. go x l (eq-or-lt-of-le (le-of-suc-le-suc (subst (λ (y : ℕ). x < y) (add-one i) k))) t }
+    where
+      go : (x : ℕ) → a < x → (x ≡ i) ⊎ (x < i) → T (accesses tr (cell tr a) x) → ⊥
+      go x l (inl e) t = n (subst (λ (y : ℕ). cell tr y ≡ cell tr a) e (of-accesses tr (cell tr a) x t .1))
+      go x l (inr k) t = w .none x l k t
 
-  -- From a on to the next access.
-  module _ {nexts : List ℕ} {a b : ℕ} (w : Nexts tr nexts) (l : a < b) (h : b < length tr) where
-    abbrev number : ℕ
-    number = getD nexts a 0
+  pub scan-found : {a b i : ℕ} → NextAccess tr i a i → i < b → cell tr i ≡ cell tr a → NextAccess tr b a i
+  scan-found w l e = record { ahead = w .ahead; high = omega arith; same = λ _. e; none = w .none }
 
-    next : Ahead tr (cell tr a) (suc a) number
-    next = w .tells a (omega arith)
-
-    pub next-end : (number ≡ 0) ⊎ (b < number) → NextAccess tr b a b
-    next-end e = record { ahead = l; high = omega arith; same = λ k. absurd (omega arith); none = λ x k m. next .none x (omega arith) (late e x m) }
-      where
-        late : (number ≡ 0) ⊎ (b < number) → (x : ℕ) → x < b → number ≢ 0 → suc x < number
-        late (inl z) x m n = absurd (n z)
-        late (inr z) x m n = omega arith
-
-    pub next-some : number ≢ 0 → number ≤ b → NextAccess tr b a (number - 1)
-    next-some n m =
-        let k = next .later n in
-        record { ahead = omega arith; high = omega arith; same = λ _. next .same n; none = λ x u v. next .none x (omega arith) (λ _. omega arith) }
+  pub scan-end : {a b i : ℕ} → NextAccess tr i a i → i ≤ b → b ≤ i → NextAccess tr b a i
+  scan-end w l k = record { ahead = w .ahead; high = l; same = λ m. absurd (omega arith); none = w .none }
 
   -- On the way to b that is the next one.
   pub next-jump : {a b r : ℕ} → On tr b a → NextAccess tr b a r → Jump tr b a r

@@ -9,6 +9,7 @@ use Rattle.trace.proofs.Positions.{lt-or-ge}
 use lib.Dec.{T}
 use native.Mathlib.Omega.{arith}
 use native.Mathlib.Nat.{add-zero}
+use native.Mathlib.Numerals.{add-one}
 use lib.ListN.{length, set, length-append, length-map}
 use lib.Seq.{sets, length-sets}
 use Rattle.trace.specs.declared.Record.{Record}
@@ -18,9 +19,9 @@ use Rattle.coverage.specs.Leading.{coveredb}
 use Rattle.races.specs.Traces.{isAccess, settingOf}
 use Rattle.races.specs.Lists.{shapeOf, markOf, entry, numbers}
 use Rattle.races.specs.Candidates.{Jump, Range, FirstRace}
-use Rattle.races.specs.ListPass.{fromOf, firsts, withSecond, pairsBelow, entryIf, OneWrites, Room, Writes, Ranges}
+use Rattle.races.specs.ListPass.{fromOf, firsts, withSecond, pairsBelow, entryIf, OneWrites, RoomIf, Writes, WritesAll, Ranges}
 use Rattle.races.proofs.CandidateLaws.{racing}
-use Rattle.races.proofs.ListLaws.{firsts-start, firsts-yes, firsts-no, firsts-grow, firsts-skip, firsts-low, firsts-empty, below-more, below-length}
+use Rattle.races.proofs.ListLaws.{firsts-start, firsts-yes, firsts-no, firsts-grow, firsts-skip, firsts-low, firsts-empty, firsts-length, below-none, below-more, below-length}
 
 pub five-stores : (l : List ℕ) (i a b c d e : ℕ) → set (set (set (set (set l i a) (i + 1) b) (i + 2) c) (i + 3) d) (i + 4) e ≡ sets l i (a ∷ b ∷ c ∷ d ∷ e ∷ [])
 five-stores l i a b c d e =
@@ -158,7 +159,7 @@ module _ {tr : List Record} {b from k : ℕ} {list₀ list : List ℕ} {next a :
         high = j .on .high;
       }
 
-  pub writing-end : {to : ℕ} → to ≤ a → Range tr b from to → Writes tr b from k list₀ list next
+  pub writing-end : {to : ℕ} → to ≤ a → Range tr b from to → Writes true tr b from k list₀ list next
   writing-end {to} h g =
       let f = firsts-skip tr from b a b (w .high) (λ x l m. g .none x (omega arith) m) in
       record { next = w .next-is ∙ ap (λ xs. k + length xs) (sym f); list-is = w .list-is ∙ ap (λ xs. sets list₀ (5 * k) (numbers tr (withSecond tr b xs))) (sym f) }
@@ -167,29 +168,38 @@ pub writing-next : {tr : List Record} {b from k : ℕ} {list₀ list : List ℕ}
 writing-next w l list′ r o a′ j = writing-jump (writing-one w l list′ r o) refl j
 
 -- a second access without races has no entries
-pub no-entries : {tr : List Record} {b from to low : ℕ} (k : ℕ) (list : List ℕ) → Range tr b from to → FirstRace tr b from to low → to ≤ low → Writes tr b from k list list k
+pub no-entries : (writing : Bool) {tr : List Record} {b from to low : ℕ} (k : ℕ) (list : List ℕ) → Range tr b from to → FirstRace tr b from to low → to ≤ low → Writes writing tr b from k list list k
 unfolding numbers
-no-entries {tr} {b} {from} {to} {low} k list g f l =
-    let e = firsts-empty tr from b b (λ x m n. beyond x m n (lt-or-ge x low)) in
-    record { next = omega (arith, ap length e); list-is = rw e }
+no-entries writing {tr} {b} {from} {to} {low} k list g f l = record { next = omega (arith, ap length none); list-is = go writing }
   where
     beyond : (x : ℕ) → from ≤ x → x < b → (x < low) ⊎ (low ≤ x) → T (raceb (settingOf tr) x b) → ⊥
     beyond x m n (inl h) r = f .none x m h r
     beyond x m n (inr h) r = g .none x (omega arith) n r
+
+    none : firsts tr from b b ≡ []
+    none = firsts-empty tr from b b (λ x m n. beyond x m n (lt-or-ge x low))
+
+    go : (t : Bool) → list ≡ cond t (sets list (5 * k) (numbers tr (withSecond tr b (firsts tr from b b)))) list
+    go true = rw none
+    go false = refl
 
 -- From the first race on the way.
 module _ {tr : List Record} {b from to low : ℕ} (g : Range tr b from to) (f : FirstRace tr b from to low) where
   pub low-range : Range tr b low to
   low-range = record { on = f .on; high = g .high; none = g .none }
 
-  low-firsts : (i : ℕ) → firsts tr from b i ≡ firsts tr low b i
-  low-firsts i = firsts-low tr from b low i (f .low) (f .none)
+  pub low-firsts : firsts tr from b b ≡ firsts tr low b b
+  low-firsts = firsts-low tr from b low b (f .low) (f .none)
 
-  pub low-room : {ranks of : List ℕ} {width : ℕ} {clocks : List ℕ} {k : ℕ} {list : List ℕ} → Room tr ranks of width clocks b from k list → Room tr ranks of width clocks b low k list
-  low-room {k = k} {list = list} r = record { filled = r .filled; inside = r .inside; space = subst (λ (xs : List ℕ). 5 * (k + length xs) ≤ length list) (low-firsts b) (r .space) }
+  pub low-room : {writing : Bool} {k : ℕ} {list : List ℕ} → RoomIf writing tr b from k list → T writing → 5 * (k + length (firsts tr low b b)) ≤ length list
+  low-room {k = k} {list = list} r h = subst (λ (xs : List ℕ). 5 * (k + length xs) ≤ length list) low-firsts (r .space h)
 
-  pub low-writes : {k : ℕ} {list list′ : List ℕ} {r : ℕ} → Writes tr b low k list list′ r → Writes tr b from k list list′ r
-  low-writes {k} {list} {list′} {r} w = record { next = w .next ∙ ap (λ xs. k + length xs) (sym (low-firsts b)); list-is = w .list-is ∙ ap (λ xs. sets list (5 * k) (numbers tr (withSecond tr b xs))) (sym (low-firsts b)) }
+  pub low-writes : {writing : Bool} {k : ℕ} {list list′ : List ℕ} {r : ℕ} → Writes writing tr b low k list list′ r → Writes writing tr b from k list list′ r
+  low-writes {writing} {k} {list} {list′} {r} w = record { next = w .next ∙ ap (λ xs. k + length xs) (sym low-firsts); list-is = w .list-is ∙ ap (λ xs. cond writing (sets list (5 * k) (numbers tr (withSecond tr b xs))) list) (sym low-firsts) }
+
+  -- only counted
+  pub low-counts : {writing : Bool} → writing ≡ false → (k : ℕ) (list : List ℕ) (found : ℕ) → found ≡ length (firsts tr low b b) → Writes writing tr b from k list list (k + found)
+  low-counts e k list found h = record { next = ap (λ x. k + x) (h ∙ ap length (sym low-firsts)); list-is = rw e refl }
 
 -- the second access of a race is an access
 pub race-second : (tr : List Record) (a b : ℕ) → T (raceb (settingOf tr) a b) → T (isAccess (at tr b))
@@ -197,45 +207,61 @@ race-second tr a b r = racing tr a b r .second
 
 -- A way that the code finds, for the entries that the lists have.
 module _ {tr : List Record} {short : Bool} {b from to : ℕ} (w : Ranges tr short b from to) where
-  pub way-writes : {k : ℕ} {list list′ : List ℕ} {r : ℕ} → Writes tr b from k list list′ r → Writes tr b (fromOf tr short b) k list list′ r
-  way-writes {k} {list} o = record { next = o .next ∙ ap (λ xs. k + length xs) (sym (w .firsts-are)); list-is = o .list-is ∙ ap (λ xs. sets list (5 * k) (numbers tr (withSecond tr b xs))) (sym (w .firsts-are)) }
+  pub way-writes : {writing : Bool} {k : ℕ} {list list′ : List ℕ} {r : ℕ} → Writes writing tr b from k list list′ r → Writes writing tr b (fromOf tr short b) k list list′ r
+  way-writes {writing} {k} {list} o = record { next = o .next ∙ ap (λ xs. k + length xs) (sym (w .firsts-are)); list-is = o .list-is ∙ ap (λ xs. cond writing (sets list (5 * k) (numbers tr (withSecond tr b xs))) list) (sym (w .firsts-are)) }
 
   pub way-length : length (firsts tr (fromOf tr short b) b b) ≡ length (firsts tr from b b)
   way-length = ap length (w .firsts-are)
 
 -- the loop over the second accesses, turn by turn
-pub record Listing (tr : List Record) (short : Bool) (list₀ list : List ℕ) (k b : ℕ) : Type 0 where
+pub record Listing (writing : Bool) (tr : List Record) (short : Bool) (list₀ list : List ℕ) (k b : ℕ) : Type 0 where
   pub next-is : k ≡ length (pairsBelow tr short b)
-  pub list-is : list ≡ sets list₀ 0 (numbers tr (pairsBelow tr short b))
+  pub list-is : list ≡ cond writing (sets list₀ 0 (numbers tr (pairsBelow tr short b))) list₀
   pub within : b ≤ length tr
 
-pub listing-start : (tr : List Record) (short : Bool) (list : List ℕ) → Listing tr short list list 0 0
+pub listing-start : (writing : Bool) (tr : List Record) (short : Bool) (list : List ℕ) → Listing writing tr short list list 0 0
 unfolding numbers pairsBelow
-listing-start tr short list = record { next-is = refl; list-is = refl; within = omega arith }
+listing-start writing tr short list = record { next-is = sym (ap length (below-none tr short)); list-is = go writing; within = omega arith }
+  where
+    go : (t : Bool) → list ≡ cond t (sets list 0 (numbers tr (pairsBelow tr short 0))) list
+    go true = refl
+    go false = refl
 
 below-grow : (tr : List Record) (short : Bool) (b d : ℕ) → length (pairsBelow tr short b) ≤ length (pairsBelow tr short (b + d))
 below-grow tr short b zero = let e : b + 0 ≡ b = omega arith in rw e (omega arith)
 below-grow tr short b (suc d) = let e : b + suc d ≡ b + d + 1 = omega arith in rw e (omega (arith, below-grow tr short b d, below-length tr short (b + d)))
 
-module _ {tr : List Record} {short : Bool} {list₀ list : List ℕ} {k b : ℕ} (w : Listing tr short list₀ list k b) where
-  pub listing-size : length list ≡ length list₀
-  listing-size = ap length (w .list-is) ∙ length-sets list₀ 0 (numbers tr (pairsBelow tr short b))
+below-few : (tr : List Record) (short : Bool) (b : ℕ) → b ≤ 4096 → length (pairsBelow tr short b) ≤ 4096 * b
+below-few tr short zero h = omega (arith, ap length (below-none tr short))
+below-few tr short (suc b) h = rw (← add-one b) (omega (arith, below-few tr short b (omega arith), below-length tr short b, firsts-length tr (fromOf tr short b) b b))
 
-  pub listing-room : b < length tr → 5 * length (pairsBelow tr short (length tr)) ≤ length list₀ → 5 * (k + length (firsts tr (fromOf tr short b) b b)) ≤ length list
-  listing-room h s =
+module _ {writing : Bool} {tr : List Record} {short : Bool} {list₀ list : List ℕ} {k b : ℕ} (w : Listing writing tr short list₀ list k b) where
+  pub listing-size : length list ≡ length list₀
+  listing-size = go writing (w .list-is)
+    where
+      go : (t : Bool) → list ≡ cond t (sets list₀ 0 (numbers tr (pairsBelow tr short b))) list₀ → length list ≡ length list₀
+      go true e = ap length e ∙ length-sets list₀ 0 (numbers tr (pairsBelow tr short b))
+      go false e = ap length e
+
+  pub listing-room : {from to : ℕ} → length tr ≤ 4096 → b < length tr → (T writing → 5 * length (pairsBelow tr short (length tr)) ≤ length list₀) → Ranges tr short b from to → RoomIf writing tr b from k list
+  listing-room few h s r =
       let e : b + 1 + (length tr - (b + 1)) ≡ length tr = omega arith in
       let g = rw e at (below-grow tr short (b + 1) (length tr - (b + 1))) in
-      omega (arith, s, g, below-length tr short b, w .next-is, listing-size)
+      record { few = omega (arith, w .next-is, below-few tr short b (omega arith)); space = λ t. omega (arith, s t, g, below-length tr short b, w .next-is, listing-size, way-length r) }
 
-  pub listing-next : b < length tr → (list′ : List ℕ) (r : ℕ) → Writes tr b (fromOf tr short b) k list list′ r → Listing tr short list₀ list′ r (b + 1)
+  pub listing-next : b < length tr → (list′ : List ℕ) (r : ℕ) → Writes writing tr b (fromOf tr short b) k list list′ r → Listing writing tr short list₀ list′ r (b + 1)
   listing-next h list′ r o = record {
     next-is = omega (arith, o .next, w .next-is, below-length tr short b);
-    list-is = o .list-is ∙ (rw (w .list-is, w .next-is) refl ∙ below-written tr short b list₀);
+    list-is = go writing (o .list-is) (w .list-is);
     within = omega arith;
   }
+    where
+      go : (t : Bool) → list′ ≡ cond t (sets list (5 * k) (numbers tr (withSecond tr b (firsts tr (fromOf tr short b) b b)))) list → list ≡ cond t (sets list₀ 0 (numbers tr (pairsBelow tr short b))) list₀ → list′ ≡ cond t (sets list₀ 0 (numbers tr (pairsBelow tr short (b + 1)))) list₀
+      go true p q = p ∙ (rw (q, w .next-is) refl ∙ below-written tr short b list₀)
+      go false p q = p ∙ q
 
-  pub listing-end : length tr ≤ b → list ≡ sets list₀ 0 (numbers tr (pairsBelow tr short (length tr)))
+  pub listing-end : length tr ≤ b → WritesAll writing tr short list₀ list k
   listing-end h =
       let u = w .within in
       let e : b ≡ length tr = omega arith in
-      w .list-is ∙ ap (λ i. sets list₀ 0 (numbers tr (pairsBelow tr short i))) e
+      record { count = w .next-is ∙ ap (λ i. length (pairsBelow tr short i)) e; list-is = w .list-is ∙ ap (λ i. cond writing (sets list₀ 0 (numbers tr (pairsBelow tr short i))) list₀) e }

@@ -9,10 +9,11 @@ use native.Mathlib.Omega.{arith}
 use native.Mathlib.Numerals.{add-one}
 use native.Mathlib.Nat.{eq-or-lt-of-le, le-of-suc-le-suc}
 use borrow.Author.Tests.{eq-eqb, ne-eqb, eqb-true, le-leb, lt-leb, lt-ltb}
-use lib.Dec.{T, leb, ltb, eqb, leb→le, le→leb, ltb→lt, T-not, not-T}
+use lib.Dec.{T, leb, ltb, eqb, eqb→eq, leb→le, le→leb, ltb→lt, T-not, not-T}
 use lib.ListN.{length, length-append, length-map}
 use Rattle.trace.specs.declared.Record.{Record}
 use Rattle.trace.specs.Records.{at, isRead, isWrite}
+use Rattle.trace.specs.Reading.{Acceptable}
 use Rattle.trace.proofs.Positions.{lt-or-ge}
 use Rattle.coverage.specs.Below.{some, upto, pairs, only}
 use Rattle.coverage.specs.Race.{raceb}
@@ -23,8 +24,10 @@ use Rattle.order.proofs.Tests.{equal-tests}
 use Rattle.coverage.proofs.Lists.{upto-ext, upto-zero, upto-yes, upto-no, upto-empty}
 use Rattle.races.specs.Traces.{isAccess, cellsOf, settingOf}
 use Rattle.races.specs.Lists.{pairsOf}
-use Rattle.races.specs.Candidates.{cell, accesses, startOf, On, Range}
+use Rattle.races.specs.Candidates.{cell, accesses, startOf, Quiet, On, Range}
 use Rattle.races.specs.ListPass.{fromOf, firsts, withSecond, pairsBelow, Ranges}
+use Rattle.coverage.proofs.Order.{race-of, race-not-le}
+use Rattle.races.proofs.Instance.{laws}
 use Rattle.races.proofs.CandidateLaws.{Start, start, racing, race-accesses}
 
 off : (x : Bool) → (T x → ⊥) → x ≡ false
@@ -183,21 +186,21 @@ module _ (tr : List Record) where
           (p .1)
 
   -- the way that the code finds
-  way-none : (short : Bool) (b : ℕ) → ((x : ℕ) → x < b → T (race x b) → ⊥) → Ranges tr short b b b
+  way-none : (short : Bool) (b : ℕ) → ((x : ℕ) → fromOf tr short b ≤ x → x < b → T (race x b) → ⊥) → Ranges tr short b b b
   way-none short b n = record {
     range = record { on = record { high = omega arith; same = λ l. absurd (omega arith) }; high = omega arith; none = λ x l k. absurd (omega arith) };
-    firsts-are = firsts-empty (fromOf tr short b) b b (λ x l k. n x k) ∙ sym (firsts-empty b b b (λ x l k. n x k));
+    firsts-are = firsts-empty (fromOf tr short b) b b n ∙ sym (firsts-empty b b b (λ x l k. absurd (omega arith)));
   }
 
   pub way-no-access : (short : Bool) (b : ℕ) → isAccess (at tr b) ≡ false → Ranges tr short b b b
-  way-no-access short b e = way-none short b (λ x l h. subst T e (race-access x b h))
+  way-no-access short b e = way-none short b (λ x l k h. subst T e (race-access x b h))
+
+  pub way-quiet : Acceptable tr → (short : Bool) (b : ℕ) → Quiet tr short b → Ranges tr short b b b
+  way-quiet acc short b q = way-none short b (λ x l k h. race-not-le (settingOf tr) (laws acc) x b (race-of (settingOf tr) x b h) (q .tells x (omega arith) k (race-accesses tr x b h)))
 
   module _ (short : Bool) (b v : ℕ) (e : v ≡ startOf tr short (cell tr b) b) where
     w : Start tr short (cell tr b) b v
     w = rw e (start tr short (cell tr b) b)
-
-    pub way-no-start : v ≡ 0 → Ranges tr short b b b
-    way-no-start z = way-none short b (λ x l h. w .before x l (race-accesses tr x b h) (inl z) .1 z)
 
     on-start : v ≢ 0 → On tr b (v - 1)
     on-start n = let k = w .high in record { high = omega arith; same = λ l. w .same n }
@@ -205,15 +208,25 @@ module _ (tr : List Record) where
     from-is : fromOf tr short b ≡ v - 1
     from-is = ap (λ x. x - 1) (sym e)
 
-    pub way-all : v ≢ 0 → Ranges tr short b (v - 1) b
+    pub way-no-start : v ≡ 0 → Ranges tr short b b b
+    way-no-start z = way-none short b (λ x l k h. w .before x k (race-accesses tr x b h) (inl z) .1 z)
+
+    way-all : v ≢ 0 → Ranges tr short b (v - 1) b
     way-all n = record { range = record { on = on-start n; high = omega arith; none = λ x l k. absurd (omega arith) }; firsts-are = ap (λ x. firsts tr x b b) from-is }
 
-    pub way-read : v ≢ 0 → T short → at tr b .kind ≡ 5 → Ranges tr short b (v - 1) v
+    way-read : v ≢ 0 → T short → at tr b .kind ≡ 5 → Ranges tr short b (v - 1) v
     way-read n s k = record { range = record { on = on-start n; high = w .high; none = λ x l m h. reads x l m h (racing tr x b h .one) }; firsts-are = ap (λ x. firsts tr x b b) from-is }
       where
         reads : (x : ℕ) → v ≤ x → x < b → T (race x b) → T (isWrite (at tr x)) ⊎ T (isWrite (at tr b)) → ⊥
         reads x l m h (inl t) = w .after s x l m (race-accesses tr x b h) t
         reads x l m h (inr t) = rw k at t
+
+    pub way-start : v ≢ 0 → (to : ℕ) → to ≡ cond (short && eqb (at tr b .kind) 5) v b → Ranges tr short b (v - 1) to
+    way-start n to q = rw q (go (short && eqb (at tr b .kind) 5) refl)
+      where
+        go : (t : Bool) → (short && eqb (at tr b .kind) 5) ≡ t → Ranges tr short b (v - 1) (cond t v b)
+        go true f = let h = both short (eqb (at tr b .kind) 5) (subst T (sym f) tt) in way-read n (h .0) (eqb→eq (at tr b .kind) 5 (h .1))
+        go false f = way-all n
 
   -- so the pairs found below n are the list's
   all-test : (a b : ℕ) → test (fromOf tr false b) b a ≡ race a b

@@ -1,20 +1,17 @@
 -- Where the first accesses that may race with a second access b are looked for: along the accesses of its cell. `CandidateLaws` proves that none is missed. Definitions
 -- alone. Assumes nothing.
-use Prim.Native.Nat.{ℕ, zero, suc, _+_, _-_, _≤_, _<_}
+use Prim.Native.Nat.{ℕ, zero, suc, _-_, _≤_, _<_}
 use mathlib.Core.Path.{_≡_}
 use mathlib.Core.Logic.{_≢_}
-use mathlib.Core.Bool.{Bool, cond, _&&_, _||_}
+use mathlib.Core.Bool.{Bool, not, cond, _&&_, _||_}
 use mathlib.Core.List.{List}
 use lib.Dec.{T, eqb}
-use lib.ListN.{length, getD, replicate}
+use lib.ListN.{length, getD}
 use Rattle.trace.specs.declared.Record.{Record}
-use Rattle.trace.specs.Records.{at, isWrite}
+use Rattle.trace.specs.Records.{at, isWrite, eventOf}
+use Rattle.order.specs.HappensBefore.{happensBefore}
 use Rattle.coverage.specs.Race.{raceb}
 use Rattle.races.specs.Traces.{isAccess, settingOf}
-
--- no numbers of next accesses yet
-unfoldable pub noNexts : List ℕ
-noNexts = replicate 4096 0
 
 -- does the record, where v is its cell's start so far, become the start?
 unfoldable pub isStart : Bool → ℕ → Record → Bool
@@ -36,22 +33,26 @@ module _ (tr : List Record) where
     pub size : length starts ≡ 1025
     pub tells : (c : ℕ) → c < 1025 → getD starts c 0 ≡ startOf short c i
 
-  -- v is the number of the next access of the cell from i on, 0 where there is none
-  pub record Ahead (c i v : ℕ) : Type 0 where
-    pub none : (x : ℕ) → i ≤ x → (v ≢ 0 → suc x < v) → T (accesses c x) → ⊥
-    pub later : v ≢ 0 → i < v
-    pub same : v ≢ 0 → cell (v - 1) ≡ c
+  -- the event action of the record with number v, 0 for none, happens before that of b
+  unfoldable pub isOrdered : ℕ → ℕ → Bool
+  isOrdered v b = not (eqb v 0) && happensBefore tr (eventOf (at tr (v - 1))) (eventOf (at tr b))
 
-  -- the next accesses of the records from i on, and those of the cells
-  pub record Linked (i : ℕ) (nexts ahead : List ℕ) : Type 0 where
-    pub long : length nexts ≡ 4096
-    pub wide : length ahead ≡ 1025
-    pub records : (a : ℕ) → i ≤ a → a < length tr → Ahead (cell a) (suc a) (getD nexts a 0)
-    pub cells : (c : ℕ) → c < 1025 → Ahead c i (getD ahead c 0)
+  -- the accesses of a cell from its start on, before i, are in event actions that happen before e
+  pub record Upto (short : Bool) (c i e : ℕ) : Type 0 where
+    pub tells : (x : ℕ) → startOf short c i ≤ suc x → x < i → T (accesses c x) → T (happensBefore tr (eventOf (at tr x)) e)
 
-  pub record Nexts (nexts : List ℕ) : Type 0 where
-    pub long : length nexts ≡ 4096
-    pub tells : (a : ℕ) → a < length tr → Ahead (cell a) (suc a) (getD nexts a 0)
+  -- so are those of b's cell, as b's event action has it: none of them races with b
+  abbrev pub Quiet : Bool → ℕ → Type 0
+  Quiet short b = Upto short (cell b) b (eventOf (at tr b))
+
+  -- v is the number of the record before i whose event action comes after those accesses of the cell, 0 where none is known
+  pub record Last (short : Bool) (c i v : ℕ) : Type 0 where
+    pub high : v ≤ i
+    pub upto : v ≢ 0 → Upto short c i (eventOf (at tr (v - 1)))
+
+  pub record Lasts (short : Bool) (i : ℕ) (lasts : List ℕ) : Type 0 where
+    pub size : length lasts ≡ 1025
+    pub tells : (c : ℕ) → c < 1025 → Last short c i (getD lasts c 0)
 
   -- from a on to r, past no access of a's cell: a record before b with that cell, or b
   pub record NextAccess (b a r : ℕ) : Type 0 where

@@ -4,7 +4,7 @@ use Prim.Native.Nat.{ℕ, zero, suc, _+_, _*_, _-_, _≤_, _<_}
 use mathlib.Core.Path.{_≡_}
 use mathlib.Core.Bool.{Bool, true, false, cond, _&&_}
 use mathlib.Core.List.{List, [], _∷_, _++_, map}
-use lib.Dec.{leb}
+use lib.Dec.{T, leb}
 use lib.ListN.{length, drop, replicate, take}
 use lib.Seq.{sets}
 use Rattle.trace.specs.declared.Record.{Record}
@@ -80,18 +80,23 @@ pub record Room (tr : List Record) (ranks of : List ℕ) (width : ℕ) (clocks :
   pub inside : b < length tr
   pub space : 5 * (k + length (firsts tr from b b)) ≤ length list
 
--- its entries are written from entry k on
-pub record Writes (tr : List Record) (b from k : ℕ) (list list′ : List ℕ) (r : ℕ) : Type 0 where
+-- list space for its entries from entry k on, where they are written
+pub record RoomIf (writing : Bool) (tr : List Record) (b from k : ℕ) (list : List ℕ) : Type 0 where
+  pub few : k ≤ 4096 * b
+  pub space : T writing → 5 * (k + length (firsts tr from b b)) ≤ length list
+
+-- its entries are written from entry k on, or only counted
+pub record Writes (writing : Bool) (tr : List Record) (b from k : ℕ) (list list′ : List ℕ) (r : ℕ) : Type 0 where
   pub next : r ≡ k + length (firsts tr from b b)
-  pub list-is : list′ ≡ sets list (5 * k) (numbers tr (withSecond tr b (firsts tr from b b)))
+  pub list-is : list′ ≡ cond writing (sets list (5 * k) (numbers tr (withSecond tr b (firsts tr from b b)))) list
+
+-- so are all entries
+pub record WritesAll (writing : Bool) (tr : List Record) (short : Bool) (list list′ : List ℕ) (r : ℕ) : Type 0 where
+  pub count : r ≡ length (pairsBelow tr short (length tr))
+  pub list-is : list′ ≡ cond writing (sets list 0 (numbers tr (pairsBelow tr short (length tr)))) list
 
 -- the work space is 0 over one byte for each event action
 pub record Clear (tr : List Record) (events : ℕ) (work : List ℕ) : Type 0 where
   pub events-are : events ≡ rows tr
   pub work-room : rows tr ≤ length work
   pub zeros : work ≡ replicate (rows tr) 0 ++ drop (rows tr) work
-
--- list space for all entries
-pub record AllRoom (tr : List Record) (ranks of : List ℕ) (width : ℕ) (clocks : List ℕ) (short : Bool) (list : List ℕ) : Type 0 where
-  pub filled : Filled tr ranks of width clocks
-  pub space : 5 * length (pairsBelow tr short (length tr)) ≤ length list

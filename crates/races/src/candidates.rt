@@ -1,19 +1,20 @@
 // Where the first accesses that may race with a second access are looked for: along the accesses of its cell.
 use crate::leading::is_access;
+use crate::racing::is_before;
 use crate::racing::is_race;
 use trace::Record;
 use trace::access;
 ghost use mathlib.Core.Path.{_≡_};
-ghost use mathlib.Core.Bool.{cond};
-ghost use Prim.Native.Nat.{suc, _+_, _≤_, _<_};
+ghost use mathlib.Core.Bool.{cond, _&&_, _||_};
+ghost use Prim.Native.Nat.{_+_, _≤_, _<_};
+ghost use lib.Dec.{T};
 ghost use lib.ListN.{length, getD, set};
 ghost use Rattle.trace.specs.Bytes.{decode};
 ghost use Rattle.trace.specs.Records.{at};
 ghost use Rattle.trace.specs.Reading.{Acceptable};
 ghost use Rattle.trace.specs.Marks.{noMarks};
-ghost use Rattle.races.specs.Traces.{isAccess};
 ghost use Rattle.races.specs.Filled.{Filled};
-ghost use Rattle.races.specs.Candidates.{isStart, Starts, Linked, Nexts, NextAccess, Range, FirstRace, noNexts};
+ghost use Rattle.races.specs.Candidates.{isStart, isOrdered, Starts, Lasts, Quiet, NextAccess, Range, FirstRace};
 ghost use Rattle.races.specs.ListPass.{Ranges};
 
 // A record number for each cell, none yet.
@@ -21,13 +22,6 @@ pub(crate) fn no_starts() -> [u16; 1025]
     ensures { λ r. ⌜ r ≡ noMarks ⌝ }
 {
     [0; 1025]
-}
-
-// A record number for each record, none yet.
-fn no_nexts() -> [u16; 4096]
-    ensures { λ r. ⌜ r ≡ noNexts ⌝ }
-{
-    [0; 4096]
 }
 
 fn number_at(table: &[u16], c: usize) -> u16
@@ -64,87 +58,136 @@ fn is_start(short: bool, start: u16, r: Record) -> bool
     false
 }
 
+// Is the access with that number, 0 for none, in an event action that happens before that of record b?
+fn is_ordered(
+    recs: &[u8],
+    ranks: &[u16],
+    of: &[u16],
+    width: usize,
+    clocks: &[u16],
+    last: u16,
+    b: usize,
+) -> bool
+    requires { ⌜ Filled (decode (now recs)) (now ranks) (now of) width (now clocks) × (b < length (decode (now recs))) × (last ≤ b) ⌝ }
+    ensures { λ r. ⌜ r ≡ isOrdered (decode (now (recs .entry))) last b ⌝ }
+{
+    if last == 0 {
+        return false;
+    }
+    is_before(recs, ranks, of, width, clocks, (last - 1) as usize, b)
+}
+
+// The number of b where b starts its cell or comes after all its accesses from the start on, else 0.
+fn last_number(fresh: bool, quiet: bool, b: usize) -> u16
+    requires { ⌜ b < 4096 ⌝ }
+    ensures { λ r. ⌜ r ≡ cond (fresh || quiet) (b + 1) 0 ⌝ }
+{
+    if fresh {
+        return (b + 1) as u16;
+    }
+    if quiet {
+        return (b + 1) as u16;
+    }
+    0
+}
+
 // Takes record b into account.
-pub(crate) fn note_start(recs: &[u8], short: bool, b: usize, starts: &mut [u16])
-    requires { ⌜ Acceptable (decode (now recs)) × (b < length (decode (now recs))) × Starts (decode (now recs)) short b (now starts) ⌝ }
-    ensures { λ u. ⌜ Starts (decode (now (recs .entry))) short (b + 1) (now (starts .exit)) ⌝ }
+pub(crate) fn note_access(
+    recs: &[u8],
+    short: bool,
+    quiet: bool,
+    b: usize,
+    starts: &mut [u16],
+    lasts: &mut [u16],
+)
+    requires { ⌜ Acceptable (decode (now recs)) × (b < length (decode (now recs))) × (T quiet → Quiet (decode (now recs)) short b) ⌝ }
+    requires { ⌜ Starts (decode (now recs)) short b (now starts) × Lasts (decode (now recs)) short b (now lasts) ⌝ }
+    ensures { λ u. ⌜ Starts (decode (now (recs .entry))) short (b + 1) (now (starts .exit)) × Lasts (decode (now (recs .entry))) short (b + 1) (now (lasts .exit)) ⌝ }
 {
     let r = access::record_at(recs, b);
     let c = r.second as usize;
-    let start = number_at(starts, c);
-    put_if(starts, is_start(short, start, r), c, (b + 1) as u16);
+    let fresh = is_start(short, number_at(starts, c), r);
+    put_if(starts, fresh, c, (b + 1) as u16);
+    put_if(lasts, is_access(r), c, last_number(fresh, quiet, b));
 }
 
-// Links record i to the next access of its cell, and takes the record into account.
-fn link(recs: &[u8], i: usize, nexts: &mut [u16], ahead: &mut [u16])
-    requires { ⌜ Acceptable (decode (now recs)) × (i < length (decode (now recs))) × Linked (decode (now recs)) (suc i) (now nexts) (now ahead) ⌝ }
-    ensures { λ u. ⌜ Linked (decode (now (recs .entry))) i (now (nexts .exit)) (now (ahead .exit)) ⌝ }
-{
-    let r = access::record_at(recs, i);
-    let c = r.second as usize;
-    put_if(nexts, true, i, number_at(ahead, c));
-    put_if(ahead, is_access(r), c, (i + 1) as u16);
-}
-
-// For each record the number of the next access of its cell, 0 where there is none.
-pub(crate) fn next_accesses(recs: &[u8]) -> [u16; 4096]
-    requires { ⌜ Acceptable (decode (now recs)) ⌝ }
-    ensures { λ r. ⌜ Nexts (decode (now (recs .entry))) r ⌝ }
-{
-    let mut nexts = no_nexts();
-    let mut ahead = no_starts();
-    let mut i = access::count(recs);
-    while 0 < i {
-        i -= 1;
-        link(recs, i, &mut nexts, &mut ahead);
-    }
-    nexts
-}
-
-// From record a on to the next access of its cell, or to b.
-pub(crate) fn next_access(recs: &[u8], nexts: &[u16], a: usize, b: usize) -> usize
-    requires { ⌜ Nexts (decode (now recs)) (now nexts) × (a < b) × (b < length (decode (now recs))) ⌝ }
+// From record a on to the next one that may access its cell, or to b.
+pub(crate) fn next_access(recs: &[u8], a: usize, b: usize) -> usize
+    requires { ⌜ (a < b) × (b < length (decode (now recs))) × (length (decode (now recs)) ≤ 4096) ⌝ }
     ensures { λ r. ⌜ NextAccess (decode (now (recs .entry))) b a r ⌝ }
 {
-    let number = number_at(nexts, a) as usize;
-    if number == 0 {
-        return b;
+    let c = access::second_at(recs, a);
+    let mut i = a + 1;
+    while i < b {
+        if access::second_at(recs, i) == c {
+            return i;
+        }
+        i += 1;
     }
-    if b < number {
-        return b;
-    }
-    number - 1
+    i
 }
 
 pub(crate) struct Way {
     pub from: usize,
     pub to: usize,
+    pub quiet: bool,
 }
 
-// From where on, and up to where, first accesses of b are looked for. In the short list only the last write before a read can race with it.
-pub(crate) fn way_to(recs: &[u8], starts: &[u16], short: bool, b: usize) -> Way
-    requires { ⌜ Acceptable (decode (now recs)) × (b < length (decode (now recs))) × Starts (decode (now recs)) short b (now starts) ⌝ }
-    ensures { λ r. ⌜ Ranges (decode (now (recs .entry))) short b (r .from) (r .to) ⌝ }
+fn no_way(b: usize, quiet: bool) -> Way
+    ensures { λ r. ⌜ (r .from ≡ b) × (r .to ≡ b) × (r .quiet ≡ quiet) ⌝ }
+{
+    Way {
+        from: b,
+        to: b,
+        quiet: quiet,
+    }
+}
+
+// Up to where, from the start of its cell on: in the short list only the last write before a read can race with it.
+fn way_end(start: usize, short: bool, reads: bool, b: usize) -> usize
+    ensures { λ r. ⌜ r ≡ cond (short && reads) start b ⌝ }
+{
+    if !short {
+        return b;
+    }
+    if reads {
+        return start;
+    }
+    b
+}
+
+// From where on, and up to where, first accesses of b are looked for. Where all accesses of its cell happen before b the way is quiet, and none is looked for.
+pub(crate) fn way_to(
+    recs: &[u8],
+    ranks: &[u16],
+    of: &[u16],
+    width: usize,
+    clocks: &[u16],
+    starts: &[u16],
+    lasts: &[u16],
+    short: bool,
+    b: usize,
+) -> Way
+    requires { ⌜ Filled (decode (now recs)) (now ranks) (now of) width (now clocks) × (b < length (decode (now recs))) ⌝ }
+    requires { ⌜ Starts (decode (now recs)) short b (now starts) × Lasts (decode (now recs)) short b (now lasts) ⌝ }
+    ensures { λ r. ⌜ Ranges (decode (now (recs .entry))) short b (r .from) (r .to) × (T (r .quiet) → Quiet (decode (now (recs .entry))) short b) ⌝ }
 {
     let r = access::record_at(recs, b);
-    let start = number_at(starts, r.second as usize) as usize;
     if !is_access(r) {
-        return Way { from: b, to: b };
+        return no_way(b, false);
     }
+    let c = r.second as usize;
+    if is_ordered(recs, ranks, of, width, clocks, number_at(lasts, c), b) {
+        return no_way(b, true);
+    }
+    let start = number_at(starts, c) as usize;
     if start == 0 {
-        return Way { from: b, to: b };
-    }
-    if short {
-        if r.kind == 5 {
-            return Way {
-                from: start - 1,
-                to: start,
-            };
-        }
+        return no_way(b, false);
     }
     Way {
         from: start - 1,
-        to: b,
+        to: way_end(start, short, r.kind == 5, b),
+        quiet: false,
     }
 }
 
@@ -155,12 +198,11 @@ pub(crate) fn first_race(
     of: &[u16],
     width: usize,
     clocks: &[u16],
-    nexts: &[u16],
     from: usize,
     to: usize,
     b: usize,
 ) -> usize
-    requires { ⌜ Filled (decode (now recs)) (now ranks) (now of) width (now clocks) × Nexts (decode (now recs)) (now nexts) ⌝ }
+    requires { ⌜ Filled (decode (now recs)) (now ranks) (now of) width (now clocks) ⌝ }
     requires { ⌜ Range (decode (now recs)) b from to × (b < length (decode (now recs))) ⌝ }
     ensures { λ r. ⌜ FirstRace (decode (now (recs .entry))) b from to r ⌝ }
 {
@@ -169,7 +211,7 @@ pub(crate) fn first_race(
         if is_race(recs, ranks, of, width, clocks, a, b) {
             return a;
         }
-        a = next_access(recs, nexts, a, b);
+        a = next_access(recs, a, b);
     }
     a
 }

@@ -11,7 +11,6 @@ ghost use Rattle.coverage.specs.Race.{Race};
 ghost use Rattle.coverage.specs.Leading.{coveredb};
 ghost use Rattle.races.specs.Traces.{settingOf};
 ghost use Rattle.races.specs.Filled.{Filled};
-ghost use Rattle.races.specs.Candidates.{Nexts};
 ghost use Rattle.races.specs.Leading.{rows};
 ghost use Rattle.races.specs.Pair.{GivesCover};
 ghost use Rattle.races.specs.PairSearch.{racesOn, Second, Sought, Next};
@@ -54,24 +53,23 @@ fn find_second(
     width: usize,
     clocks: &[u16],
     work: &[u8],
-    nexts: &[u16],
     t: usize,
     b: usize,
     c: usize,
 ) -> usize
-    requires { ⌜ Filled (decode (now recs)) (now ranks) (now of) width (now clocks) × Marks (decode (now recs)) (now ranks) (now work) b × Nexts (decode (now recs)) (now nexts) ⌝ }
+    requires { ⌜ Filled (decode (now recs)) (now ranks) (now of) width (now clocks) × Marks (decode (now recs)) (now ranks) (now work) b ⌝ }
     requires { ⌜ (t < b) × (c < b) ⌝ }
     ensures { λ r. ⌜ Second (decode (now (recs .entry))) b t c r ⌝ }
 {
     if !racing::is_before(recs, ranks, of, width, clocks, t, c) {
         return b;
     }
-    let mut d = candidates::next_access(recs, nexts, c, b);
+    let mut d = candidates::next_access(recs, c, b);
     while d < b {
         if races_on(recs, ranks, of, width, clocks, work, b, c, d) {
             return d;
         }
-        d = candidates::next_access(recs, nexts, d, b);
+        d = candidates::next_access(recs, d, b);
     }
     b
 }
@@ -84,17 +82,16 @@ fn find_race(
     width: usize,
     clocks: &[u16],
     work: &[u8],
-    nexts: &[u16],
     t: usize,
     b: usize,
 ) -> Step
-    requires { ⌜ Filled (decode (now recs)) (now ranks) (now of) width (now clocks) × Marks (decode (now recs)) (now ranks) (now work) b × Nexts (decode (now recs)) (now nexts) ⌝ }
+    requires { ⌜ Filled (decode (now recs)) (now ranks) (now of) width (now clocks) × Marks (decode (now recs)) (now ranks) (now work) b ⌝ }
     requires { ⌜ Sought (decode (now recs)) b t ⌝ }
     ensures { λ r. ⌜ Next (decode (now (recs .entry))) b t (r .first) (r .second) ⌝ }
 {
     let mut c = leading::block_start(recs, t);
     while c < b {
-        let d = find_second(recs, ranks, of, width, clocks, work, nexts, t, b, c);
+        let d = find_second(recs, ranks, of, width, clocks, work, t, b, c);
         if d < b {
             return Step {
                 first: c,
@@ -117,19 +114,18 @@ pub(crate) fn put_cover(
     width: usize,
     clocks: &[u16],
     work: &[u8],
-    nexts: &[u16],
     list: &mut [u16],
     a: usize,
     b: usize,
 ) -> usize
-    requires { ⌜ Filled (decode (now recs)) (now ranks) (now of) width (now clocks) × Marks (decode (now recs)) (now ranks) (now work) b × Nexts (decode (now recs)) (now nexts) ⌝ }
+    requires { ⌜ Filled (decode (now recs)) (now ranks) (now of) width (now clocks) × Marks (decode (now recs)) (now ranks) (now work) b ⌝ }
     requires { ⌜ Race (settingOf (decode (now recs))) a b × T (coveredb (settingOf (decode (now recs))) a b) × (2 * rows (decode (now recs)) ≤ length (now list)) ⌝ }
     ensures { λ r. ⌜ GivesCover (decode (now (recs .entry))) a b r (now (list .entry)) (now (list .exit)) ⌝ }
 {
     let mut t = a;
     let mut k = 0;
     while !racing::is_before(recs, ranks, of, width, clocks, t, b) {
-        let step = find_race(recs, ranks, of, width, clocks, work, nexts, t, b);
+        let step = find_race(recs, ranks, of, width, clocks, work, t, b);
         pair::put_entry(list, k, (step.first + 1) as u16, (step.second + 1) as u16);
         k += 1;
         t = step.second;

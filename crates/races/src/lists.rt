@@ -3,9 +3,8 @@ use crate::Listing;
 use crate::Summary;
 use crate::candidates::first_race;
 use crate::candidates::next_access;
-use crate::candidates::next_accesses;
 use crate::candidates::no_starts;
-use crate::candidates::note_start;
+use crate::candidates::note_access;
 use crate::candidates::way_to;
 use crate::leading;
 use crate::racing::is_race;
@@ -18,8 +17,10 @@ use trace::Reading;
 use trace::Refusal;
 use trace::access;
 ghost use mathlib.Core.Path.{_≡_};
+ghost use mathlib.Core.Bool.{true};
 ghost use mathlib.Core.List.{[], _∷_, _++_};
 ghost use Prim.Native.Nat.{_+_, _*_, _≤_, _<_};
+ghost use lib.Dec.{T};
 ghost use lib.ListN.{length, drop};
 ghost use lib.Seq.{sets};
 ghost use Rattle.trace.specs.Bytes.{decode};
@@ -29,9 +30,10 @@ ghost use Rattle.order.specs.Ranks.{ranksOf};
 ghost use Rattle.order.specs.Fill.{chainsUsed};
 ghost use Rattle.races.specs.Lists.{entry, numbers, shapeOf, ListReply};
 ghost use Rattle.races.specs.Paper.{listPaper, ListsFilled, Lists};
-ghost use Rattle.races.specs.ListPass.{firsts, pairsBelow, MarkOf, MarksFrom, OneRoom, OneWrites, Clear, Room, Writes, AllRoom};
-ghost use Rattle.races.specs.Candidates.{Nexts, Range};
+ghost use Rattle.races.specs.ListPass.{firsts, pairsBelow, MarkOf, MarksFrom, OneRoom, OneWrites, Clear, Room, RoomIf, Writes, WritesAll};
+ghost use Rattle.races.specs.Candidates.{Range};
 ghost use Rattle.races.specs.Filled.{Filled};
+ghost use Rattle.races.specs.Traces.{isAccess};
 
 // How many records on the way to b race with b.
 fn count_at(
@@ -40,12 +42,11 @@ fn count_at(
     of: &[u16],
     width: usize,
     clocks: &[u16],
-    nexts: &[u16],
     from: usize,
     to: usize,
     b: usize,
 ) -> usize
-    requires { ⌜ Filled (decode (now recs)) (now ranks) (now of) width (now clocks) × Nexts (decode (now recs)) (now nexts) ⌝ }
+    requires { ⌜ Filled (decode (now recs)) (now ranks) (now of) width (now clocks) ⌝ }
     requires { ⌜ Range (decode (now recs)) b from to × (b < length (decode (now recs))) ⌝ }
     ensures { λ r. ⌜ (r ≡ length (firsts (decode (now (recs .entry))) from b b)) × (r ≤ b) ⌝ }
 {
@@ -55,33 +56,7 @@ fn count_at(
         if is_race(recs, ranks, of, width, clocks, a, b) {
             found += 1;
         }
-        a = next_access(recs, nexts, a, b);
-    }
-    found
-}
-
-// How many entries the list has.
-fn count(
-    recs: &[u8],
-    ranks: &[u16],
-    of: &[u16],
-    width: usize,
-    clocks: &[u16],
-    nexts: &[u16],
-    short: bool,
-) -> usize
-    requires { ⌜ Filled (decode (now recs)) (now ranks) (now of) width (now clocks) × Nexts (decode (now recs)) (now nexts) ⌝ }
-    ensures { λ r. ⌜ r ≡ length (pairsBelow (decode (now (recs .entry))) short (length (decode (now (recs .entry))))) ⌝ }
-{
-    let n = access::count(recs);
-    let mut starts = no_starts();
-    let mut found = 0;
-    let mut b = 0;
-    while b < n {
-        let way = way_to(recs, &starts, short, b);
-        found += count_at(recs, ranks, of, width, clocks, nexts, way.from, way.to, b);
-        note_start(recs, short, b, &mut starts);
-        b += 1;
+        a = next_access(recs, a, b);
     }
     found
 }
@@ -154,7 +129,6 @@ fn write_races(
     of: &[u16],
     width: usize,
     clocks: &[u16],
-    nexts: &[u16],
     work: &[u8],
     low: usize,
     to: usize,
@@ -162,27 +136,51 @@ fn write_races(
     list: &mut [u16],
     k: usize,
 ) -> usize
-    requires { ⌜ Room (decode (now recs)) (now ranks) (now of) width (now clocks) b low k (now list) × Nexts (decode (now recs)) (now nexts) ⌝ }
+    requires { ⌜ Room (decode (now recs)) (now ranks) (now of) width (now clocks) b low k (now list) ⌝ }
     requires { ⌜ Range (decode (now recs)) b low to × MarksFrom (decode (now recs)) (now ranks) (now work) b low ⌝ }
-    ensures { λ r. ⌜ Writes (decode (now (recs .entry))) b low k (now (list .entry)) (now (list .exit)) r ⌝ }
+    ensures { λ r. ⌜ Writes true (decode (now (recs .entry))) b low k (now (list .entry)) (now (list .exit)) r ⌝ }
 {
     let mut next = k;
     let mut a = low;
     while a < to {
         next = write_race(recs, ranks, of, width, clocks, work, a, b, list, next);
-        a = next_access(recs, nexts, a, b);
+        a = next_access(recs, a, b);
     }
     next
 }
 
-// The entries of second access b, from entry k on. The work space is 0 before and after.
+// Marks what leads to b and writes the races on the way to b, the first of which is at low. The work space is 0 before and after.
 fn write_at(
     recs: &[u8],
     ranks: &[u16],
     of: &[u16],
     width: usize,
     clocks: &[u16],
-    nexts: &[u16],
+    work: &mut [u8],
+    events: usize,
+    low: usize,
+    to: usize,
+    b: usize,
+    list: &mut [u16],
+    k: usize,
+) -> usize
+    requires { ⌜ Room (decode (now recs)) (now ranks) (now of) width (now clocks) b low k (now list) × Clear (decode (now recs)) events (now work) ⌝ }
+    requires { ⌜ Range (decode (now recs)) b low to × T (isAccess (at (decode (now recs)) b)) ⌝ }
+    ensures { λ r. ⌜ Writes true (decode (now (recs .entry))) b low k (now (list .entry)) (now (list .exit)) r × (now (work .exit) ≡ now (work .entry)) ⌝ }
+{
+    leading::mark_leading(recs, ranks, low, b, work);
+    let next = write_races(recs, ranks, of, width, clocks, work, low, to, b, list, k);
+    workspace::clear_marks(work, events);
+    next
+}
+
+// The entries of second access b, from entry k on, written or only counted.
+fn list_at(
+    recs: &[u8],
+    ranks: &[u16],
+    of: &[u16],
+    width: usize,
+    clocks: &[u16],
     work: &mut [u8],
     events: usize,
     from: usize,
@@ -190,63 +188,64 @@ fn write_at(
     b: usize,
     list: &mut [u16],
     k: usize,
+    writing: bool,
 ) -> usize
-    requires { ⌜ Room (decode (now recs)) (now ranks) (now of) width (now clocks) b from k (now list) × Nexts (decode (now recs)) (now nexts) ⌝ }
-    requires { ⌜ Range (decode (now recs)) b from to × Clear (decode (now recs)) events (now work) ⌝ }
-    ensures { λ r. ⌜ Writes (decode (now (recs .entry))) b from k (now (list .entry)) (now (list .exit)) r × (now (work .exit) ≡ now (work .entry)) ⌝ }
+    requires { ⌜ Filled (decode (now recs)) (now ranks) (now of) width (now clocks) × (b < length (decode (now recs))) × Range (decode (now recs)) b from to ⌝ }
+    requires { ⌜ RoomIf writing (decode (now recs)) b from k (now list) × Clear (decode (now recs)) events (now work) ⌝ }
+    ensures { λ r. ⌜ Writes writing (decode (now (recs .entry))) b from k (now (list .entry)) (now (list .exit)) r × (now (work .exit) ≡ now (work .entry)) ⌝ }
 {
-    let low = first_race(recs, ranks, of, width, clocks, nexts, from, to, b);
+    let low = first_race(recs, ranks, of, width, clocks, from, to, b);
     if to <= low {
         return k;
     }
-    leading::mark_leading(recs, ranks, low, b, work);
-    let next = write_races(
+    if !writing {
+        return k + count_at(recs, ranks, of, width, clocks, low, to, b);
+    }
+    write_at(
         recs,
         ranks,
         of,
         width,
         clocks,
-        nexts,
         work,
+        events,
         low,
         to,
         b,
         list,
         k,
-    );
-    workspace::clear_marks(work, events);
-    next
+    )
 }
 
-// All entries.
-fn write_all(
+// All entries, written or only counted; their number.
+fn list_all(
     recs: &[u8],
     ranks: &[u16],
     of: &[u16],
     width: usize,
     clocks: &[u16],
-    nexts: &[u16],
     work: &mut [u8],
     events: usize,
     list: &mut [u16],
     short: bool,
-)
-    requires { ⌜ AllRoom (decode (now recs)) (now ranks) (now of) width (now clocks) short (now list) × Nexts (decode (now recs)) (now nexts) × Clear (decode (now recs)) events (now work) ⌝ }
-    ensures { λ u. ⌜ (now (list .exit) ≡ sets (now (list .entry)) 0 (numbers (decode (now (recs .entry))) (pairsBelow (decode (now (recs .entry))) short (length (decode (now (recs .entry))))))) × (now (work .exit) ≡ now (work .entry)) ⌝ }
+    writing: bool,
+) -> usize
+    requires { ⌜ Filled (decode (now recs)) (now ranks) (now of) width (now clocks) × Clear (decode (now recs)) events (now work) × (T writing → 5 * length (pairsBelow (decode (now recs)) short (length (decode (now recs)))) ≤ length (now list)) ⌝ }
+    ensures { λ r. ⌜ WritesAll writing (decode (now (recs .entry))) short (now (list .entry)) (now (list .exit)) r × (now (work .exit) ≡ now (work .entry)) ⌝ }
 {
     let n = access::count(recs);
     let mut starts = no_starts();
+    let mut lasts = no_starts();
     let mut k = 0;
     let mut b = 0;
     while b < n {
-        let way = way_to(recs, &starts, short, b);
-        k = write_at(
+        let way = way_to(recs, ranks, of, width, clocks, &starts, &lasts, short, b);
+        k = list_at(
             recs,
             ranks,
             of,
             width,
             clocks,
-            nexts,
             work,
             events,
             way.from,
@@ -254,10 +253,12 @@ fn write_all(
             b,
             list,
             k,
+            writing,
         );
-        note_start(recs, short, b, &mut starts);
+        note_access(recs, short, way.quiet, b, &mut starts, &mut lasts);
         b += 1;
     }
+    k
 }
 
 fn refused(number: u16) -> Listing
@@ -285,22 +286,32 @@ fn list_filled(
     ensures { λ r. ⌜ ListsFilled short (decode (now (recs .entry))) events (now (work .entry)) (now (work .exit)) (now (list .entry)) (now (list .exit)) r ⌝ }
 {
     let all = ranks(recs);
-    let nexts = next_accesses(recs);
-    let found = count(recs, &all, of, width, clocks, &nexts, short);
-    if list.len() / 5 < found {
-        return refused(trace::LIST_SPACE);
-    }
-    write_all(
+    let found = list_all(
         recs,
         &all,
         of,
         width,
         clocks,
-        &nexts,
         work,
         events,
         list,
         short,
+        false,
+    );
+    if list.len() / 5 < found {
+        return refused(trace::LIST_SPACE);
+    }
+    list_all(
+        recs,
+        &all,
+        of,
+        width,
+        clocks,
+        work,
+        events,
+        list,
+        short,
+        true,
     );
     Listing::Listed(Summary {
         events: events,

@@ -1,5 +1,4 @@
 // The pair question: for a race, what an arrangement keeps that runs its second access without its first, or a cover.
-use crate::candidates;
 use crate::cover;
 use crate::leading;
 use crate::racing;
@@ -108,7 +107,6 @@ fn put_entries(
     ensures { λ r. ⌜ AnswersRace (decode (now (recs .entry))) a b (now (list .entry)) (now (list .exit)) r ⌝ }
 {
     if leading::is_leading(recs, ranks, work, a) {
-        let nexts = candidates::next_accesses(recs);
         return PairAnswer::Covered(cover::put_cover(
             recs,
             ranks,
@@ -116,7 +114,6 @@ fn put_entries(
             width,
             clocks,
             work,
-            &nexts,
             list,
             a,
             b,

@@ -1,43 +1,33 @@
-use Rattle.races.proofs.EntryStores.{no-entries, low-range, low-room, low-writes, race-second}
 use Rattle.races.proofs.PassLaws.{leading-tells, leading-kept}
 use Rattle.races.proofs.WorkLaws.{zeros-front, clear-again}
 use Rattle.races.specs.Leading.{rows}
+use Rattle.trace.specs.Bytes.{decode}
 use lib.ListN.{drop, take}
-use mathlib.Core.Path.{refl, ap, _∙_}
+use mathlib.Core.Path.{ap, _∙_}
 use native.Mathlib.Omega.{arith}
 use denote.Ref.{now}
-use Rattle.trace.specs.Bytes.{decode}
 use borrow.Author.Needs.{needs}
 use Rattle.races.proofs.lists.write_at.Statement.{statement}
 use Rattle.races.proofs.lists.write_at.Tie as tie
 
-first-race-requires : tie.Need-first-race-requires
-first-race-requires c κs = search needs
-
-returns : tie.Need-returns
-returns c = (no-entries (c .before .before .before .before .before .before .before .before .before .args .k) (now (c .before .before .before .before .before .before .before .before .before .args .list)) (c .before .before .before .before .before .before .before .before .before .pre .1 .0) (c .before .first-race .ensures) (c .if1 .taken), refl)
-
 mark-leading-requires : tie.Need-mark-leading-requires
 mark-leading-requires c κs =
-    let tr = decode (now (c .before .before .before .before .before .before .before .before .before .before .args .recs)) in
-    let f = c .before .before .before .before .before .before .before .before .before .before .pre .0 .0 .filled in
-    let k = c .before .before .before .before .before .before .before .before .before .before .pre .1 .1 in
+    let tr = (decode (now (c .before .before .before .before .before .before .before .args .recs))) in
+    let f = c .before .before .before .before .before .before .before .pre .0 .0 .filled in
+    let k = c .before .before .before .before .before .before .before .pre .0 .1 in
     record {
       acceptable = f .acceptable;
       ranked = f .ranks-are;
-      access = race-second tr (c .before .before .first-race .result) (c .before .before .before .before .before .before .before .before .before .before .args .b) (c .before .before .first-race .ensures .found (c .before .if1 .left));
+      access = c .before .before .before .before .before .before .before .pre .1 .1;
       room = k .work-room;
-      clear = ap (take (rows tr)) (k .zeros) ∙ zeros-front (rows tr) (drop (rows tr) (now (c .before .before .before .before .before .before .before .before .before .before .args .work)));
+      clear = ap (take (rows tr)) (k .zeros) ∙ zeros-front (rows tr) (drop (rows tr) (now (c .before .before .before .before .before .before .before .args .work)));
     }
 
 write-races-requires : tie.Need-write-races-requires
-write-races-requires c κs =
-    let f = c .before .before .before .before .before .before .before .first-race .ensures in
-    let r = c .before .before .before .before .before .before .before .before .before .before .before .before .before .before .before .pre .0 .0 in
-    ((low-room (c .before .before .before .before .before .before .before .before .before .before .before .before .before .before .before .pre .1 .0) f r, c .before .before .before .before .before .before .before .before .before .before .before .before .before .before .before .pre .0 .1), (low-range (c .before .before .before .before .before .before .before .before .before .before .before .before .before .before .before .pre .1 .0) f, record { tells = λ a l k. rw (r .filled .ranks-are) (leading-tells (c .before .before .before .before .mark-leading .ensures) (r .filled .acceptable) a l (omega (arith, k, r .inside))) }))
+write-races-requires c κs = let r = c .before .before .before .before .before .before .before .before .before .before .before .before .pre .0 .0 in (r, (c .before .before .before .before .before .before .before .before .before .before .before .before .pre .1 .0, record { tells = λ a l k. rw (r .filled .ranks-are) (leading-tells (c .before .before .before .before .mark-leading .ensures) (r .filled .acceptable) a l (omega (arith, k, r .inside))) }))
 
 clear-marks-requires : tie.Need-clear-marks-requires
-clear-marks-requires c κs = let k = c .before .before .before .before .before .before .before .before .before .before .before .before .before .before .before .before .before .before .before .pre .1 .1 in omega (arith, k .events-are, k .work-room, leading-kept (c .before .before .before .before .before .before .before .before .mark-leading .ensures))
+clear-marks-requires c κs = let k = c .before .before .before .before .before .before .before .before .before .before .before .before .before .before .before .before .pre .0 .1 in omega (arith, k .events-are, k .work-room, leading-kept (c .before .before .before .before .before .before .before .before .mark-leading .ensures))
 
 same-length : tie.Need-same-length
 same-length c = search needs
@@ -45,18 +35,16 @@ same-length c = search needs
 same-length-2 : tie.Need-same-length-2
 same-length-2 c = search needs
 
-returns-2 : tie.Need-returns-2
-returns-2 c = (low-writes (c .before .before .before .before .before .before .before .before .before .before .before .before .before .before .before .before .before .before .before .before .before .before .pre .1 .0) (c .before .before .before .before .before .before .before .before .before .before .before .before .before .before .first-race .ensures) (c .before .before .before .before .before .before .write-races .ensures), clear-again (c .before .before .before .before .before .before .before .before .before .before .before .before .before .before .before .before .before .before .before .before .before .before .pre .1 .1) (c .before .before .before .before .before .before .before .before .before .before .before .mark-leading .ensures) _ (c .before .before .clear-marks .ensures))
+returns : tie.Need-returns
+returns c = (c .before .before .before .before .before .before .write-races .ensures, clear-again (c .before .before .before .before .before .before .before .before .before .before .before .before .before .before .before .before .before .before .before .pre .0 .1) (c .before .before .before .before .before .before .before .before .before .before .before .mark-leading .ensures) _ (c .before .before .clear-marks .ensures))
 
 pub write-at-spec : {M : Type 1} → statement M
 write-at-spec =
     tie.close
     (tie.spec
-    first-race-requires
-    returns
     mark-leading-requires
     write-races-requires
     clear-marks-requires
     same-length
     same-length-2
-    returns-2)
+    returns)
