@@ -345,7 +345,6 @@ pub(crate) fn list_races(
     }
     let filled = order::fill_chains(bytes, width, clocks);
     workspace::clear_marks(work, events);
-    let of = filled.of;
     let answer = filled.answer;
     match answer {
         Filling::Filled(chains) => list_filled(
@@ -353,7 +352,7 @@ pub(crate) fn list_races(
             events,
             width,
             clocks,
-            &of,
+            &filled.of,
             chains,
             work,
             list,

@@ -223,7 +223,6 @@ fn ask_trace(
     }
     workspace::clear_marks(work, events);
     let filled = order::fill_chains(bytes, width, clocks);
-    let of = filled.of;
     let answer = filled.answer;
     let first = (a - 1) as usize;
     let second = (b - 1) as usize;
@@ -231,7 +230,7 @@ fn ask_trace(
         Filling::Refused(f) => PairAnswer::Refused(f),
         Filling::Filled(_) => ask_filled(
             recs,
-            &of,
+            &filled.of,
             events,
             width,
             clocks,
