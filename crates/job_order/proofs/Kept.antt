@@ -6,7 +6,7 @@ use mathlib.Core.Path.{_≡_, refl, ap, _∙_}
 use mathlib.Core.List.{List}
 use native.Mathlib.Omega.{arith}
 use borrow.Author.Tests.{ne-eqb}
-use Rattle.trace.specs.declared.Record.{Record}
+use Rattle.records.specs.declared.Record.{Record}
 use Rattle.recorder.specs.Recording.{Left, refused, stepLeft, closeLeft}
 use Rattle.recorder.proofs.Left.{refusing}
 use Rattle.recorder.proofs.Holds.{step-refused, close-refused}

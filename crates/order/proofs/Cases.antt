@@ -3,11 +3,11 @@ use Prim.Native.Nat.{ℕ}
 use mathlib.Core.Path.{_≡_, refl}
 use mathlib.Core.List.{List, [], _∷_, _++_, map}
 use lib.ListN.{length}
-use Rattle.trace.specs.Bytes.{recordAt, recordsFrom, decode}
-use Rattle.trace.specs.Records.{past, has, begun, ended, begins}
+use Rattle.records.specs.Bytes.{recordAt, recordsFrom, decode, part}
+use Rattle.records.specs.Records.{past, has, begun, ended, begins}
 use Rattle.trace.specs.Place.{place}
 use Rattle.trace.specs.Rule.{situation, owner, numbered, wellFormed, misplaced, again, early, judge, rule}
-use Rattle.trace.specs.Reading.{demand, orElse, closing, walk, distance, trailerReply, frameReply, part, recordsIn, recordsReply, readReply}
+use Rattle.trace.specs.Reading.{demand, orElse, closing, walk, distance, trailerReply, frameReply, recordsIn, recordsReply, readReply}
 use Rattle.trace.specs.Encoding.{encode, trailer}
 use Rattle.trace.proofs.Cases.{recordsT, forked, trailerT}
 use Rattle.order.specs.Links.{within, along, some, leq}
@@ -15,7 +15,8 @@ use Rattle.order.specs.Chains.{firstFrom, pick, put, lasts, chain, used,
 use Rattle.order.specs.Schedule as schedule
 use Rattle.order.specs.Schedule.{linked}
 use Rattle.order.specs.Clocks.{largest, table, flat, entry, clocksOf}
-use Rattle.order.specs.HappensBefore.{rankIn, rank, opOf, opAt}
+use Rattle.ranks.specs.Said.{opOf}
+use Rattle.order.specs.HappensBefore.{rankIn, rank, opAt}
 use Rattle.order.specs.Fill as fill
 use Rattle.order.specs.Fill.{FillReply, refused, filled, eventsIn, beginPosition, shortRow, chainsUsed, traceClocks, spaceFor, fillTrace, fillRead, fillReply, clocksAfterTrace, clocksAfterRead, clocksAfter}
 

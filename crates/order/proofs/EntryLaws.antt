@@ -4,11 +4,11 @@ use Prim.Native.Nat.{ℕ}
 use mathlib.Core.Path.{_≡_, refl, sym, ap, _∙_, subst}
 use mathlib.Core.List.{List}
 use lib.ListN.{length}
-use Rattle.trace.specs.declared.Record.{Record}
+use Rattle.records.specs.declared.Record.{Record}
 use Rattle.trace.specs.declared.Reading.{Reading}
-use Rattle.trace.specs.Bytes.{decode}
-use Rattle.trace.specs.Records.{past, begins}
-use Rattle.trace.specs.Reading.{Reply, refused, accepted, part, recordsIn, readReply, Acceptable}
+use Rattle.records.specs.Bytes.{decode, part}
+use Rattle.records.specs.Records.{past, begins}
+use Rattle.trace.specs.Reading.{Reply, refused, accepted, recordsIn, readReply, Acceptable}
 use Rattle.trace.specs.Paper.{paper, refusalIn}
 use Rattle.trace.proofs.Accepted.{accepts}
 use Rattle.trace.proofs.Upward.{upward}

@@ -8,7 +8,8 @@ use lib.ListN.{getD}
 use Rattle.order.specs.Links.{Links, within, along, some, leq}
 use Rattle.order.specs.Chains.{firstFrom, pick, put, lasts, chain, used, needs, bit}
 use Rattle.order.specs.Clocks.{largest, table, flat, entry, clocksOf}
-use Rattle.order.specs.Schedule.{Op, link, begin, other, begins, linked, linksOf, Ordered}
+use Rattle.ranks.specs.Said.{Op, link, begin, other}
+use Rattle.order.specs.Schedule.{begins, linked, linksOf, Ordered}
 use Rattle.order.specs.Filling.{start, choose, merge, enter, next, after}
 use Rattle.order.specs.Marking.{markBy, marksDown, marks}
 use Rattle.order.proofs.ScheduleLaws.{ordered-zero, ordered-suc}

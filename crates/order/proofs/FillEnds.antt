@@ -9,9 +9,9 @@ use native.Mathlib.Omega.{arith}
 use native.Mathlib.Decide.{ℕ-discrete}
 use borrow.Author.Tests.{eq-eqb, ne-eqb}
 use lib.ListN.{length, drop, replicate}
-use Rattle.trace.specs.declared.Record.{Record}
+use Rattle.records.specs.declared.Record.{Record}
 use Rattle.trace.specs.Reading.{Acceptable}
-use Rattle.order.specs.Ranks.{ranksOf}
+use Rattle.ranks.specs.Ranks.{ranksOf}
 use Rattle.order.specs.Fill.{eventsIn, beginPosition, shortRow, chainsUsed, chainTable, traceClocks, noChains, FillReply, refused, filled, demand, spaceFor, fillTrace, clocksAfterTrace, chainsAfterReply}
 use Rattle.order.specs.PassEnds.{Ready, Whole, Short, Passes}
 use Rattle.order.proofs.SpaceLaws.{cleared, cleared-drop, cleared-length, has-room}

@@ -10,7 +10,8 @@ use borrow.Author.Tests.{eq-eqb, ne-eqb}
 use Rattle.order.specs.Links.{Links, Forward, _∈_, leq}
 use Rattle.order.specs.Chains.{first, bit, used, members, needs}
 use Rattle.order.specs.Clocks.{largest, chainOf, entry, merged}
-use Rattle.order.specs.Schedule.{Op, link, begin, other, begins, linked, Ordered, Makes}
+use Rattle.ranks.specs.Said.{Op, link, begin, other}
+use Rattle.order.specs.Schedule.{begins, linked, Ordered, Makes}
 use Rattle.order.specs.Filling.{State, start, choose, merge, enter, next, after}
 use Rattle.order.proofs.Tests.{decide-eq, decide-lt}
 use Rattle.order.proofs.ScheduleLaws.{begins-suc, linked-suc, begins-mono, linked-exact, begin-next, link-between, link-after}

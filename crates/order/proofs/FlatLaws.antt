@@ -11,7 +11,8 @@ use lib.Seq.{set-append-left}
 use borrow.Author.Tests.{eq-eqb, ne-eqb}
 use Rattle.order.specs.Links.{Links, Forward}
 use Rattle.order.specs.Clocks.{flat, entry, clocksOf}
-use Rattle.order.specs.Schedule.{Op, begins, Ordered, Makes}
+use Rattle.ranks.specs.Said.{Op}
+use Rattle.order.specs.Schedule.{begins, Ordered, Makes}
 use Rattle.order.specs.Filling.{State, merge, enter, after, mergeAt, mergeFrom, mergeRow, tick}
 use Rattle.order.proofs.Tests.{decide-eq}
 use Rattle.order.proofs.RowLaws.{SameBut, same-but, flat-length, flat-at, flat-same, flat-set, place}

@@ -22,7 +22,6 @@ pub mod Cases
 pub mod TraceOrder
 pub mod TraceLaws
 pub mod RankLaws
-pub mod SaidLaws
 pub mod PassLaws
 pub mod MemberLaws
 pub mod SpaceLaws

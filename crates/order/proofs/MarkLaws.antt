@@ -7,7 +7,8 @@ use native.Mathlib.Omega.{arith}
 use lib.Dec.{T, eqb, eqb→eq}
 use Rattle.order.specs.Links.{Links, Forward, _⊢_≼_, same, step, leq}
 use Rattle.order.specs.Chains.{pick, lasts, chain}
-use Rattle.order.specs.Schedule.{Op, link, begin, other, begins, Ordered, Makes}
+use Rattle.ranks.specs.Said.{Op, link, begin, other}
+use Rattle.order.specs.Schedule.{begins, Ordered, Makes}
 use Rattle.order.specs.Marking.{markBy, marksDown, marks}
 use Rattle.order.proofs.Tests.{both, and, either, or-left, or-right, decide-eq, decide-lt, eq→eqb, equal-tests}
 use Rattle.order.proofs.OrderLaws.{≼-trans, ≼-first, ≼-forward, ≼→leq, leq→≼}

@@ -10,7 +10,8 @@ use lib.ListN.{length, getD, set, length-set, length-replicate, getD-replicate, 
 use lib.Seq.{getD-set-same, getD-set-other}
 use borrow.Author.Tests.{eq-eqb, ne-eqb}
 use Rattle.order.specs.Links.{Links, Forward, leq}
-use Rattle.order.specs.Schedule.{Op, link, begin, other, begins, Stands, Ordered, Makes}
+use Rattle.ranks.specs.Said.{Op, link, begin, other}
+use Rattle.order.specs.Schedule.{begins, Stands, Ordered, Makes}
 use Rattle.order.specs.Marking.{markBy, marksDown, marked, markIn, marksDownIn, noMarks, marksIn}
 use Rattle.order.proofs.Tests.{decide-eq, decide-lt}
 use Rattle.order.proofs.ScheduleLaws.{begins-mono}

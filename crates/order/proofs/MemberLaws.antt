@@ -12,17 +12,18 @@ use borrow.Author.Tests.{le-leb, lt-leb}
 use lib.Dec.{T, leb, eqb}
 use lib.ListN.{length, getD, set, replicate, length-set, length-append, length-replicate}
 use lib.Seq.{getD-set-same, getD-set-other}
-use Rattle.trace.specs.declared.Record.{Record}
-use Rattle.trace.specs.Records.{at}
+use Rattle.records.specs.declared.Record.{Record}
+use Rattle.records.specs.Records.{at}
 use Rattle.trace.specs.Reading.{Acceptable}
-use Rattle.trace.proofs.Positions.{lt-or-ge}
+use Rattle.records.proofs.Positions.{lt-or-ge}
 use Rattle.order.specs.Links.{Links, leq}
 use Rattle.order.specs.Chains.{lasts, chain, used, needs, first}
 use Rattle.order.specs.Clocks.{table, chainOf}
-use Rattle.order.specs.Schedule.{Op, link, begin, other, begins}
+use Rattle.order.specs.Schedule.{begins}
 use Rattle.order.specs.Marking.{marked, marksIn, marksDownIn, markIn}
-use Rattle.order.specs.HappensBefore.{opOf, opAt, traceLinks}
-use Rattle.order.specs.Ranks.{ranksOf}
+use Rattle.ranks.specs.Said.{opOf, Op, link, begin, other}
+use Rattle.order.specs.HappensBefore.{opAt, traceLinks}
+use Rattle.ranks.specs.Ranks.{ranksOf}
 use Rattle.order.specs.Fill.{eventsIn, beginPosition, shortRow, chainTable, noChains}
 use Rattle.order.specs.PassEnds.{Short}
 use Rattle.order.specs.ChainPass.{Members, markedChain, enterChain, saidBy, turnMembers, RoomFor, AreMembers, ReadyChains, PassesChains}

@@ -10,7 +10,7 @@ use native.Mathlib.Decide.{ℕ-discrete}
 use borrow.Author.Tests.{eq-eqb, ne-eqb, eqb-true}
 use lib.Dec.{T, leb, eqb}
 use lib.ListN.{length, getD, drop, length-append, length-drop, List·getD-append}
-use Rattle.trace.specs.declared.Record.{Record}
+use Rattle.records.specs.declared.Record.{Record}
 use Rattle.trace.specs.Reading as reading
 use Rattle.trace.specs.Reading.{Acceptable, recordsIn, readReply}
 use Rattle.trace.proofs.Accepted.{accepts}

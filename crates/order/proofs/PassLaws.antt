@@ -12,20 +12,21 @@ use borrow.Author.Tests.{eq-eqb, ne-eqb, le-leb, lt-leb, leb-true, leb-false}
 use lib.Dec.{T, leb, eqb, eqb→eq}
 use lib.ListN.{length, getD, set, drop, replicate, length-append, length-replicate}
 use lib.Seq.{set-at, drop-at}
-use Rattle.trace.specs.declared.Record.{Record}
-use Rattle.trace.specs.Records.{at, past, isBegin}
+use Rattle.records.specs.declared.Record.{Record}
+use Rattle.records.specs.Records.{at, past, isBegin}
 use Rattle.trace.specs.Reading.{Acceptable}
 use Rattle.trace.proofs.Events.{few-events}
-use Rattle.trace.proofs.Positions.{lt-or-ge}
+use Rattle.records.proofs.Positions.{lt-or-ge}
 use Rattle.order.specs.Links.{Links, Forward, leq}
 use Rattle.order.specs.Chains.{used, needs}
 use Rattle.order.specs.Clocks.{table, flat, chainOf, clocksOf}
-use Rattle.order.specs.Schedule.{Op, link, begin, other, begins, Ordered, Makes, Stands}
+use Rattle.order.specs.Schedule.{begins, Ordered, Makes, Stands}
 use Rattle.order.specs.Filling.{State, start, choose, merge, enter, next, after, mergeRow, tick, chooseIn}
 use Rattle.order.specs.Pass.{Rows, enterRow, beginRow, turnRows, RoomToBegin, Room, Are}
 use Rattle.order.specs.PassEnds.{Ready, Whole, Short, Passes}
-use Rattle.order.specs.Ranks.{ranksOf}
-use Rattle.order.specs.HappensBefore.{opOf, opAt, traceLinks}
+use Rattle.ranks.specs.Ranks.{ranksOf}
+use Rattle.ranks.specs.Said.{opOf, Op, link, begin, other}
+use Rattle.order.specs.HappensBefore.{opAt, traceLinks}
 use Rattle.order.specs.Fill.{eventsIn, beginPosition, shortRow, chainsUsed, chainTable, traceClocks, noChains}
 use Rattle.order.proofs.ScheduleLaws.{begins-zero, begins-suc, begins-mono, begin-next, link-between, links-made}
 use Rattle.order.proofs.RowLaws.{flat-length, table-length}

@@ -6,36 +6,23 @@ use mathlib.Core.Bool.{Bool, true, false, cond, _&&_, and-eq-true-iff}
 use mathlib.Core.List.{List}
 use mathlib.Core.Logic.{_≢_, _⊎_, inl, inr}
 use native.Mathlib.Omega.{arith}
-use native.Mathlib.Numerals.{add-one}
 use native.Mathlib.Decide.{ℕ-discrete, decLt}
 use borrow.Author.Tests.{eq-eqb, ne-eqb, leb-true}
 use lib.Dec.{eqb, leb, ltb}
-use lib.ListN.{length, getD, length-set, length-replicate, getD-replicate, List·getD-eq-default}
+use lib.ListN.{length, getD, getD-replicate, List·getD-eq-default}
 use lib.Seq.{getD-set-same, getD-set-other, set-out}
-use Rattle.trace.specs.declared.Record.{Record}
-use Rattle.trace.specs.Records.{at, past, isBegin, begins}
+use Rattle.records.specs.declared.Record.{Record}
+use Rattle.records.specs.Records.{at, past, isBegin, begins}
 use Rattle.trace.specs.Rule.{numbered, wellFormed}
 use Rattle.trace.specs.Reading.{Acceptable}
 use Rattle.trace.proofs.Blocks.{passes-at}
 use Rattle.trace.proofs.Marked.{formed}
 use Rattle.trace.proofs.Going.{in-range}
-use Rattle.order.specs.HappensBefore.{Begins, rankIn, rank, linkOf, opOf, opAt}
-use Rattle.order.specs.Ranks.{noRanks, withRank, rankIf, ranksUpto, ranksOf}
+use Rattle.ranks.specs.Said.{opOf}
+use Rattle.order.specs.HappensBefore.{Begins, rankIn, rank, opAt}
+use Rattle.ranks.specs.Ranks.{noRanks, withRank, rankIf, ranksUpto, ranksOf}
+use Rattle.ranks.proofs.RankLaws.{ranks-length}
 use Rattle.order.proofs.TraceOrder.{counted, counted-zero, counted-begin, counted-other, rank-begins}
-
-rank-if-length : (b : Bool) (m : List ℕ) (e k : ℕ) → length (rankIf b m e k) ≡ length m
-unfolding withRank
-rank-if-length true m e k = length-set m e (k % 65536)
-rank-if-length false m e k = refl
-
-pub ranks-length : (tr : List Record) (i : ℕ) → length (ranksUpto tr i) ≡ 1025
-unfolding ranksUpto noRanks
-ranks-length tr zero = length-replicate {A = ℕ} 1025 0
-ranks-length tr (suc i) = rank-if-length (isBegin (at tr i)) (ranksUpto tr i) (at tr i .first) (begins (past tr i) + 1) ∙ ranks-length tr i
-
-pub ranks-more : (tr : List Record) (i : ℕ) → ranksUpto tr (i + 1) ≡ rankIf (isBegin (at tr i)) (ranksUpto tr i) (at tr i .first) (begins (past tr i) + 1)
-unfolding ranksUpto
-ranks-more tr i = rw add-one
 
 module _ (tr : List Record) where
   few : (i : ℕ) → counted tr i ≤ i

@@ -8,7 +8,8 @@ use native.Mathlib.Omega.{arith}
 use lib.Dec.{eqb}
 use borrow.Author.Tests.{eq-eqb, ne-eqb}
 use Rattle.order.specs.Links.{Forward, _∈_}
-use Rattle.order.specs.Schedule.{Op, link, begin, other, beginsBy, begins, linkedBy, linked, linksOf, Stands, Ordered, Makes}
+use Rattle.ranks.specs.Said.{Op, link, begin, other}
+use Rattle.order.specs.Schedule.{beginsBy, begins, linkedBy, linked, linksOf, Stands, Ordered, Makes}
 use Rattle.order.proofs.Tests.{decide-eq, rises}
 
 module _ (op : ℕ → Op) where

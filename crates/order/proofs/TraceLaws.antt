@@ -9,10 +9,10 @@ use native.Mathlib.Decide.{ℕ-discrete}
 use borrow.Author.Tests.{eqb-true}
 use lib.Dec.{T, eqb→eq}
 use lib.ListN.{length}
-use Rattle.trace.specs.declared.Record.{Record}
-use Rattle.trace.specs.Records.{at, isBegin}
+use Rattle.records.specs.declared.Record.{Record}
+use Rattle.records.specs.Records.{at, isBegin}
 use Rattle.trace.specs.Reading.{Acceptable}
-use Rattle.trace.proofs.Positions.{Found}
+use Rattle.records.proofs.Positions.{Found}
 use Rattle.trace.proofs.Blocks.{apart, begins-once, body-after-begin, fork-before-begin, join-before-begin, join-after-end}
 use Rattle.order.specs.HappensBefore.{Begins, Link, fork, join, HappensBefore, same, step, happensBefore}
 use Rattle.order.proofs.TraceOrder.{record-begins, happens-before, before-happens, begins-at, waited-begins}

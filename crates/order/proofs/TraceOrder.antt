@@ -11,19 +11,20 @@ use native.Mathlib.Decide.{ℕ-discrete}
 use borrow.Author.Tests.{eq-eqb, ne-eqb, eqb-true, eqb-false}
 use lib.Dec.{T, eqb, eqb→eq}
 use lib.ListN.{length}
-use Rattle.trace.specs.declared.Record.{Record}
-use Rattle.trace.specs.Records.{at, past, isBegin, isEnd, isFork, isJoin, has, begun}
-use Rattle.trace.specs.Records as records
+use Rattle.records.specs.declared.Record.{Record}
+use Rattle.records.specs.Records.{at, past, isBegin, isEnd, isFork, isJoin, has, begun}
+use Rattle.records.specs.Records as records
 use Rattle.trace.specs.Reading.{Acceptable}
-use Rattle.trace.proofs.Positions.{Found, has-found, has-intro, lt-or-ge, decide, true-not-false}
+use Rattle.records.proofs.Positions.{Found, has-found, has-intro, lt-or-ge, decide, true-not-false}
 use Rattle.trace.proofs.Blocks.{begins-once, event-begins, join-before-begin, body-after-begin, fork-before-begin, join-after-end}
 use Rattle.order.specs.Links.{Links, Forward, leq, _⊢_≼_, _∈_}
 use Rattle.order.specs.Links as links
-use Rattle.order.specs.Schedule.{Op, link, begin, other, begins, beginsBy, Stands, Ordered, linksOf}
+use Rattle.order.specs.Schedule.{begins, beginsBy, Stands, Ordered, linksOf}
 use Rattle.order.proofs.Tests.{both, and, either, or-left, or-right, eq→eqb}
 use Rattle.order.proofs.OrderLaws.{≼→leq, leq→≼}
 use Rattle.order.proofs.ScheduleLaws.{begins-zero, begins-suc, linked-exact, links-made, links-forward}
-use Rattle.order.specs.HappensBefore.{Begins, Link, fork, join, HappensBefore, same, step, rankIn, rank, linkOf, pickOp, opOf, opAt, traceLinks, leqRanks, happensBefore}
+use Rattle.ranks.specs.Said.{linkOf, pickOp, opOf, Op, link, begin, other}
+use Rattle.order.specs.HappensBefore.{Begins, Link, fork, join, HappensBefore, same, step, rankIn, rank, opAt, traceLinks, leqRanks, happensBefore}
 
 module _ (tr : List Record) where
   abbrev pub counted : ℕ → ℕ

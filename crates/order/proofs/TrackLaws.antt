@@ -12,7 +12,8 @@ use borrow.Author.Tests.{eq-eqb, ne-eqb}
 use Rattle.order.specs.Links.{Links, Forward}
 use Rattle.order.specs.Chains.{bit}
 use Rattle.order.specs.Clocks.{flat, clocksOf}
-use Rattle.order.specs.Schedule.{Op, begins, Ordered, Makes}
+use Rattle.ranks.specs.Said.{Op}
+use Rattle.order.specs.Schedule.{begins, Ordered, Makes}
 use Rattle.order.specs.Filling.{State, start, choose, merge, enter, after, mergeRow, tick, chooseIn}
 use Rattle.order.proofs.Tests.{decide-eq}
 use Rattle.order.proofs.CountLaws.{firstFrom-local}

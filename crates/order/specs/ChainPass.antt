@@ -6,14 +6,13 @@ use mathlib.Core.List.{List}
 use mathlib.Core.Logic.{_≢_}
 use lib.Dec.{leb}
 use lib.ListN.{length, getD, set}
-use Rattle.trace.specs.declared.Record.{Record}
-use Rattle.trace.specs.Records.{at}
+use Rattle.records.specs.declared.Record.{Record}
+use Rattle.records.specs.Records.{at}
 use Rattle.trace.specs.Reading.{Acceptable}
 use Rattle.order.specs.Chains.{first}
-use Rattle.order.specs.Schedule.{Op, link, begin, other}
 use Rattle.order.specs.Marking.{marked, marksIn}
-use Rattle.order.specs.HappensBefore.{opOf}
-use Rattle.order.specs.Ranks.{ranksOf}
+use Rattle.ranks.specs.Said.{opOf, Op, link, begin, other}
+use Rattle.ranks.specs.Ranks.{ranksOf}
 use Rattle.order.specs.Fill.{eventsIn, shortRow, chainTable, noChains}
 use Rattle.order.specs.PassEnds.{Short}
 

@@ -6,7 +6,7 @@ use mathlib.Core.List.{List}
 use lib.Dec.{eqb}
 use lib.ListN.{getD, set}
 use Rattle.order.specs.Chains.{first, bit}
-use Rattle.order.specs.Schedule.{Op, link, begin, other}
+use Rattle.ranks.specs.Said.{Op, link, begin, other}
 
 -- rows by event action and chain, members of each chain, chains taken, event actions begun
 pub record State : Type 0 where

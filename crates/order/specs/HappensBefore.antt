@@ -1,14 +1,15 @@
 -- Happens-before between the event actions of a trace, by event number. Assumes nothing.
-use Prim.Native.Nat.{ℕ, zero, suc, _+_, _-_, _<_}
+use Prim.Native.Nat.{ℕ, zero, suc, _+_, _<_}
 use mathlib.Core.Path.{_≡_}
 use mathlib.Core.Bool.{Bool, true, false, cond, _&&_, _||_}
 use mathlib.Core.List.{List, [], _∷_}
 use lib.Dec.{T, eqb}
 use lib.ListN.{length}
-use Rattle.trace.specs.declared.Record.{Record}
-use Rattle.trace.specs.Records.{at, past, isBegin, isFork, isJoin, begins}
+use Rattle.records.specs.declared.Record.{Record}
+use Rattle.records.specs.Records.{at, past, isBegin, isFork, isJoin, begins}
 use Rattle.order.specs.Links.{Links, leq}
-use Rattle.order.specs.Schedule.{Op, link, begin, other, linksOf}
+use Rattle.order.specs.Schedule.{linksOf}
+use Rattle.ranks.specs.Said.{opOf, Op}
 
 module _ (tr : List Record) where
   -- e begins in the trace
@@ -35,23 +36,6 @@ rankIn e (r ∷ before) = cond (isBegin r && eqb (r .first) e) (begins before + 
 
 unfoldable pub rank : List Record → ℕ → ℕ
 rank tr e = rankIn e (past tr (length tr))
-
--- a link between event actions by rank, where both begin
-abbrev pub linkOf : ℕ → ℕ → Op
-linkOf zero u = other
-linkOf (suc p) zero = other
-linkOf (suc p) (suc u) = link p u
-
-abbrev pub pickOp : Bool → Op → Op → Op
-pickOp true a b = a
-pickOp false a b = b
-
--- what a record says of links and begins, where ranks are given by event number
-unfoldable pub opOf : (ℕ → ℕ) → Record → Op
-opOf ranks r =
-    pickOp (isBegin r) (begin (ranks (r .first) - 1))
-    (pickOp (isFork r) (linkOf (ranks (r .first)) (ranks (r .second)))
-    (pickOp (isJoin r) (linkOf (ranks (r .second)) (ranks (r .first))) other))
 
 unfoldable pub opAt : List Record → ℕ → Op
 opAt tr i = opOf (rank tr) (at tr i)

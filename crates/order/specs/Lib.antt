@@ -5,7 +5,6 @@ pub mod Schedule
 pub mod Filling
 pub mod Marking
 pub mod HappensBefore
-pub mod Ranks
 pub mod Pass
 pub mod Fill
 pub mod PassEnds

@@ -5,7 +5,7 @@ use mathlib.Core.Bool.{Bool, cond, _&&_, _||_}
 use mathlib.Core.List.{List}
 use lib.Dec.{eqb}
 use lib.ListN.{getD, set, replicate}
-use Rattle.order.specs.Schedule.{Op, link, begin, other}
+use Rattle.ranks.specs.Said.{Op, link, begin, other}
 
 unfoldable pub markBy : Op → (ℕ → Bool) → ℕ → Bool
 markBy (link p v) m t = m t || (m v && eqb p t)

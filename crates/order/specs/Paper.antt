@@ -3,7 +3,7 @@ use Prim.Native.Nat.{ℕ}
 use mathlib.Core.Path.{_≡_}
 use mathlib.Core.List.{List}
 use lib.ListN.{length}
-use Rattle.trace.specs.declared.Record.{Record}
+use Rattle.records.specs.declared.Record.{Record}
 use Rattle.order.specs.declared.Filling.{Filling}
 use Rattle.order.specs.declared.Filling.the-variants.{Filled, Refused}
 use Rattle.order.specs.Fill.{FillReply, refused, filled, fillTrace, fillReply, clocksAfterTrace, clocksAfter, chainsAfterReply, chainsAfter}

@@ -5,7 +5,7 @@ use mathlib.Core.Bool.{Bool, true, false}
 use mathlib.Core.List.{List}
 use lib.Dec.{leb}
 use lib.ListN.{length, getD, set}
-use Rattle.order.specs.Schedule.{Op, link, begin, other}
+use Rattle.ranks.specs.Said.{Op, link, begin, other}
 use Rattle.order.specs.Filling.{mergeRow, tick, chooseIn}
 
 pub record Rows : Type 0 where

@@ -5,13 +5,8 @@ use mathlib.Core.Logic.{_↔_}
 use mathlib.Core.Bool.{cond}
 use mathlib.Core.List.{List, [], _∷_}
 use lib.Dec.{eqb}
+use Rattle.ranks.specs.Said.{Op, link, begin, other}
 use Rattle.order.specs.Links.{Links, _∈_}
-
--- what one record says: `link p u` makes p a direct predecessor of u, `begin u` begins u
-pub data Op : Type 0 where
-  link : ℕ → ℕ → Op
-  begin : ℕ → Op
-  other : Op
 
 -- the begins among the first i records
 abbrev pub beginsBy : Op → ℕ → ℕ

@@ -1,11 +1,11 @@
 // The chains from the trace alone, without clocks: what happens before a row is marked in one pass down the records.
-use crate::Ordering;
-use crate::ranks::ordering_at;
-use trace::access;
+use ranks::Ordering;
+use ranks::ordering_at;
+use records::access;
 ghost use mathlib.Core.Path.{_≡_};
 ghost use Prim.Native.Nat.{_≤_, _<_};
 ghost use lib.ListN.{length, set};
-ghost use Rattle.trace.specs.Bytes.{decode};
+ghost use Rattle.records.specs.Bytes.{decode};
 ghost use Rattle.order.specs.Marking.{noMarks, marked, markIn, marksIn};
 ghost use Rattle.order.specs.ChainPass.{markedChain, enterChain, saidBy, turnMembers, RoomFor, AreMembers, ReadyChains, PassesChains};
 

@@ -3,23 +3,15 @@ mod chains;
 mod clear;
 mod merge;
 pub mod question;
-pub mod ranks;
 pub mod rows;
 
+use records::access;
 use trace::EventId;
 use trace::Reading;
 use trace::Refusal;
-use trace::access;
 ghost use mathlib.Core.Path.{_≡_};
 ghost use Rattle.order.specs.Paper.{Fills, FillsChains};
 ghost use Rattle.order.specs.Question.{orderPaper, orderReply};
-
-// What a record says of links and begins, between rows.
-pub enum Ordering {
-    Link(u16, u16),
-    Begin(u16),
-    Nothing,
-}
 
 // What filling finds: the number of chains used, or why it is refused.
 pub enum Filling {

@@ -1,16 +1,15 @@
 // The order question, over any clocks.
 use crate::Answer;
 use crate::chains::chain_pass;
-use crate::ranks;
 use crate::rows;
+use records::access;
 use trace::EventId;
 use trace::Operation;
 use trace::Refusal;
-use trace::access;
 ghost use mathlib.Core.Path.{_≡_};
 ghost use Prim.Native.Nat.{_≤_, _<_, _-_};
 ghost use lib.ListN.{length, getD};
-ghost use Rattle.trace.specs.Bytes.{decode};
+ghost use Rattle.records.specs.Bytes.{decode};
 ghost use Rattle.trace.specs.Reading.{Acceptable};
 ghost use Rattle.order.specs.Clocks.{compareIn};
 ghost use Rattle.order.specs.Fill.{eventsIn};

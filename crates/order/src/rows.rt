@@ -1,19 +1,18 @@
 // All rows in one pass over the records: at a link the earlier row is merged into the later one, and at a begin the chain is read off the merged row.
 use crate::Filled;
 use crate::Filling;
-use crate::Ordering;
 use crate::clear::clear;
 use crate::merge;
-use crate::ranks;
+use ranks::Ordering;
+use records::access;
 use trace::Operation;
 use trace::Refusal;
-use trace::access;
 ghost use mathlib.Core.Path.{_≡_};
 ghost use Prim.Native.Nat.{_≤_};
 ghost use lib.ListN.{getD};
-ghost use Rattle.trace.specs.Bytes.{decode};
-ghost use Rattle.trace.specs.Records.{at};
-ghost use Rattle.order.specs.HappensBefore.{opOf};
+ghost use Rattle.records.specs.Bytes.{decode};
+ghost use Rattle.records.specs.Records.{at};
+ghost use Rattle.ranks.specs.Said.{opOf};
 ghost use Rattle.trace.specs.Reading.{Acceptable};
 ghost use Rattle.order.specs.Fill.{eventsIn, noChains, spaceFor};
 ghost use Rattle.order.specs.Paper.{FillsTrace};

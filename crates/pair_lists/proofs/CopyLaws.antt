@@ -10,7 +10,7 @@ use borrow.Author.Tests.{leb-true, leb-false, le-leb, lt-leb}
 use lib.Dec.{leb}
 use lib.ListN.{length, getD, set, take, drop, length-map, take-append-drop}
 use lib.Seq.{length-take-le, take-length, take-suc, drop-cons, append-snoc, set-at}
-use Rattle.trace.specs.declared.Record.{Record}
+use Rattle.records.specs.declared.Record.{Record}
 use Rattle.trace.specs.Reading as reading
 use Rattle.trace.specs.Reading.{Reply, recordsIn, readReply}
 use Rattle.races.specs.declared.Listing.{Listing}

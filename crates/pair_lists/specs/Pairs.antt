@@ -4,10 +4,10 @@ use mathlib.Core.Path.{_≡_}
 use mathlib.Core.Bool.{Bool}
 use mathlib.Core.List.{List, _++_, map}
 use lib.ListN.{length, drop, replicate}
-use Rattle.trace.specs.declared.Record.{Record}
+use Rattle.records.specs.declared.Record.{Record}
 use Rattle.trace.specs.declared.Operation.{Operation}
 use Rattle.trace.specs.declared.Var.{Var}
-use Rattle.trace.specs.Records.{at}
+use Rattle.records.specs.Records.{at}
 use Rattle.trace.specs.Reading as reading
 use Rattle.trace.specs.Reading.{Reply, recordsIn, readReply}
 use Rattle.races.specs.declared.Listing.{Listing}

@@ -12,12 +12,12 @@ use borrow.Author.Tests.{eq-eqb, ne-eqb}
 use lib.Dec.{T, ltb, eqb, eqb→eq, ltb→lt, T-not}
 use lib.ListN.{length, getD, set, length-set, length-replicate, getD-replicate}
 use lib.Seq.{getD-set-same, getD-set-other}
-use Rattle.trace.specs.declared.Record.{Record}
-use Rattle.trace.specs.Records.{at, isRead, isWrite, eventOf}
+use Rattle.records.specs.declared.Record.{Record}
+use Rattle.records.specs.Records.{at, isRead, isWrite, eventOf}
 use Rattle.trace.specs.Reading.{Acceptable}
-use Rattle.trace.specs.Marks.{noMarks}
+use Rattle.records.specs.Marks.{noMarks}
 use Rattle.trace.specs.Rule.{numbered}
-use Rattle.trace.proofs.Positions.{lt-or-ge}
+use Rattle.records.proofs.Positions.{lt-or-ge}
 use Rattle.trace.proofs.Blocks.{passes-at}
 use Rattle.trace.proofs.Marked.{formed}
 use Rattle.trace.proofs.Going.{in-range}

@@ -5,14 +5,14 @@ use mathlib.Core.Path.{_≡_, refl}
 use mathlib.Core.Bool.{Bool, true, false}
 use mathlib.Core.List.{List, [], _∷_, _++_, map}
 use lib.ListN.{replicate}
-use Rattle.trace.specs.declared.Record.{Record}
-use Rattle.trace.specs.Bytes.{recordAt, recordsFrom, decode}
-use Rattle.trace.specs.Records.{past, has, begun, ended}
-use Rattle.trace.specs.Records as records
+use Rattle.records.specs.declared.Record.{Record}
+use Rattle.records.specs.Bytes.{recordAt, recordsFrom, decode, part}
+use Rattle.records.specs.Records.{past, has, begun, ended}
+use Rattle.records.specs.Records as records
 use Rattle.trace.specs.Place.{place}
 use Rattle.trace.specs.Rule.{situation, owner, numbered, wellFormed, misplaced, again, early, judge, rule}
 use Rattle.trace.specs.Reading as reading
-use Rattle.trace.specs.Reading.{Reply, orElse, closing, walk, distance, trailerReply, frameReply, part, recordsIn, recordsReply, readReply}
+use Rattle.trace.specs.Reading.{Reply, orElse, closing, walk, distance, trailerReply, frameReply, recordsIn, recordsReply, readReply}
 use Rattle.trace.specs.Encoding.{encode, trailer}
 use Rattle.trace.proofs.Cases.{rec, recordsT, exchanged, forked, oneCell, trailerT}
 use Rattle.order.specs.Links.{within, along, leq}
@@ -20,7 +20,8 @@ use Rattle.order.specs.Links as links
 use Rattle.order.specs.Chains.{firstFrom, pick, put, lasts, chain, used, needs}
 use Rattle.order.specs.Clocks.{largest, table, flat, entry, clocksOf}
 use Rattle.order.specs.Schedule.{linked}
-use Rattle.order.specs.HappensBefore.{rankIn, rank, opOf, opAt, happensBefore}
+use Rattle.ranks.specs.Said.{opOf}
+use Rattle.order.specs.HappensBefore.{rankIn, rank, opAt, happensBefore}
 use Rattle.order.specs.Fill as fill
 use Rattle.order.specs.Fill.{eventsIn, beginPosition, shortRow, chainsUsed, traceClocks, spaceFor, fillTrace, fillRead, fillReply, clocksAfterTrace, clocksAfterRead, clocksAfter}
 use Rattle.coverage.specs.Below.{some, upto, pairs}

@@ -5,15 +5,15 @@ use mathlib.Core.Path.{_≡_, refl, sym, ap, ap₂, _∙_, subst}
 use mathlib.Core.Bool.{Bool, true, false, cond}
 use mathlib.Core.List.{List, [], _∷_, _++_, append-assoc, append-nil, map}
 use mathlib.Core.Logic.{_⊎_, inl, inr}
-use Rattle.trace.proofs.Positions.{lt-or-ge}
+use Rattle.records.proofs.Positions.{lt-or-ge}
 use lib.Dec.{T}
 use native.Mathlib.Omega.{arith}
 use native.Mathlib.Nat.{add-zero}
 use native.Mathlib.Numerals.{add-one}
 use lib.ListN.{length, set, length-append, length-map}
 use lib.Seq.{sets, length-sets}
-use Rattle.trace.specs.declared.Record.{Record}
-use Rattle.trace.specs.Records.{at}
+use Rattle.records.specs.declared.Record.{Record}
+use Rattle.records.specs.Records.{at}
 use Rattle.coverage.specs.Race.{raceb}
 use Rattle.coverage.specs.Leading.{coveredb}
 use Rattle.races.specs.Traces.{isAccess, settingOf}

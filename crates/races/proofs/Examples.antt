@@ -2,11 +2,12 @@
 use Prim.Native.Nat.{ℕ}
 use mathlib.Core.Path.{_≡_, refl}
 use mathlib.Core.List.{List, [], _∷_}
-use Rattle.trace.specs.declared.Record.{Record}
-use Rattle.trace.specs.Records.{past, begins}
+use Rattle.records.specs.declared.Record.{Record}
+use Rattle.records.specs.Records.{past, begins}
 use Rattle.order.specs.Links.{within, along, some, leq}
 use Rattle.order.specs.Schedule.{linked}
-use Rattle.order.specs.HappensBefore.{rankIn, rank, opOf, opAt, happensBefore}
+use Rattle.ranks.specs.Said.{opOf}
+use Rattle.order.specs.HappensBefore.{rankIn, rank, opAt, happensBefore}
 use Rattle.coverage.specs.Below as below
 use Rattle.coverage.specs.Race.{before, raceb}
 use Rattle.coverage.specs.Neighbours.{conflicts}

@@ -9,8 +9,8 @@ use native.Mathlib.Omega.{arith}
 use borrow.Author.Tests.{eq-eqb, ne-eqb, lt-ltb}
 use lib.Dec.{T, ltb, eqb}
 use lib.ListN.{length, getD, replicate, length-append, length-replicate}
-use Rattle.trace.specs.declared.Record.{Record}
-use Rattle.trace.specs.Records.{at, eventOf}
+use Rattle.records.specs.declared.Record.{Record}
+use Rattle.records.specs.Records.{at, eventOf}
 use Rattle.order.specs.Clocks.{table, chainOf, compareIn}
 use Rattle.order.specs.HappensBefore.{rank, traceLinks, happensBefore}
 use Rattle.order.specs.Fill.{eventsIn, chainTable}

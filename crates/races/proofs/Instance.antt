@@ -5,10 +5,10 @@ use mathlib.Core.Logic.{_⊎_, inl, inr}
 use mathlib.Core.List.{List}
 use lib.Dec.{T, eqb→eq}
 use lib.ListN.{length, List·getD-eq-default}
-use Rattle.trace.specs.declared.Record.{Record}
-use Rattle.trace.specs.Records.{at, noRecord, isRead, isWrite}
+use Rattle.records.specs.declared.Record.{Record}
+use Rattle.records.specs.Records.{at, noRecord, isRead, isWrite}
 use Rattle.trace.specs.Reading.{Acceptable}
-use Rattle.trace.proofs.Positions.{lt-or-ge}
+use Rattle.records.proofs.Positions.{lt-or-ge}
 use Rattle.trace.proofs.Blocks as blocks
 use Rattle.order.specs.HappensBefore.{Link}
 use Rattle.order.proofs.TraceLaws as order

@@ -8,16 +8,16 @@ use native.Mathlib.Omega.{arith}
 use borrow.Author.Tests.{le-ltb, eqb-true, ne-eqb}
 use lib.Dec.{T, leb, eqb, eqb→eq, le→leb}
 use lib.ListN.{length}
-use Rattle.trace.specs.declared.Record.{Record}
-use Rattle.trace.specs.Records.{at, past, begins, isFork, isRead, isWrite, eventOf}
+use Rattle.records.specs.declared.Record.{Record}
+use Rattle.records.specs.Records.{at, past, begins, isFork, isRead, isWrite, eventOf}
 use Rattle.trace.specs.Reading.{Acceptable}
-use Rattle.trace.specs.Marks.{isMarked}
-use Rattle.trace.proofs.Positions.{lt-or-ge}
+use Rattle.records.specs.Marks.{isMarked}
+use Rattle.records.proofs.Positions.{lt-or-ge}
 use Rattle.trace.proofs.Blocks.{passes-at, join-before-begin, body-after-begin}
 use Rattle.trace.proofs.Marked.{formed}
 use Rattle.trace.proofs.Going.{in-range}
 use Rattle.order.specs.HappensBefore.{Begins, Link, fork, join, rank}
-use Rattle.order.specs.Ranks.{ranksOf}
+use Rattle.ranks.specs.Ranks.{ranksOf}
 use Rattle.order.proofs.TraceOrder.{counted-passes, rank-begins, begins-rank, record-begins, rank-one, begins-at}
 use Rattle.order.proofs.TraceLaws.{link-apart, link-forward}
 use Rattle.order.proofs.RankLaws.{ranks-are}

@@ -10,11 +10,11 @@ use borrow.Author.Tests.{eq-eqb, eqb-true, le-leb, lt-leb}
 use lib.Dec.{leb, eqb}
 use lib.ListN.{length, drop, replicate}
 use lib.Seq.{sets, sets-eq}
-use Rattle.trace.specs.declared.Record.{Record}
-use Rattle.trace.specs.Bytes.{decode}
+use Rattle.records.specs.declared.Record.{Record}
+use Rattle.records.specs.Bytes.{decode, part}
 use Rattle.trace.specs.Reading as reading
-use Rattle.trace.specs.Reading.{Acceptable, part, recordsIn, readReply}
-use Rattle.order.specs.Ranks.{ranksOf}
+use Rattle.trace.specs.Reading.{Acceptable, recordsIn, readReply}
+use Rattle.ranks.specs.Ranks.{ranksOf}
 use Rattle.order.specs.Fill as fill
 use Rattle.order.specs.Fill.{eventsIn, shortRow, beginPosition, chainsUsed, chainTable, traceClocks, spaceFor, fillTrace, fillRead, fillReply, clocksAfterTrace, clocksAfterRead, clocksAfter, chainsAfterReply, chainsAfterRead, chainsAfter, pickList}
 use Rattle.order.specs.Paper.{FillsChains}

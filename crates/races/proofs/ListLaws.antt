@@ -11,10 +11,10 @@ use native.Mathlib.Nat.{eq-or-lt-of-le, le-of-suc-le-suc}
 use borrow.Author.Tests.{eq-eqb, ne-eqb, eqb-true, le-leb, lt-leb, lt-ltb}
 use lib.Dec.{T, leb, ltb, eqb, eqb→eq, leb→le, le→leb, ltb→lt, T-not, not-T}
 use lib.ListN.{length, length-append, length-map}
-use Rattle.trace.specs.declared.Record.{Record}
-use Rattle.trace.specs.Records.{at, isRead, isWrite}
+use Rattle.records.specs.declared.Record.{Record}
+use Rattle.records.specs.Records.{at, isRead, isWrite}
 use Rattle.trace.specs.Reading.{Acceptable}
-use Rattle.trace.proofs.Positions.{lt-or-ge}
+use Rattle.records.proofs.Positions.{lt-or-ge}
 use Rattle.coverage.specs.Below.{some, upto, pairs, only}
 use Rattle.coverage.specs.Race.{raceb}
 use Rattle.coverage.specs.Neighbours.{Cells, conflicts, writeBetween, neighbour}

@@ -8,10 +8,10 @@ use native.Mathlib.Omega.{arith}
 use native.Mathlib.Numerals.{add-one}
 use lib.Dec.{T}
 use lib.ListN.{length}
-use Rattle.trace.specs.declared.Record.{Record}
-use Rattle.trace.specs.Records.{at, eventOf}
+use Rattle.records.specs.declared.Record.{Record}
+use Rattle.records.specs.Records.{at, eventOf}
 use Rattle.trace.specs.Reading.{Acceptable}
-use Rattle.trace.specs.Marks.{isMarked, withMark}
+use Rattle.records.specs.Marks.{isMarked, withMark}
 use Rattle.trace.proofs.Blocks.{contiguous}
 use Rattle.trace.proofs.Marked.{marked-same, marked-other, marked-size}
 use Rattle.coverage.proofs.Tests.{decide-eq, either, or-left, or-right}

@@ -5,18 +5,19 @@ use mathlib.Core.Path.{_≡_, refl, ap, subst}
 use mathlib.Core.Logic.{_⊎_, inl, inr}
 use mathlib.Core.List.{List, [], _∷_, map, List·Memᴰ·head, List·Memᴰ·tail, List·Memᴰ·not-nil}
 use lib.Dec.{T}
-use Rattle.trace.specs.declared.Record.{Record}
-use Rattle.trace.specs.Bytes.{recordAt, recordsFrom, decode}
-use Rattle.trace.specs.Records.{at, eventOf, past, has, begun, ended, begins}
+use Rattle.records.specs.declared.Record.{Record}
+use Rattle.records.specs.Bytes.{recordAt, recordsFrom, decode, part}
+use Rattle.records.specs.Records.{at, eventOf, past, has, begun, ended, begins}
 use Rattle.trace.specs.Place.{place}
 use Rattle.trace.specs.Rule.{situation, owner, numbered, wellFormed, misplaced, again, early, judge, rule}
 use Rattle.trace.specs.Reading as reading
-use Rattle.trace.specs.Reading.{orElse, closing, walk, distance, trailerReply, frameReply, part, recordsIn, recordsReply, readReply}
+use Rattle.trace.specs.Reading.{orElse, closing, walk, distance, trailerReply, frameReply, recordsIn, recordsReply, readReply}
 use Rattle.trace.specs.Encoding.{encode, trailer, traceOf}
 use Rattle.trace.proofs.Cases.{recordsT, exchanged, oneCell}
 use Rattle.order.specs.Links.{within, along, some, leq}
 use Rattle.order.specs.Schedule.{linked}
-use Rattle.order.specs.HappensBefore.{rankIn, rank, opOf, opAt, happensBefore}
+use Rattle.ranks.specs.Said.{opOf}
+use Rattle.order.specs.HappensBefore.{rankIn, rank, opAt, happensBefore}
 use Rattle.order.specs.Chains.{firstFrom, pick, put, lasts, chain, needs}
 use Rattle.order.specs.Fill.{eventsIn, beginPosition, shortRow, spaceFor}
 use Rattle.coverage.specs.Below as below

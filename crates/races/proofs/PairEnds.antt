@@ -8,7 +8,7 @@ use borrow.Author.Tests.{eqb-true, leb-true, le-leb, lt-leb}
 use lib.Dec.{T, leb, eqb}
 use lib.ListN.{length, drop, replicate, length-append, length-drop, length-replicate}
 use lib.Seq.{drop-at}
-use Rattle.trace.specs.declared.Record.{Record}
+use Rattle.records.specs.declared.Record.{Record}
 use Rattle.trace.specs.Reading as reading
 use Rattle.trace.specs.Reading.{readReply, recordsIn, Acceptable}
 use Rattle.trace.proofs.Accepted.{accepts}
@@ -16,7 +16,7 @@ use Rattle.order.specs.declared.Filling.{Filling}
 use Rattle.order.specs.declared.Filling.the-variants.{Filled, Refused}
 use Rattle.order.proofs.Filling.{enum}
 use denote.Enum.Declared.{tagOf, declared}
-use Rattle.order.specs.Ranks.{ranksOf}
+use Rattle.ranks.specs.Ranks.{ranksOf}
 use Rattle.order.specs.Fill as fill
 use Rattle.order.specs.Fill.{FillReply, filled, pickList, eventsIn, shortRow, beginPosition, chainsUsed, traceClocks, spaceFor, fillTrace, fillRead, fillReply, clocksAfterTrace, clocksAfterRead, clocksAfter, chainsAfterReply, chainsAfterRead, chainsAfter}
 use Rattle.order.specs.Paper.{fillPaper, FillsChains, FillsTrace}

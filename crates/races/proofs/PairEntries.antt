@@ -8,8 +8,8 @@ use native.Mathlib.Omega.{arith}
 use lib.Dec.{T, eqb, eqb→eq, T-not}
 use lib.ListN.{length, getD, take, drop, set, length-append, length-drop, length-map}
 use lib.Seq.{drop-cons, set-at}
-use Rattle.trace.specs.declared.Record.{Record}
-use Rattle.trace.specs.Records.{at, eventOf}
+use Rattle.records.specs.declared.Record.{Record}
+use Rattle.records.specs.Records.{at, eventOf}
 use Rattle.trace.specs.Reading.{Acceptable}
 use Rattle.trace.proofs.Blocks.{contiguous, apart}
 use Rattle.order.specs.HappensBefore.{rank}

@@ -8,10 +8,10 @@ use borrow.Author.Tests.{eqb-true, le-leb, lt-leb, le-ltb}
 use lib.Dec.{T, leb, ltb, eqb}
 use lib.ListN.{length, take, drop, replicate}
 use lib.Seq.{drop-at}
-use Rattle.trace.specs.declared.Record.{Record}
-use Rattle.trace.specs.Records.{at, eventOf}
+use Rattle.records.specs.declared.Record.{Record}
+use Rattle.records.specs.Records.{at, eventOf}
 use Rattle.trace.specs.Reading.{Acceptable}
-use Rattle.order.specs.Ranks.{ranksOf}
+use Rattle.ranks.specs.Ranks.{ranksOf}
 use Rattle.coverage.specs.Race.{Race, raceb}
 use Rattle.coverage.specs.Leading.{leads, coveredb, entries}
 use Rattle.coverage.specs.Neighbours.{conflicts}

@@ -10,14 +10,14 @@ use borrow.Author.Tests.{eq-eqb, ne-eqb, le-leb}
 use lib.Dec.{T, leb, eqb, leb→le, le→leb, leb·zero}
 use lib.ListN.{length, getD, take, drop, replicate, length-append, length-replicate, getD-replicate, List·getD-append, take-append-drop}
 use lib.Seq.{getD-set-same, getD-set-other, drop-set-lt, getD-append-seam, ext-getD, getD-take, length-take-le}
-use Rattle.trace.specs.declared.Record.{Record}
-use Rattle.trace.specs.Records.{at, past, begins, isJoin, isWrite, eventOf}
+use Rattle.records.specs.declared.Record.{Record}
+use Rattle.records.specs.Records.{at, past, begins, isJoin, isWrite, eventOf}
 use Rattle.trace.specs.Reading.{Acceptable}
-use Rattle.trace.specs.Marks.{noMarks, isMarked, withMark}
-use Rattle.trace.proofs.Positions.{lt-or-ge}
+use Rattle.records.specs.Marks.{noMarks, isMarked, withMark}
+use Rattle.records.proofs.Positions.{lt-or-ge}
 use Rattle.trace.proofs.Marked.{marked-size}
 use Rattle.order.specs.HappensBefore.{rank}
-use Rattle.order.specs.Ranks.{ranksOf}
+use Rattle.ranks.specs.Ranks.{ranksOf}
 use Rattle.order.proofs.TraceOrder.{counted, counted-zero, counted-begin, counted-other, ranked, begins-rank, record-begins, rank-one}
 use Rattle.order.proofs.RankLaws.{ranks-are}
 use Rattle.coverage.specs.Leading.{leads, coveredb}

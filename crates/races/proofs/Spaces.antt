@@ -6,7 +6,7 @@ use mathlib.Core.List.{List}
 use native.Mathlib.Omega.{arith}
 use borrow.Author.Tests.{le-leb}
 use lib.ListN.{length}
-use Rattle.trace.specs.declared.Record.{Record}
+use Rattle.records.specs.declared.Record.{Record}
 use Rattle.trace.specs.Reading.{Acceptable}
 use Rattle.trace.proofs.Events.{few-events}
 use Rattle.order.specs.Fill.{spaceFor}

@@ -8,8 +8,8 @@ use mathlib.Core.Logic.{_≢_, _⊎_, inl, inr, _↔_}
 use native.Mathlib.Omega.{arith}
 use lib.Dec.{eqb, leb}
 use lib.ListN.{length, getD, drop}
-use Rattle.trace.specs.declared.Record.{Record}
-use Rattle.trace.specs.Records.{at}
+use Rattle.records.specs.declared.Record.{Record}
+use Rattle.records.specs.Records.{at}
 use Rattle.trace.specs.Reading as reading
 use Rattle.trace.specs.Reading.{Acceptable, recordsIn, readReply}
 use Rattle.trace.proofs.Accepted.{accepts}

@@ -7,8 +7,8 @@ use mathlib.Core.Bool.{Bool, not, cond, _&&_, _||_}
 use mathlib.Core.List.{List}
 use lib.Dec.{T, eqb}
 use lib.ListN.{length, getD}
-use Rattle.trace.specs.declared.Record.{Record}
-use Rattle.trace.specs.Records.{at, isWrite, eventOf}
+use Rattle.records.specs.declared.Record.{Record}
+use Rattle.records.specs.Records.{at, isWrite, eventOf}
 use Rattle.order.specs.HappensBefore.{happensBefore}
 use Rattle.coverage.specs.Race.{raceb}
 use Rattle.races.specs.Traces.{isAccess, settingOf}

@@ -5,8 +5,8 @@ use mathlib.Core.Bool.{Bool, true, false}
 use mathlib.Core.List.{List}
 use mathlib.Core.Logic.{_↔_}
 use lib.ListN.{getD}
-use Rattle.trace.specs.declared.Record.{Record}
-use Rattle.trace.specs.Records.{at}
+use Rattle.records.specs.declared.Record.{Record}
+use Rattle.records.specs.Records.{at}
 use Rattle.trace.specs.Reading.{recordsIn}
 use Rattle.coverage.specs.Race.{Race}
 use Rattle.coverage.specs.Cover.{Open}

@@ -5,10 +5,10 @@ use mathlib.Core.Bool.{Bool, true, false, cond}
 use mathlib.Core.List.{List, [], _∷_, _++_}
 use lib.Dec.{T}
 use lib.ListN.{length, take, replicate}
-use Rattle.trace.specs.declared.Record.{Record}
-use Rattle.trace.specs.Records.{at, past, begins, isBegin}
+use Rattle.records.specs.declared.Record.{Record}
+use Rattle.records.specs.Records.{at, past, begins, isBegin}
 use Rattle.trace.specs.Reading.{Acceptable}
-use Rattle.order.specs.Ranks.{ranksOf}
+use Rattle.ranks.specs.Ranks.{ranksOf}
 use Rattle.coverage.specs.Leading.{leads}
 use Rattle.races.specs.Traces.{isAccess, settingOf}
 

@@ -7,9 +7,9 @@ use mathlib.Core.Bool.{Bool, false, cond, _&&_}
 use mathlib.Core.List.{List}
 use lib.Dec.{T, leb, eqb}
 use lib.ListN.{length, getD, drop}
-use Rattle.trace.specs.declared.Record.{Record}
-use Rattle.trace.specs.Records.{at, isFork, isJoin, isRead, isWrite, eventOf}
-use Rattle.trace.specs.Marks.{isMarked, withMark}
+use Rattle.records.specs.declared.Record.{Record}
+use Rattle.records.specs.Records.{at, isFork, isJoin, isRead, isWrite, eventOf}
+use Rattle.records.specs.Marks.{isMarked, withMark}
 use Rattle.order.specs.HappensBefore.{rank}
 use Rattle.coverage.specs.Leading.{leads}
 use Rattle.races.specs.Traces.{isAccess, settingOf}

@@ -7,10 +7,10 @@ use mathlib.Core.List.{List, [], _∷_, _++_, map}
 use lib.Dec.{T, leb}
 use lib.ListN.{length, drop, replicate, take}
 use lib.Seq.{sets}
-use Rattle.trace.specs.declared.Record.{Record}
-use Rattle.trace.specs.Records.{at, eventOf}
+use Rattle.records.specs.declared.Record.{Record}
+use Rattle.records.specs.Records.{at, eventOf}
 use Rattle.trace.specs.Reading.{Acceptable}
-use Rattle.order.specs.Ranks.{ranksOf}
+use Rattle.ranks.specs.Ranks.{ranksOf}
 use Rattle.coverage.specs.Below.{upto}
 use Rattle.coverage.specs.Race.{raceb}
 use Rattle.coverage.specs.Leading.{coveredb}

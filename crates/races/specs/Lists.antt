@@ -5,8 +5,8 @@ use mathlib.Core.Bool.{Bool, true, false, cond, _&&_}
 use mathlib.Core.List.{List, [], _∷_, _++_}
 use lib.Dec.{leb, eqb}
 use lib.ListN.{length, drop, replicate}
-use Rattle.trace.specs.declared.Record.{Record}
-use Rattle.trace.specs.Records.{at, isWrite}
+use Rattle.records.specs.declared.Record.{Record}
+use Rattle.records.specs.Records.{at, isWrite}
 use Rattle.trace.specs.Reading as reading
 use Rattle.trace.specs.Reading.{Reply, recordsIn, readReply}
 use Rattle.order.specs.Fill.{beginPosition, shortRow, chainsUsed, spaceFor, clocksAfterTrace, pickList}

@@ -5,8 +5,8 @@ use mathlib.Core.Bool.{Bool, _&&_}
 use mathlib.Core.List.{List, _++_, map}
 use lib.Dec.{T}
 use lib.ListN.{length}
-use Rattle.trace.specs.declared.Record.{Record}
-use Rattle.trace.specs.Records.{at, eventOf}
+use Rattle.records.specs.declared.Record.{Record}
+use Rattle.records.specs.Records.{at, eventOf}
 use Rattle.trace.specs.Reading.{accepted, recordsIn, readReply}
 use Rattle.order.specs.HappensBefore.{rank, happensBefore}
 use Rattle.coverage.specs.Below.{upto}

@@ -4,7 +4,7 @@ use mathlib.Core.Path.{_≡_}
 use mathlib.Core.Bool.{Bool}
 use mathlib.Core.List.{List}
 use lib.ListN.{length}
-use Rattle.trace.specs.declared.Record.{Record}
+use Rattle.records.specs.declared.Record.{Record}
 use Rattle.trace.specs.Reading.{readReply}
 use Rattle.races.specs.declared.Listing.{Listing}
 use Rattle.races.specs.declared.Listing.the-variants.{Listed, Refused}

@@ -3,8 +3,8 @@ use mathlib.Core.Bool.{Bool, _&&_, _||_}
 use lib.Dec.{eqb}
 use mathlib.Core.List.{List}
 use lib.ListN.{length}
-use Rattle.trace.specs.declared.Record.{Record}
-use Rattle.trace.specs.Records.{at, isRead, isWrite, eventOf}
+use Rattle.records.specs.declared.Record.{Record}
+use Rattle.records.specs.Records.{at, isRead, isWrite, eventOf}
 use Rattle.order.specs.HappensBefore.{happensBefore}
 use Rattle.coverage.specs.Setting.{Setting}
 use Rattle.coverage.specs.Neighbours.{Cells, conflicts}

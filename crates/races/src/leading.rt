@@ -1,20 +1,19 @@
 // The event actions that lead to an access, found in one pass over the event actions from that of the access down to the first.
 use crate::workspace;
-use order::ranks;
-use trace::Record;
-use trace::access;
-use trace::marks;
+use records::Record;
+use records::access;
+use records::marks;
 ghost use mathlib.Core.Path.{_≡_};
 ghost use mathlib.Core.Logic.{_↔_};
 ghost use mathlib.Core.Bool.{_||_};
 ghost use Prim.Native.Nat.{_-_, _≤_, _<_};
 ghost use lib.Dec.{T};
 ghost use lib.ListN.{getD};
-ghost use Rattle.trace.specs.Bytes.{decode};
-ghost use Rattle.trace.specs.Records.{at, isJoin, isWrite, eventOf};
-ghost use Rattle.trace.specs.Marks.{isMarked};
+ghost use Rattle.records.specs.Bytes.{decode};
+ghost use Rattle.records.specs.Records.{at, isJoin, isWrite, eventOf};
+ghost use Rattle.records.specs.Marks.{isMarked};
 ghost use Rattle.trace.specs.Reading.{Acceptable};
-ghost use Rattle.order.specs.Ranks.{ranksOf};
+ghost use Rattle.ranks.specs.Ranks.{ranksOf};
 ghost use Rattle.races.specs.Traces.{isAccess};
 ghost use Rattle.races.specs.Leading.{Ready};
 ghost use Rattle.races.specs.LeadingPass.{markIf, markedEvent, leadsOn, Starts, Notes, OneLeads, LeadingFrom, PassesOn};

@@ -1,14 +1,14 @@
 // Which accesses race, by the clocks.
 use crate::leading::is_access;
 use order::question::compare;
-use order::ranks::rank_of;
-use trace::Record;
-use trace::access;
+use ranks::rank_of;
+use records::Record;
+use records::access;
 ghost use mathlib.Core.Path.{_≡_};
 ghost use Prim.Native.Nat.{_<_};
 ghost use lib.ListN.{length};
-ghost use Rattle.trace.specs.Bytes.{decode};
-ghost use Rattle.trace.specs.Records.{at, eventOf};
+ghost use Rattle.records.specs.Bytes.{decode};
+ghost use Rattle.records.specs.Records.{at, eventOf};
 ghost use Rattle.order.specs.HappensBefore.{happensBefore};
 ghost use Rattle.coverage.specs.Race.{raceb};
 ghost use Rattle.races.specs.Traces.{settingOf, conflict};

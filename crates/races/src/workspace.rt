@@ -3,7 +3,7 @@ ghost use mathlib.Core.Path.{_≡_};
 ghost use mathlib.Core.List.{_++_};
 ghost use Prim.Native.Nat.{_≤_};
 ghost use lib.ListN.{length, drop, replicate};
-ghost use Rattle.trace.specs.Marks.{isMarked, withMark};
+ghost use Rattle.records.specs.Marks.{isMarked, withMark};
 
 pub(crate) fn is_marked(work: &[u8], row: usize) -> bool
     ensures { λ r. ⌜ r ≡ isMarked (now (work .entry)) row ⌝ }

@@ -20,10 +20,10 @@ use crate::slots::plus;
 use crate::slots::wide;
 use crate::tally;
 use crate::tally::Counts;
+use records::Trace;
+use records::access;
 use trace::Reading;
 use trace::Refusal;
-use trace::Trace;
-use trace::access;
 
 // The job file's bytes, before record 1.
 fn trace_space() -> [u8; 2048] {

@@ -13,7 +13,7 @@ use crate::slots::is_in;
 use crate::slots::pick;
 use crate::slots::plus;
 use crate::slots::put;
-use trace::access;
+use records::access;
 
 // "For records a ≼ b: in different event actions as those are ordered; in one, when a stands earlier."
 pub(crate) fn is_before(recs: &[u8], table: &[usize], a: usize, b: usize) -> bool {

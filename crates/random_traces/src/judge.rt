@@ -6,8 +6,8 @@ use crate::slots::get_byte;
 use crate::slots::less;
 use crate::slots::pick;
 use crate::slots::plus;
-use trace::Trace;
-use trace::access;
+use records::Trace;
+use records::access;
 
 // A refusal's number and place; number 0 for an accepted trace.
 pub(crate) struct Verdict {

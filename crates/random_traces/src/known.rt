@@ -5,7 +5,7 @@ use crate::judge;
 use crate::paths;
 use crate::slots::less;
 use crate::slots::plus;
-use trace::access;
+use records::access;
 
 // Event actions, records, chains, the width to use and the clocks that it takes, races, entries of the short list, and the begin that needs the last chain.
 pub(crate) struct Known {

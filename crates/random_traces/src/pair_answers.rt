@@ -12,7 +12,7 @@ use crate::slots::is_in;
 use crate::slots::less;
 use crate::slots::pick;
 use crate::slots::plus;
-use trace::access;
+use records::access;
 
 // Entries of two numbers.
 fn first_of(list: &[u16], i: usize) -> usize {

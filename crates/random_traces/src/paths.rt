@@ -7,7 +7,7 @@ use crate::slots::is_in;
 use crate::slots::pick;
 use crate::slots::plus;
 use crate::slots::put;
-use trace::access;
+use records::access;
 
 const BEFORE: usize = 64;
 

@@ -10,15 +10,15 @@ use borrow.Author.Tests.{le-leb}
 use lib.Dec.{eqb}
 use lib.ListN.{length, drop, drop-of-length-le}
 use lib.Seq.{drop-cons}
-use Rattle.trace.specs.declared.Record.{Record}
-use Rattle.trace.specs.Records.{noRecord, at, past, begins}
+use Rattle.records.specs.declared.Record.{Record}
+use Rattle.records.specs.Records.{noRecord, at, past, begins}
 use Rattle.trace.specs.Place.{between, place}
 use Rattle.trace.specs.Rule.{situation, rule}
 use Rattle.trace.specs.Reading.{Reply, accepted, demand, orElse, walk, readReply}
 use Rattle.trace.specs.Reading.{refused as refuses}
 use Rattle.trace.specs.Reading.{closing as ending}
 use Rattle.trace.specs.Encoding.{traceOf}
-use Rattle.trace.proofs.Records.{past-length}
+use Rattle.records.proofs.Records.{past-length}
 use Rattle.trace.proofs.Encoded.{AllNarrow, read-narrow}
 use Rattle.recorder.specs.declared.Recorder.{Recorder}
 use Rattle.recorder.specs.Recording.{refused, taken, closes, Left, pass, full, stopsInside, noTrailer, stepLeft, closeLeft}

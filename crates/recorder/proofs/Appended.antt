@@ -6,8 +6,8 @@ use mathlib.Core.List.{List, _∷_, _++_}
 use native.Mathlib.Omega.{arith}
 use lib.ListN.{length, List·getD-append}
 use lib.Seq.{getD-append-seam}
-use Rattle.trace.specs.declared.Record.{Record}
-use Rattle.trace.specs.Records.{noRecord, at, past}
+use Rattle.records.specs.declared.Record.{Record}
+use Rattle.records.specs.Records.{noRecord, at, past}
 
 module _ (tr ys : List Record) where
   pub at-front : (i : ℕ) → i < length tr → at (tr ++ ys) i ≡ at tr i

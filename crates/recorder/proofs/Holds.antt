@@ -11,11 +11,12 @@ use borrow.Author.Tests.{leb-true, le-leb}
 use lib.Dec.{leb}
 use lib.ListN.{length, take, drop, length-append, length-take, length-drop}
 use lib.Seq.{take-at, drop-at, drop-drop}
-use Rattle.trace.specs.declared.Record.{Record}
-use Rattle.trace.specs.Records.{at, past}
+use Rattle.records.specs.declared.Record.{Record}
+use Rattle.records.specs.Records.{at, past}
 use Rattle.trace.specs.Place.{between, place}
 use Rattle.trace.specs.Rule.{situation, owner, rule}
-use Rattle.trace.specs.Reading.{part, recordsIn}
+use Rattle.records.specs.Bytes.{part}
+use Rattle.trace.specs.Reading.{recordsIn}
 use Rattle.trace.specs.Encoding.{encode}
 use Rattle.trace.proofs.Encoded.{AllNarrow, encode-length, encode-append, decode-encode, passes-narrow}
 use Rattle.recorder.specs.declared.Recorder.{Recorder}

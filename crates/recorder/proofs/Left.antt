@@ -8,8 +8,8 @@ use native.Mathlib.Omega.{arith}
 use borrow.Author.Tests.{eq-eqb, ne-eqb, le-leb, lt-leb, leb-true, ltb-true, lt-ltb}
 use lib.Dec.{leb, ltb}
 use lib.ListN.{length}
-use Rattle.trace.specs.declared.Record.{Record}
-use Rattle.trace.specs.Records.{begins}
+use Rattle.records.specs.declared.Record.{Record}
+use Rattle.records.specs.Records.{begins}
 use Rattle.trace.specs.Place.{between, place}
 use Rattle.trace.specs.Encoding.{encode, trailer}
 use Rattle.trace.specs.Paper.{Verdict, passes, fails, verdict}

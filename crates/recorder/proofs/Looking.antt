@@ -6,10 +6,10 @@ use mathlib.Core.Bool.{Bool, true, false, cond, not, _&&_, _||_}
 use mathlib.Core.List.{List}
 use borrow.Author.Tests.{eq-eqb, ne-eqb}
 use lib.Dec.{eqb}
-use Rattle.trace.specs.declared.Record.{Record}
-use Rattle.trace.specs.Records.{at, past, isBegin, isFork, isJoin, has}
+use Rattle.records.specs.declared.Record.{Record}
+use Rattle.records.specs.Records.{at, past, isBegin, isFork, isJoin, has}
 use Rattle.trace.specs.Rule.{again, early, judge}
-use Rattle.trace.proofs.Records.{past-less}
+use Rattle.records.proofs.Records.{past-less}
 use Rattle.recorder.specs.Recording.{ofKind}
 
 -- the record before position i, and those before it

@@ -9,8 +9,8 @@ use borrow.Author.Tests.{eqb-true, eq-eqb, le-leb}
 use lib.Dec.{eqb}
 use lib.ListN.{length, take, drop, take-append-drop}
 use lib.Seq.{take-length, take-suc, length-take-le}
-use Rattle.trace.specs.declared.Record.{Record}
-use Rattle.trace.specs.Records.{noRecord, at, past, begins}
+use Rattle.records.specs.declared.Record.{Record}
+use Rattle.records.specs.Records.{noRecord, at, past, begins}
 use Rattle.trace.specs.Place.{between}
 use Rattle.trace.specs.Rule.{situation, rule}
 use Rattle.trace.specs.Reading.{accepted, recordsIn, readReply, Acceptable}

@@ -5,8 +5,8 @@ use mathlib.Core.Bool.{Bool, true, false, cond, _&&_}
 use mathlib.Core.List.{List, [], _∷_, _++_}
 use lib.Dec.{leb, ltb, eqb}
 use lib.ListN.{length, take, drop}
-use Rattle.trace.specs.declared.Record.{Record}
-use Rattle.trace.specs.Records.{past, begun, ended, begins}
+use Rattle.records.specs.declared.Record.{Record}
+use Rattle.records.specs.Records.{past, begun, ended, begins}
 use Rattle.trace.specs.Place.{between, place}
 use Rattle.trace.specs.Rule.{judge}
 use Rattle.trace.specs.Reading.{recordsIn}

@@ -3,10 +3,10 @@
 mod look;
 mod store;
 
+use records::Record;
 use trace::Checked;
 use trace::EventId;
 use trace::Operation;
-use trace::Record;
 use trace::Refusal;
 ghost use mathlib.Core.Path.{_≡_};
 ghost use Prim.Native.Nat.{_≤_};

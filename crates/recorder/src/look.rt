@@ -1,21 +1,20 @@
 // Looking back through the records that stand in the bytes.
 use crate::Recorder;
+use records::Record;
+use records::Trace;
+use records::access;
 use trace::Checked;
 use trace::Operation;
-use trace::Record;
-use trace::Trace;
-use trace::access;
 use trace::rule;
 ghost use mathlib.Core.Path.{_≡_};
 ghost use mathlib.Core.Bool.{_&&_, _||_};
 ghost use Prim.Native.Nat.{_+_, _≤_};
 ghost use lib.Dec.{eqb};
 ghost use lib.ListN.{length};
-ghost use Rattle.trace.specs.Bytes.{decode};
-ghost use Rattle.trace.specs.Records.{past, has};
-ghost use Rattle.trace.specs.Records.{begins as begin-count};
+ghost use Rattle.records.specs.Bytes.{decode, part};
+ghost use Rattle.records.specs.Records.{past, has};
+ghost use Rattle.records.specs.Records.{begins as begin-count};
 ghost use Rattle.trace.specs.Place.{place};
-ghost use Rattle.trace.specs.Reading.{part};
 ghost use Rattle.trace.specs.Paper.{checkedPaper, verdict};
 ghost use Rattle.recorder.specs.Recording.{ofKind, before, judged};
 

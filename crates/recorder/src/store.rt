@@ -1,5 +1,5 @@
 // Records and the trailer, byte by byte.
-use trace::Record;
+use records::Record;
 ghost use mathlib.Core.Path.{_≡_};
 ghost use mathlib.Core.List.{[], _∷_};
 ghost use Prim.Native.Nat.{_+_, _≤_};

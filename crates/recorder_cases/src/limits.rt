@@ -2,7 +2,7 @@
 use crate::say;
 use recorder::Recorder;
 use recorder::Stepped;
-use trace::Record;
+use records::Record;
 
 struct Run {
     recorder: Recorder,

@@ -4,7 +4,7 @@ use crate::say;
 use recorder::Closing;
 use recorder::Recorder;
 use recorder::Stepped;
-use trace::Record;
+use records::Record;
 use trace::Refusal;
 
 struct Totals {

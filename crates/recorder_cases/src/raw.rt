@@ -1,5 +1,5 @@
 // Bytes stored without the recorder.
-use trace::Record;
+use records::Record;
 
 fn set(bytes: &mut [u8], at: usize, v: usize) {
     if at < bytes.len() {

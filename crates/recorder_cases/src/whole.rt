@@ -3,9 +3,9 @@ use crate::raw;
 use crate::say;
 use recorder::Recorder;
 use recorder::Stepped;
-use trace::Record;
-use trace::Trace;
-use trace::access;
+use records::Record;
+use records::Trace;
+use records::access;
 
 fn step_at(i: usize) -> Record {
     if i == 0 {

@@ -11,14 +11,14 @@ use borrow.Author.Tests.{leb-true, eqb-true, eq-eqb}
 use lib.Dec.{leb, eqb}
 use lib.ListN.{length, drop, length-drop, length-take, drop-of-length-le}
 use lib.Seq.{drop-cons}
-use Rattle.trace.specs.declared.Record.{Record}
-use Rattle.trace.specs.Bytes.{decode}
-use Rattle.trace.specs.Records.{noRecord, at, past, begins}
+use Rattle.records.specs.declared.Record.{Record}
+use Rattle.records.specs.Bytes.{decode, part}
+use Rattle.records.specs.Records.{noRecord, at, past, begins}
 use Rattle.trace.specs.Place.{between}
 use Rattle.trace.specs.Rule.{situation, rule}
-use Rattle.trace.specs.Reading.{Reply, refused, accepted, demand, orElse, closing, walk, distance, trailerReply, frameReply, part, recordsIn, recordsReply, readReply, Acceptable}
-use Rattle.trace.proofs.Decoded.{decoded-length}
-use Rattle.trace.proofs.Records.{past-length}
+use Rattle.trace.specs.Reading.{Reply, refused, accepted, demand, orElse, closing, walk, distance, trailerReply, frameReply, recordsIn, recordsReply, readReply, Acceptable}
+use Rattle.records.proofs.Decoded.{decoded-length}
+use Rattle.records.proofs.Records.{past-length}
 
 -- an accepted reply passed the demand, and passed the record
 pub passed : (t : Bool) (n p : ℕ) (y : Reply) (s k m : ℕ) → accepted s k m ≡ demand t n p y → (t ≡ true) × (accepted s k m ≡ y)

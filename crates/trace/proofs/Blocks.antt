@@ -11,12 +11,12 @@ use native.Mathlib.Decide.{ℕ-discrete}
 use borrow.Author.Tests.{eq-eqb, ne-eqb, eqb-true, eqb-false, leb-true, not-false, not-true, lt-ltb, le-ltb}
 use lib.Dec.{eqb, leb, ltb}
 use lib.ListN.{length}
-use Rattle.trace.specs.declared.Record.{Record}
-use Rattle.trace.specs.Records.{at, past, isBegin, isEnd, isFork, isJoin, isRead, isWrite, eventOf, has, begun, ended}
+use Rattle.records.specs.declared.Record.{Record}
+use Rattle.records.specs.Records.{at, past, isBegin, isEnd, isFork, isJoin, isRead, isWrite, eventOf, has, begun, ended}
 use Rattle.trace.specs.Place.{between, unknownKind, outOfPlace, place}
 use Rattle.trace.specs.Rule.{situation, owner, numbered, wellFormed, misplaced, again, early, judge, rule}
 use Rattle.trace.specs.Reading.{Acceptable}
-use Rattle.trace.proofs.Positions.{decide, true-not-false, or-cases, or-first, or-second, Found, has-found, has-intro, has-later, lt-or-ge}
+use Rattle.records.proofs.Positions.{decide, true-not-false, or-cases, or-first, or-second, Found, has-found, has-intro, has-later, lt-or-ge}
 use Rattle.trace.proofs.PlaceRule.{Outside, begins, joins, Inside, ends, forks, reads, writes, outside, inside}
 use Rattle.trace.proofs.Marked.{formed}
 

@@ -3,12 +3,12 @@
 use Prim.Native.Nat.{ℕ}
 use mathlib.Core.Path.{_≡_, refl}
 use mathlib.Core.List.{List, [], _∷_, _++_, map}
-use Rattle.trace.specs.declared.Record.{Record}
-use Rattle.trace.specs.Bytes.{recordAt, recordsFrom, decode}
-use Rattle.trace.specs.Records.{past, has, begun, ended, begins}
+use Rattle.records.specs.declared.Record.{Record}
+use Rattle.records.specs.Bytes.{recordAt, recordsFrom, decode, part}
+use Rattle.records.specs.Records.{past, has, begun, ended, begins}
 use Rattle.trace.specs.Place.{place}
 use Rattle.trace.specs.Rule.{situation, owner, numbered, wellFormed, misplaced, again, early, judge, rule}
-use Rattle.trace.specs.Reading.{Reply, refused, accepted, demand, orElse, closing, walk, distance, trailerReply, frameReply, part, recordsIn, recordsReply, readReply}
+use Rattle.trace.specs.Reading.{Reply, refused, accepted, demand, orElse, closing, walk, distance, trailerReply, frameReply, recordsIn, recordsReply, readReply}
 use Rattle.trace.specs.Encoding.{encode, trailer}
 
 -- a record, by "Kind, first, second"

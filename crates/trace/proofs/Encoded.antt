@@ -10,19 +10,19 @@ use borrow.Author.Tests.{leb-true, eqb-true, eq-eqb, le-leb}
 use lib.Dec.{leb, ltb, eqb}
 use lib.ListN.{length, getD, drop, length-append, take-append-drop, drop-of-length-le}
 use lib.Seq.{take-at, drop-at, drop-cons, drop-drop, getD-append-add, getD-drop, getD-take}
-use Rattle.trace.specs.declared.Record.{Record}
-use Rattle.trace.specs.Bytes.{twoBytes, recordAt, recordsFrom, decode}
-use Rattle.trace.specs.Records.{at, past, isBegin}
-use Rattle.trace.specs.Records.{begins as begin-count}
+use Rattle.records.specs.declared.Record.{Record}
+use Rattle.records.specs.Bytes.{twoBytes, recordAt, recordsFrom, decode, part}
+use Rattle.records.specs.Records.{at, past, isBegin}
+use Rattle.records.specs.Records.{begins as begin-count}
 use Rattle.trace.specs.Place.{place}
 use Rattle.trace.specs.Rule.{situation, numbered, rule}
-use Rattle.trace.specs.Reading.{Reply, refused, accepted, demand, closing, walk, distance, trailerReply, frameReply, part, recordsIn, recordsReply, readReply, Acceptable}
+use Rattle.trace.specs.Reading.{Reply, refused, accepted, demand, closing, walk, distance, trailerReply, frameReply, recordsIn, recordsReply, readReply, Acceptable}
 use Rattle.trace.specs.Encoding.{low, high, encode, trailer, traceOf}
-use Rattle.trace.proofs.Records.{past-length}
+use Rattle.records.proofs.Records.{past-length}
 use Rattle.trace.proofs.Accepted.{passed, passed-record, part-length, records-length, accepts, accepted-of}
 use Rattle.trace.proofs.Marked.{formed}
 use Rattle.trace.proofs.Blocks.{passing}
-use Rattle.trace.proofs.Positions.{lt-or-ge}
+use Rattle.records.proofs.Positions.{lt-or-ge}
 use Rattle.trace.proofs.PlaceRule.{Outside, begins, joins, Inside, ends, forks, reads, writes, outside, inside}
 
 -- fields that fit their bytes

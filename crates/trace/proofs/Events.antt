@@ -10,8 +10,8 @@ use native.Mathlib.Nat.{eq-or-lt-of-le}
 use borrow.Author.Tests.{eq-eqb, ne-eqb, eqb-true, leb-true}
 use lib.Dec.{leb}
 use lib.ListN.{length}
-use Rattle.trace.specs.declared.Record.{Record}
-use Rattle.trace.specs.Records.{at, past, isBegin, has, begun, begins}
+use Rattle.records.specs.declared.Record.{Record}
+use Rattle.records.specs.Records.{at, past, isBegin, has, begun, begins}
 use Rattle.trace.specs.Rule.{numbered}
 use Rattle.trace.specs.Reading.{Acceptable}
 use Rattle.trace.proofs.Marked.{formed}

@@ -5,7 +5,7 @@ use mathlib.Core.Path.{_≡_, refl, _∙_, sym}
 use mathlib.Core.Bool.{Bool, true, false, cond, not}
 use native.Mathlib.Omega.{arith}
 use lib.Dec.{eqb}
-use Rattle.trace.specs.declared.Record.{Record}
+use Rattle.records.specs.declared.Record.{Record}
 use Rattle.trace.specs.Place.{place}
 use Rattle.trace.specs.Rule.{wellFormed, misplaced, again, early, judge}
 use Rattle.trace.specs.Paper.{Verdict, passes, fails, verdict}

@@ -10,14 +10,14 @@ use borrow.Author.Tests.{leb-true}
 use lib.Dec.{leb}
 use lib.ListN.{length, drop, drop-of-length-le}
 use lib.Seq.{drop-cons}
-use Rattle.trace.specs.declared.Record.{Record}
-use Rattle.trace.specs.Records.{noRecord, at, past, begun, ended}
-use Rattle.trace.specs.Marks.{isMarked, noMarks, noted}
+use Rattle.records.specs.declared.Record.{Record}
+use Rattle.records.specs.Records.{noRecord, at, past, begun, ended}
+use Rattle.records.specs.Marks.{isMarked, noMarks, noted}
 use Rattle.trace.specs.Place.{place}
 use Rattle.trace.specs.Rule.{situation, owner, numbered, judge, rule}
 use Rattle.trace.specs.Reading.{Reply, refused, closing, orElse, walk}
 use Rattle.trace.specs.Paper.{Verdict, passes, fails, verdict}
-use Rattle.trace.proofs.Records.{past-more, past-length}
+use Rattle.records.proofs.Records.{past-more, past-length}
 use Rattle.trace.proofs.Marked.{Tracks, tracks-start, tracks-next, judge-same}
 
 -- a fault is what the walk stops at

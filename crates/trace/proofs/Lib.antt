@@ -1,12 +1,9 @@
 pub mod Table
-pub mod Records
-pub mod Decoded
 pub mod Upward
 pub mod Marked
 pub mod Faults
 pub mod Going
 pub mod Accepted
-pub mod Positions
 pub mod PlaceRule
 pub mod Blocks
 pub mod Encoded

@@ -11,9 +11,9 @@ use borrow.Author.Tests.{eq-eqb, ne-eqb, lt-ltb, le-ltb, ltb-true, ltb-false, le
 use lib.Dec.{leb, ltb, eqb}
 use lib.ListN.{length, getD, length-set, length-replicate, getD-replicate}
 use lib.Seq.{getD-set-same, getD-set-other}
-use Rattle.trace.specs.declared.Record.{Record}
-use Rattle.trace.specs.Records.{isBegin, isFork, isJoin, has, begun, ended}
-use Rattle.trace.specs.Marks.{noMarks, isMarked, withMark, noted}
+use Rattle.records.specs.declared.Record.{Record}
+use Rattle.records.specs.Records.{isBegin, isFork, isJoin, has, begun, ended}
+use Rattle.records.specs.Marks.{noMarks, isMarked, withMark, noted}
 use Rattle.trace.specs.Rule.{situation, owner, numbered, wellFormed, misplaced, again, early, judge, rule}
 use Rattle.trace.specs.Place.{place}
 

@@ -3,8 +3,8 @@
 use Prim.Native.Nat.{ℕ, _*_, _/_, _%_}
 use mathlib.Core.List.{List, [], _∷_, _++_}
 use lib.ListN.{length}
-use Rattle.trace.specs.declared.Record.{Record}
-use Rattle.trace.specs.Records.{past, begins}
+use Rattle.records.specs.declared.Record.{Record}
+use Rattle.records.specs.Records.{past, begins}
 
 -- "fields are unsigned, low byte first"
 abbrev pub low : ℕ → ℕ

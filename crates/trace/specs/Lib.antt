@@ -1,8 +1,5 @@
-pub mod Bytes
-pub mod Records
 pub mod Place
 pub mod Rule
 pub mod Reading
 pub mod Paper
 pub mod Encoding
-pub mod Marks

@@ -1,7 +1,7 @@
 -- Document 01's number and place for each case of the answers.
 -- Assumes nothing.
 use Prim.Native.Nat.{ℕ, zero, suc}
-use Rattle.trace.specs.declared.Trace.{Trace}
+use Rattle.records.specs.declared.Trace.{Trace}
 use Rattle.trace.specs.declared.Refusal.{Refusal}
 use Rattle.trace.specs.declared.Reading.{Reading}
 use Rattle.trace.specs.declared.Reading.the-variants.{Accepted, Refused}

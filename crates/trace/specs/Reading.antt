@@ -5,10 +5,10 @@ use mathlib.Core.Path.{_≡_}
 use mathlib.Core.Bool.{Bool, true, false, _&&_}
 use mathlib.Core.List.{List, [], _∷_}
 use lib.Dec.{leb, eqb}
-use lib.ListN.{getD, length, take, drop}
-use Rattle.trace.specs.declared.Record.{Record}
-use Rattle.trace.specs.Records.{at, past, begins}
-use Rattle.trace.specs.Bytes.{twoBytes, decode}
+use lib.ListN.{getD, length}
+use Rattle.records.specs.declared.Record.{Record}
+use Rattle.records.specs.Records.{at, past, begins}
+use Rattle.records.specs.Bytes.{twoBytes, decode, part}
 use Rattle.trace.specs.Place.{between}
 use Rattle.trace.specs.Rule.{situation, rule}
 
@@ -57,10 +57,7 @@ trailerReply b t d =
 unfoldable pub frameReply : List ℕ → Reply
 frameReply b = demand (leb 8 (length b)) 1 0 (trailerReply b (length b - 8) (distance b (length b - 8)))
 
--- the bytes of n records that start at start, and the records
-unfoldable pub part : List ℕ → ℕ → ℕ → List ℕ
-part b start n = take (5 * n) (drop start b)
-
+-- the n records that start at start
 unfoldable pub recordsIn : List ℕ → ℕ → ℕ → List Record
 recordsIn b start n = decode (part b start n)
 

@@ -4,8 +4,8 @@ use Prim.Native.Nat.{ℕ}
 use mathlib.Core.Bool.{Bool, cond, not, _&&_, _||_}
 use mathlib.Core.List.{List, [], _∷_}
 use lib.Dec.{leb, ltb, eqb}
-use Rattle.trace.specs.declared.Record.{Record}
-use Rattle.trace.specs.Records.{isBegin, isFork, isJoin, begun, ended}
+use Rattle.records.specs.declared.Record.{Record}
+use Rattle.records.specs.Records.{isBegin, isFork, isJoin, begun, ended}
 use Rattle.trace.specs.Place.{between, unknownKind, outOfPlace, place}
 
 -- the situation after the records

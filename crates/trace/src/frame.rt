@@ -1,14 +1,27 @@
 // The trailer: where record 1 starts, how many records there are, and the number of begins it names.
 use crate::Reading;
 use crate::accept;
-use crate::access::two_bytes;
 use crate::refuse;
 ghost use mathlib.Core.Path.{_≡_};
-ghost use Prim.Native.Nat.{_+_, _-_, _/_, _≤_};
+ghost use Prim.Native.Nat.{_+_, _*_, _-_, _/_, _≤_};
 ghost use lib.ListN.{length};
-ghost use Rattle.trace.specs.Bytes.{twoBytes};
+ghost use Rattle.records.specs.Bytes.{twoBytes};
 ghost use Rattle.trace.specs.Reading.{accepted, orElse, distance, trailerReply, frameReply};
 ghost use Rattle.trace.specs.Paper.{paper};
+
+fn pair(low: u8, high: u8) -> u16
+    ensures { λ r. ⌜ r ≡ low + 256 * high ⌝ }
+{
+    (low as u16) + 256 * (high as u16)
+}
+
+// Two bytes as a number, low byte first.
+fn two_bytes(bytes: &[u8], at: usize) -> u16
+    requires { ⌜ at + 2 ≤ length (now bytes) ⌝ }
+    ensures { λ r. ⌜ r ≡ twoBytes (now (bytes .entry)) at ⌝ }
+{
+    pair(bytes[at], bytes[at + 1])
+}
 
 // The distance from the trailer's start, at, back to record 1.
 fn distance_at(bytes: &[u8], at: usize) -> usize

@@ -1,11 +1,11 @@
-// Traces of event actions: identifiers, records, and the reader, which checks a trace record by record.
-pub mod access;
+// Traces of event actions: identifiers, and the reader, which checks a trace record by record.
 mod frame;
-pub mod marks;
 mod place;
 pub mod rule;
 mod scan;
 
+use records::Trace;
+use records::access;
 ghost use mathlib.Core.Path.{_≡_};
 ghost use Prim.Native.Nat.{_≤_};
 ghost use Rattle.trace.specs.Reading.{refused, accepted, readReply};
@@ -19,20 +19,6 @@ pub struct Var(pub u16);
 
 // A record's number, from 1 in trace order: the source's Operation.
 pub struct Operation(pub u16);
-
-// One record of a trace.
-pub struct Record {
-    pub kind: u8,
-    pub first: u16,
-    pub second: u16,
-}
-
-// An accepted trace: where record 1 starts in the bytes, how many records and how many event actions.
-pub struct Trace {
-    pub start: usize,
-    pub records: usize,
-    pub events: usize,
-}
 
 // A refusal: its number and a record number, 0 where no record is concerned.
 pub struct Refusal {

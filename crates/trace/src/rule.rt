@@ -2,9 +2,9 @@
 use crate::Checked;
 use crate::EventId;
 use crate::Operation;
-use crate::Record;
 use crate::Refusal;
 use crate::place;
+use records::Record;
 ghost use mathlib.Core.Path.{_≡_};
 ghost use mathlib.Core.Bool.{cond, not};
 ghost use lib.Dec.{eqb};

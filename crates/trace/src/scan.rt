@@ -1,25 +1,25 @@
 // Every record checked in turn, and then the end of the trace.
 use crate::EventId;
 use crate::Reading;
-use crate::Record;
 use crate::accept;
-use crate::access::count;
-use crate::access::count_begins;
-use crate::access::record_at;
-use crate::marks;
 use crate::place;
 use crate::refuse;
 use crate::rule;
+use records::Record;
+use records::access::count;
+use records::access::count_begins;
+use records::access::record_at;
+use records::marks;
 ghost use mathlib.Core.Path.{_≡_};
 ghost use mathlib.Core.List.{[]};
 ghost use Prim.Native.Nat.{_≤_};
 ghost use lib.ListN.{length};
-ghost use Rattle.trace.specs.Bytes.{decode};
-ghost use Rattle.trace.specs.Records.{past};
+ghost use Rattle.records.specs.Bytes.{decode};
+ghost use Rattle.records.specs.Records.{past};
 ghost use Rattle.trace.specs.Rule.{situation, judge};
 ghost use Rattle.trace.specs.Reading.{closing, walk};
 ghost use Rattle.trace.specs.Place.{place};
-ghost use Rattle.trace.specs.Marks.{isMarked};
+ghost use Rattle.records.specs.Marks.{isMarked, noted};
 ghost use Rattle.trace.specs.Paper.{paper};
 
 // The trace ends after its last record, in that situation.
@@ -54,6 +54,20 @@ fn fault(next: u8, now_in: u8, owner: u16, r: Record, begun: &[u8; 1025], ended:
     )
 }
 
+// Marks the event of a begin among those that have begun, that of an end among those that have ended.
+fn note(begun: &mut [u8; 1025], ended: &mut [u8; 1025], r: Record)
+    ensures { λ u. ⌜ (now (begun .exit) ≡ noted (now (begun .entry)) 1 r) × (now (ended .exit) ≡ noted (now (ended .entry)) 2 r) ⌝ }
+{
+    let kind = r.kind;
+    if kind == 1 {
+        marks::mark(begun, r.first);
+        return;
+    }
+    if kind == 2 {
+        marks::mark(ended, r.first);
+    }
+}
+
 // The records of a trace that start there, with the number of begins that the trailer names.
 pub(crate) fn scan(recs: &[u8], start: usize, events: usize) -> Reading
     requires { ⌜ length (decode (now recs)) ≤ 4096 ⌝ }
@@ -73,7 +87,7 @@ pub(crate) fn scan(recs: &[u8], start: usize, events: usize) -> Reading
         if number != 0 {
             return refuse(number, i + 1);
         }
-        marks::note(&mut begun, &mut ended, r);
+        note(&mut begun, &mut ended, r);
         now_in = next;
         owner = r.first;
         i += 1;

@@ -41,9 +41,9 @@ use denote.Triple.Table.{entered, cited}
 use denote.Triple.Walked.{says, Stays, stay-ref, stay-none, gave-slice, walkOf, goes-ref, goes-none, goes-gave-slice, Walks, ends-at, walked, walk-meets}
 use denote.Exit.{yes}
 use denote.Signature.{plain}
-use Rattle.trace.specs.declared.Record.{Record}
-use Rattle.trace.proofs.Record as X
-use Rattle.trace.proofs.Record.Laws as X′
+use Rattle.records.specs.declared.Record.{Record}
+use Rattle.records.proofs.Record as X
+use Rattle.records.proofs.Record.Laws as X′
 use Rattle.recorder.specs.declared.Recorder.{Recorder}
 use Rattle.recorder.specs.declared.Next.{Next}
 use Rattle.recorder.specs.declared.Stepped.{Stepped}

@@ -1,7 +1,7 @@
 -- `order::chains::chain_pass` meets its contract.
 -- Assumes nothing.
 use Rattle.order.proofs.MemberLaws.{Going, going-start, going-room, going-next, going-stop, going-end}
-use Rattle.trace.specs.Bytes.{decode}
+use Rattle.records.specs.Bytes.{decode}
 use borrow.Author.Needs.{needs}
 use lib.ListN.{length}
 use native.Mathlib.Omega.{arith}

@@ -4,7 +4,7 @@ use borrow.Author.Needs.{needs}
 use Rattle.order.proofs.MarkListLaws.{marks-down, mark-in-length, no-marks-length}
 use Rattle.order.specs.ChainPass.{saidBy}
 use Rattle.order.specs.Marking.{marksDownIn, marksIn}
-use Rattle.trace.specs.Bytes.{decode}
+use Rattle.records.specs.Bytes.{decode}
 use lib.ListN.{length, set, length-set}
 use native.Mathlib.Omega.{arith}
 use mathlib.Core.Path.{_≡_, sym, ap, _∙_}

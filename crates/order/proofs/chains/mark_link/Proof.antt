@@ -1,8 +1,8 @@
 -- `order::chains::mark_link` meets its contract.
 -- Assumes nothing.
-use Rattle.order.proofs.SaidLaws.{nothing-said, begin-said}
+use Rattle.ranks.proofs.SaidLaws.{nothing-said, begin-said}
 use Rattle.order.specs.Marking.{markIn}
-use Rattle.order.specs.Ranks.{says}
+use Rattle.ranks.specs.Ranks.{says}
 use mathlib.Core.Path.{refl, sym, ap, _∙_}
 use borrow.Author.Needs.{needs}
 use Rattle.order.proofs.chains.mark_link.Statement.{statement}

@@ -1,8 +1,8 @@
 -- `order::chains::turn` meets its contract.
 -- Assumes nothing.
-use Rattle.order.proofs.SaidLaws.{link-said, nothing-said}
+use Rattle.ranks.proofs.SaidLaws.{link-said, nothing-said}
 use Rattle.order.specs.ChainPass.{turnMembers}
-use Rattle.order.specs.Ranks.{says}
+use Rattle.ranks.specs.Ranks.{says}
 use native.Mathlib.Omega.{arith}
 use mathlib.Core.Path.{refl, sym, ap, _∙_}
 use borrow.Author.Needs.{needs}

@@ -6,7 +6,7 @@ use Rattle.order.proofs.RankLaws.{ranks-are}
 use Rattle.order.specs.Question.{demand, bothBegin, orderTrace, answered}
 use Rattle.order.specs.Fill.{noChains}
 use Rattle.order.specs.HappensBefore.{rank}
-use Rattle.trace.specs.Bytes.{decode}
+use Rattle.records.specs.Bytes.{decode}
 use borrow.Author.Tests.{eq-eqb, ne-eqb, not-true, not-false}
 use lib.ListN.{length, getD, length-replicate}
 use native.Mathlib.Omega.{arith}

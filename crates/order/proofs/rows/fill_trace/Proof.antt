@@ -4,7 +4,7 @@ use Rattle.order.proofs.FillEnds.{ready, short-reply, short-clocks, who
 use Rattle.order.proofs.SpaceLaws.{has-room}
 use Rattle.order.specs.Paper.{fillPaper}
 use Rattle.order.specs.Fill.{spaceFor, demand, fillTrace, clocksAfterTrace, chainsAfterReply}
-use Rattle.trace.specs.Bytes.{decode}
+use Rattle.records.specs.Bytes.{decode}
 use borrow.Author.Tests.{not-true, not-false}
 use lib.ListN.{length}
 use native.Mathlib.Omega.{arith}

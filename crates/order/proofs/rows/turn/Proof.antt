@@ -1,8 +1,8 @@
 -- `order::rows::turn` meets its contract.
 -- Assumes nothing.
-use Rattle.order.proofs.SaidLaws.{nothing-said}
+use Rattle.ranks.proofs.SaidLaws.{nothing-said}
 use Rattle.order.specs.Pass.{turnRows}
-use Rattle.order.specs.Ranks.{says}
+use Rattle.ranks.specs.Ranks.{says}
 use mathlib.Core.Path.{refl, sym, ap, _∙_}
 use borrow.Author.Needs.{needs}
 use Rattle.order.proofs.rows.turn.Statement.{statement}

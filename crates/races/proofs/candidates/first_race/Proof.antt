@@ -5,7 +5,7 @@ use mathlib.Core.Path.{sym, _∙_, subst}
 use Prim.Native.Nat.{_-_}
 use native.Mathlib.Omega.{arith}
 use denote.Ref.{now}
-use Rattle.trace.specs.Bytes.{decode}
+use Rattle.records.specs.Bytes.{decode}
 use Rattle.races.proofs.candidates.first_race.Statement.{statement}
 use Rattle.races.proofs.candidates.first_race.Tie as tie
 

@@ -1,6 +1,6 @@
 use Rattle.races.proofs.CandidateLaws.{scan-start, scan-next, scan-found, scan-end}
 use Rattle.races.specs.Candidates.{NextAccess}
-use Rattle.trace.specs.Bytes.{decode}
+use Rattle.records.specs.Bytes.{decode}
 use Prim.Native.Nat.{_-_, _≤_}
 use native.Mathlib.Omega.{arith}
 use mathlib.Core.Path.{sym, _∙_}

@@ -1,5 +1,5 @@
 use mathlib.Core.Path.{refl}
-use Rattle.trace.specs.Marks.{noMarks}
+use Rattle.records.specs.Marks.{noMarks}
 use Rattle.races.proofs.candidates.no_starts.Statement.{statement}
 use Rattle.races.proofs.candidates.no_starts.Tie as tie
 

@@ -1,6 +1,6 @@
 use Rattle.races.proofs.CandidateLaws.{cell-low, starts-next, lasts-next}
 use Rattle.races.specs.Candidates.{cell}
-use Rattle.trace.specs.Bytes.{decode}
+use Rattle.records.specs.Bytes.{decode}
 use denote.Ref.{now}
 use mathlib.Core.Path.{_∙_}
 use borrow.Author.Needs.{needs}

@@ -2,8 +2,8 @@ use Rattle.races.proofs.CandidateLaws.{cell-low, ordered-quiet}
 use Rattle.races.proofs.ListLaws.{way-no-access, way-quiet, way-no-start, way-start}
 use Rattle.races.specs.Candidates.{cell, isOrdered}
 use Rattle.races.specs.Traces.{isAccess}
-use Rattle.trace.specs.declared.Record.{Record}
-use Rattle.trace.specs.Bytes.{decode}
+use Rattle.records.specs.declared.Record.{Record}
+use Rattle.records.specs.Bytes.{decode}
 use lib.ListN.{getD}
 use lib.Dec.{T}
 use borrow.Author.Tests.{not-true}

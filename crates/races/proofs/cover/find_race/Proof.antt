@@ -2,7 +2,7 @@
 -- Assumes nothing.
 use native.Mathlib.Omega.{arith}
 use Prim.Native.Nat.{_-_}
-use Rattle.trace.specs.Bytes.{decode}
+use Rattle.records.specs.Bytes.{decode}
 use Rattle.races.specs.PairSearch.{NoRace}
 use Rattle.races.proofs.CoverLaws.{no-race-start, no-race-next, next-found, next-some}
 use borrow.Author.Needs.{needs}

@@ -6,7 +6,7 @@ use Prim.Native.Nat.{_<_, _-_}
 use lib.ListN.{length}
 use mathlib.Core.Path.{sym, _∙_}
 use borrow.Author.Tests.{not-true, not-false}
-use Rattle.trace.specs.Bytes.{decode}
+use Rattle.records.specs.Bytes.{decode}
 use Rattle.races.specs.PairSearch.{Along}
 use Rattle.races.proofs.CoverLaws.{along-start, along-next, second-apart, second-found, second-none}
 use Rattle.races.proofs.cover.find_second.Statement.{statement}

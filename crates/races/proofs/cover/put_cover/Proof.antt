@@ -7,7 +7,7 @@ use lib.ListN.{length}
 use mathlib.Core.Path.{refl, sym, _∙_}
 use borrow.Author.Tests.{not-true, not-false}
 use Rattle.trace.proofs.Events.{few-events}
-use Rattle.trace.specs.Bytes.{decode}
+use Rattle.records.specs.Bytes.{decode}
 use Rattle.races.specs.PairSearch.{Written}
 use Rattle.races.proofs.CoverLaws.{written-start, written-sought, written-long, written-room, written-on, written-next, written-end, few-rows}
 use Rattle.races.proofs.cover.put_cover.Statement.{statement}

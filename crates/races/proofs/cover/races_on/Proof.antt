@@ -8,8 +8,8 @@ use lib.ListN.{length}
 use mathlib.Core.Bool.{true, false}
 use mathlib.Core.Path.{_≡_, sym, _∙_}
 use borrow.Author.Tests.{not-true, not-false}
-use Rattle.trace.specs.Records.{at, eventOf}
-use Rattle.trace.specs.Bytes.{decode}
+use Rattle.records.specs.Records.{at, eventOf}
+use Rattle.records.specs.Bytes.{decode}
 use Rattle.races.specs.Traces.{settingOf}
 use Rattle.coverage.specs.Leading.{leads}
 use Rattle.races.specs.PairSearch.{racesOn}

@@ -1,4 +1,4 @@
-use Rattle.trace.specs.declared.Record.{Record}
+use Rattle.records.specs.declared.Record.{Record}
 use Rattle.races.proofs.NoteLaws.{One, one-start, one-more, one-parted, one-first, says-last, says-more}
 use Rattle.races.specs.LeadingPass.{OneLeads}
 use mathlib.Core.Logic.{_↔_}
@@ -7,7 +7,7 @@ use mathlib.Core.Path.{sym, _∙_, ap}
 use Prim.Native.Nat.{_-_}
 use native.Mathlib.Omega.{arith}
 use denote.Ref.{now}
-use Rattle.trace.specs.Bytes.{decode}
+use Rattle.records.specs.Bytes.{decode}
 use borrow.Author.Needs.{needs}
 use Rattle.races.proofs.leading.block_before.Statement.{statement}
 use Rattle.races.proofs.leading.block_before.Tie as tie

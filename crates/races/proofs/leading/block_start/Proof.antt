@@ -1,7 +1,7 @@
 -- `races::leading::block_start` meets its contract.
 -- Assumes nothing.
 use Rattle.races.proofs.NoteLaws.{One, one-start, one-more, one-parted, one-first}
-use Rattle.trace.specs.Bytes.{decode}
+use Rattle.records.specs.Bytes.{decode}
 use mathlib.Core.Path.{sym, _∙_}
 use native.Mathlib.Omega.{arith}
 use borrow.Author.Needs.{needs}

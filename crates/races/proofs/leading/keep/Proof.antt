@@ -3,8 +3,8 @@
 use Rattle.races.proofs.NoteLaws.{notes-none, notes-next}
 use Rattle.races.specs.LeadingPass.{Notes}
 use Rattle.races.specs.Traces.{isAccess}
-use Rattle.trace.specs.Records.{isWrite, isJoin}
-use Rattle.trace.specs.Bytes.{decode}
+use Rattle.records.specs.Records.{isWrite, isJoin}
+use Rattle.records.specs.Bytes.{decode}
 use Prim.Native.Nat.{_-_, _≤_}
 use mathlib.Core.Path.{_≡_, refl}
 use native.Mathlib.Omega.{arith}

@@ -1,7 +1,7 @@
 use Rattle.races.proofs.PassLaws.{none-long, first-long, starts-pass, ends-pass}
 use lib.ListN.{length}
 use Rattle.races.specs.LeadingPass.{Passed}
-use Rattle.trace.specs.Bytes.{decode}
+use Rattle.records.specs.Bytes.{decode}
 use mathlib.Core.Path.{sym, ap, _∙_}
 use native.Mathlib.Omega.{arith}
 use borrow.Author.Needs.{needs}

@@ -5,7 +5,7 @@ use Prim.Native.Nat.{_<_}
 use mathlib.Core.Path.{_∙_}
 use native.Mathlib.Omega.{arith}
 use denote.Ref.{now}
-use Rattle.trace.specs.Bytes.{decode}
+use Rattle.records.specs.Bytes.{decode}
 use borrow.Author.Needs.{needs}
 use Rattle.races.proofs.leading.pass.Statement.{statement}
 use Rattle.races.proofs.leading.pass.Tie as tie

@@ -9,7 +9,7 @@ use mathlib.Core.Path.{_≡_, sym, _∙_, ap}
 use Prim.Native.Nat.{_+_, _-_, _≤_}
 use native.Mathlib.Omega.{arith}
 use denote.Ref.{now}
-use Rattle.trace.specs.Bytes.{decode}
+use Rattle.records.specs.Bytes.{decode}
 use Rattle.races.proofs.lists.count_at.Statement.{statement}
 use Rattle.races.proofs.lists.count_at.Tie as tie
 

@@ -1,7 +1,7 @@
 use Rattle.races.proofs.EntryStores.{Listing, listing-start, listing-size, listing-room, listing-next, listing-end, way-writes}
 use Rattle.races.proofs.CandidateLaws.{starts-none, lasts-none}
 use Rattle.races.specs.Candidates.{Starts, Lasts}
-use Rattle.trace.specs.Bytes.{decode}
+use Rattle.records.specs.Bytes.{decode}
 use lib.ListN.{length}
 use Prim.Native.Nat.{_-_, _<_, _≤_}
 use native.Mathlib.Omega.{arith}

@@ -1,5 +1,5 @@
 use Rattle.races.proofs.EntryStores.{no-entries, low-range, low-room, low-writes, low-counts, race-second}
-use Rattle.trace.specs.Bytes.{decode}
+use Rattle.records.specs.Bytes.{decode}
 use lib.Dec.{T}
 use borrow.Author.Tests.{not-true, not-false}
 use native.Mathlib.Omega.{arith}

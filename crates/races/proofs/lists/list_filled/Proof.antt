@@ -1,7 +1,7 @@
 use Rattle.races.proofs.ListEnds.{too-long, too-long-list, list-room, fits, fits-list}
 use Rattle.races.specs.Lists.{numbers}
 use Rattle.races.specs.ListPass.{pairsBelow, Clear}
-use Rattle.trace.specs.Bytes.{decode}
+use Rattle.records.specs.Bytes.{decode}
 use mathlib.Core.List.{List}
 use mathlib.Core.Path.{refl, sym, ap, _∙_, subst}
 use Prim.Native.Nat.{ℕ, _/_, _≤_, _<_}

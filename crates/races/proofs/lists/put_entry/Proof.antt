@@ -1,7 +1,7 @@
 -- `races::lists::put_entry` meets its contract.
 -- Assumes nothing.
 use Rattle.races.proofs.EntryStores.{entry-stores, covered-mark, open-mark}
-use Rattle.trace.specs.Bytes.{decode}
+use Rattle.records.specs.Bytes.{decode}
 use lib.ListN.{length-set}
 use native.Mathlib.Omega.{arith}
 use mathlib.Core.Path.{sym, _∙_}

@@ -1,7 +1,7 @@
 use Rattle.races.proofs.PassLaws.{leading-tells, leading-kept}
 use Rattle.races.proofs.WorkLaws.{zeros-front, clear-again}
 use Rattle.races.specs.Leading.{rows}
-use Rattle.trace.specs.Bytes.{decode}
+use Rattle.records.specs.Bytes.{decode}
 use lib.ListN.{drop, take}
 use mathlib.Core.Path.{ap, _∙_}
 use native.Mathlib.Omega.{arith}

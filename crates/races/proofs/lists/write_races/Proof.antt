@@ -3,7 +3,7 @@ use Rattle.races.proofs.EntryStores.{Writing, writing-start, writing-si
 use Rattle.races.specs.Candidates.{On}
 use Prim.Native.Nat.{_-_, _<_}
 use native.Mathlib.Omega.{arith}
-use Rattle.trace.specs.Bytes.{decode}
+use Rattle.records.specs.Bytes.{decode}
 use Rattle.races.proofs.lists.write_races.Statement.{statement}
 use Rattle.races.proofs.lists.write_races.Tie as tie
 

@@ -8,7 +8,7 @@ use lib.ListN.{length}
 use mathlib.Core.Bool.{true}
 use mathlib.Core.Path.{_≡_, refl, sym, _∙_, subst}
 use borrow.Author.Tests.{not-true, not-false}
-use Rattle.trace.specs.Bytes.{decode}
+use Rattle.records.specs.Bytes.{decode}
 use Rattle.races.specs.Leading.{rows}
 use Rattle.races.specs.Traces.{settingOf}
 use Rattle.coverage.proofs.Order.{race-of}

@@ -3,7 +3,7 @@
 use denote.Ref.{now}
 use mathlib.Core.Path.{refl, sym, ap, _∙_}
 use Rattle.trace.specs.Paper.{paper, refusalIn}
-use Rattle.trace.specs.Bytes.{decode}
+use Rattle.records.specs.Bytes.{decode}
 use Rattle.order.proofs.EntryLaws.{refused-reading, records-are}
 use Rattle.races.specs.PairSearch.{ReadAs}
 use Rattle.races.proofs.PairEnds.{answers-bytes, refuses-bytes}

@@ -7,7 +7,7 @@ use lib.ListN.{length}
 use mathlib.Core.Bool.{true}
 use mathlib.Core.Path.{_≡_, refl, sym, ap, _∙_}
 use borrow.Author.Tests.{not-true, not-false}
-use Rattle.trace.specs.Bytes.{decode}
+use Rattle.records.specs.Bytes.{decode}
 use Rattle.order.specs.Paper.{fillPaper}
 use Rattle.order.specs.Fill.{spaceFor}
 use Rattle.races.specs.Pair.{areRecords}

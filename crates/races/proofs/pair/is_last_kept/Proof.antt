@@ -10,8 +10,8 @@ use lib.ListN.{length}
 use mathlib.Core.Bool.{true, false, not}
 use mathlib.Core.Path.{_≡_, sym, ap, _∙_, ap₂}
 use borrow.Author.Tests.{not-true, not-false, eq-eqb, ne-eqb}
-use Rattle.trace.specs.Records.{at, eventOf}
-use Rattle.trace.specs.Bytes.{decode}
+use Rattle.records.specs.Records.{at, eventOf}
+use Rattle.records.specs.Bytes.{decode}
 use Rattle.races.specs.Traces.{settingOf}
 use Rattle.coverage.specs.Leading.{leads, lastKept}
 use borrow.Author.Needs.{needs}

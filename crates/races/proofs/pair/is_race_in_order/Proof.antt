@@ -2,7 +2,7 @@
 -- Assumes nothing.
 use denote.Ref.{now}
 use mathlib.Core.Path.{sym}
-use Rattle.trace.specs.Bytes.{decode}
+use Rattle.records.specs.Bytes.{decode}
 use Rattle.races.proofs.PairLaws.{out-of-order}
 use Rattle.races.proofs.pair.is_race_in_order.Statement.{statement}
 use Rattle.races.proofs.pair.is_race_in_order.Tie as tie

@@ -8,7 +8,7 @@ use lib.Dec.{T}
 use lib.ListN.{length}
 use mathlib.Core.Bool.{true, false}
 use mathlib.Core.Path.{_≡_, sym, _∙_, subst}
-use Rattle.trace.specs.Bytes.{decode}
+use Rattle.records.specs.Bytes.{decode}
 use Rattle.races.specs.Traces.{settingOf}
 use Rattle.coverage.specs.Leading.{coveredb}
 use Rattle.races.proofs.PairLaws.{answers-covered, answers-open}

@@ -6,7 +6,7 @@ use native.Mathlib.Omega.{arith}
 use Prim.Native.Nat.{suc, _≤_, _-_}
 use lib.ListN.{length}
 use mathlib.Core.Path.{_≡_, refl, ap, _∙_}
-use Rattle.trace.specs.Bytes.{decode}
+use Rattle.records.specs.Bytes.{decode}
 use Rattle.races.specs.Pair.{withEntries}
 use Rattle.races.specs.PairSearch.{keptBelow}
 use Rattle.races.proofs.PairEntries.{no-entries, entries-room, kept-none, kept-few, kept-all, kept-count}

@@ -9,7 +9,7 @@ use lib.ListN.{length}
 use mathlib.Core.Bool.{true}
 use mathlib.Core.Path.{_≡_, refl, sym, _∙_, subst}
 use borrow.Author.Tests.{not-true, not-false}
-use Rattle.trace.specs.Bytes.{decode}
+use Rattle.records.specs.Bytes.{decode}
 use Rattle.races.specs.Traces.{settingOf}
 use Rattle.coverage.specs.Leading.{lastKept}
 use Rattle.races.specs.Leading.{rows}

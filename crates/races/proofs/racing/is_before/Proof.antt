@@ -2,8 +2,8 @@
 -- Assumes nothing.
 use mathlib.Core.Logic.{_≢_}
 use Rattle.races.proofs.FilledLaws.{rank-some, row-room, before-is}
-use Rattle.trace.specs.Records.{at, eventOf}
-use Rattle.trace.specs.Bytes.{decode}
+use Rattle.records.specs.Records.{at, eventOf}
+use Rattle.records.specs.Bytes.{decode}
 use lib.ListN.{getD}
 use native.Mathlib.Omega.{arith}
 use mathlib.Core.Path.{_≡_, sym, ap, _∙_}

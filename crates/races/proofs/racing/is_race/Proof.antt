@@ -2,8 +2,8 @@
 -- Assumes nothing.
 use Rattle.races.proofs.FilledLaws.{no-conflict, same-event, other-event}
 use Rattle.races.specs.Traces.{conflict}
-use Rattle.trace.specs.Records.{at}
-use Rattle.trace.specs.Bytes.{decode}
+use Rattle.records.specs.Records.{at}
+use Rattle.records.specs.Bytes.{decode}
 use borrow.Author.Tests.{not-true, not-false}
 use lib.ListN.{length}
 use native.Mathlib.Omega.{arith}

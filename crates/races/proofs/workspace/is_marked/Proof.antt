@@ -1,6 +1,6 @@
 -- `races::workspace::is_marked` meets its contract.
 -- Assumes nothing.
-use Rattle.trace.specs.Marks.{isMarked}
+use Rattle.records.specs.Marks.{isMarked}
 use lib.ListN.{List·getD-eq-default}
 use mathlib.Core.Path.{refl}
 use denote.Ref.{now}

@@ -1,6 +1,6 @@
 -- `races::workspace::set_mark` meets its contract.
 -- Assumes nothing.
-use Rattle.trace.specs.Marks.{withMark}
+use Rattle.records.specs.Marks.{withMark}
 use lib.Seq.{set-out}
 use mathlib.Core.Path.{refl, sym}
 use denote.Ref.{now}

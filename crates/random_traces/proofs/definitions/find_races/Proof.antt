@@ -8,7 +8,7 @@ use Rattle.random_traces.proofs.definitions.find_races.Statement.{state
 use Rattle.random_traces.proofs.definitions.find_races.Tie as tie
 use Rattle.random_traces.proofs.definitions.grid.Reads as grid-reads
 use Rattle.random_traces.proofs.definitions.put_if_race.Reads as put-if-race-reads
-use Rattle.trace.proofs.access.count.Reads as count-reads
+use Rattle.records.proofs.access.count.Reads as count-reads
 
 abbrev Inv-loop : tie.InvT-loop
 Inv-loop recs table₀ n found₀ x₀ table found x = length table ≡ length table₀

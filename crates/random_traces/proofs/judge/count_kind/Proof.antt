@@ -7,7 +7,7 @@ use Rattle.random_traces.proofs.judge.count_kind.Tie as tie
 use Rattle.random_traces.proofs.paths.is_kind.Reads as is-kind-reads
 use Rattle.random_traces.proofs.slots.pick.Reads as pick-reads
 use Rattle.random_traces.proofs.slots.plus.Reads as plus-reads
-use Rattle.trace.proofs.access.count.Reads as count-reads
+use Rattle.records.proofs.access.count.Reads as count-reads
 
 abbrev Inv-loop : tie.InvT-loop
 Inv-loop recs kind n count₀ i₀ count i = i₀ ≤ i

@@ -6,7 +6,7 @@ use Rattle.random_traces.proofs.pair_answers.is_arranged.Statement.{sta
 use Rattle.random_traces.proofs.pair_answers.is_arranged.Tie as tie
 use Rattle.random_traces.proofs.definitions.grid.Reads as grid-reads
 use Rattle.random_traces.proofs.pair_answers.is_arranged_at.Reads as is-arranged-at-reads
-use Rattle.trace.proofs.access.count.Reads as count-reads
+use Rattle.records.proofs.access.count.Reads as count-reads
 
 abbrev Inv-loop : tie.InvT-loop
 Inv-loop recs table kept b n x₀ x = x₀ ≤ x

@@ -7,7 +7,7 @@ use mathlib.Core.Path.{_≡_}
 use Rattle.random_traces.proofs.paths.find_begins.Statement.{statement}
 use Rattle.random_traces.proofs.paths.find_begins.Tie as tie
 use Rattle.random_traces.proofs.paths.put_begin.Reads as put-begin-reads
-use Rattle.trace.proofs.access.count.Reads as count-reads
+use Rattle.records.proofs.access.count.Reads as count-reads
 
 abbrev Inv-loop : tie.InvT-loop
 Inv-loop recs table₀ n found₀ i₀ table found i = length table ≡ length table₀

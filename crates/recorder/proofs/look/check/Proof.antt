@@ -3,7 +3,7 @@
 use Rattle.recorder.proofs.Looking.{judge-asked}
 use Rattle.recorder.specs.Recording.{before, judged}
 use Rattle.trace.specs.Reading.{recordsIn}
-use Rattle.trace.specs.Records.{begun, ended}
+use Rattle.records.specs.Records.{begun, ended}
 use mathlib.Core.Path.{_∙_}
 use borrow.Author.Needs.{needs}
 use Rattle.recorder.proofs.look.check.Statement.{statement}

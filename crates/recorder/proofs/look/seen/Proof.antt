@@ -2,8 +2,8 @@
 -- Assumes nothing.
 use Rattle.recorder.proofs.Looking.{seen-here, other-kind, other-event}
 use Rattle.recorder.specs.Recording.{ofKind}
-use Rattle.trace.specs.Records.{past, has}
-use Rattle.trace.specs.Bytes.{decode}
+use Rattle.records.specs.Records.{past, has}
+use Rattle.records.specs.Bytes.{decode}
 use denote.Ref.{now}
 use lib.ListN.{length}
 use mathlib.Core.Path.{_≡_, sym, _∙_}

@@ -1,7 +1,7 @@
 -- `trace::scan::finish` meets its contract.
 -- Assumes nothing.
 use mathlib.Core.Path.{_∙_}
-use Rattle.trace.proofs.Records.{past-length}
+use Rattle.records.proofs.Records.{past-length}
 use Rattle.trace.specs.Reading.{closing, demand}
 use borrow.Author.Tests.{eq-eqb, ne-eqb}
 use borrow.Author.Needs.{needs}

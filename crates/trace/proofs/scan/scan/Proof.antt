@@ -1,7 +1,7 @@
 -- `trace::scan::scan` meets its contract.
 -- Assumes nothing.
 use Rattle.trace.proofs.Going.{Going, going-start, going-end, situation-end, going-refused, going-next}
-use Rattle.trace.specs.Bytes.{decode}
+use Rattle.records.specs.Bytes.{decode}
 use borrow.Author.Needs.{needs}
 use native.Mathlib.Omega.{arith}
 use lib.ListN.{length}

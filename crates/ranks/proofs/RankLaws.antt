@@ -1,0 +1,25 @@
+-- The list of ranks after one record more.
+-- Assumes nothing.
+use Prim.Native.Nat.{ℕ, zero, suc, _+_, _%_}
+use mathlib.Core.Path.{_≡_, refl, _∙_}
+use mathlib.Core.Bool.{Bool, true, false}
+use mathlib.Core.List.{List}
+use native.Mathlib.Numerals.{add-one}
+use lib.ListN.{length, length-set, length-replicate}
+use Rattle.records.specs.declared.Record.{Record}
+use Rattle.records.specs.Records.{at, past, isBegin, begins}
+use Rattle.ranks.specs.Ranks.{noRanks, withRank, rankIf, ranksUpto}
+
+rank-if-length : (b : Bool) (m : List ℕ) (e k : ℕ) → length (rankIf b m e k) ≡ length m
+unfolding withRank
+rank-if-length true m e k = length-set m e (k % 65536)
+rank-if-length false m e k = refl
+
+pub ranks-length : (tr : List Record) (i : ℕ) → length (ranksUpto tr i) ≡ 1025
+unfolding ranksUpto noRanks
+ranks-length tr zero = length-replicate {A = ℕ} 1025 0
+ranks-length tr (suc i) = rank-if-length (isBegin (at tr i)) (ranksUpto tr i) (at tr i .first) (begins (past tr i) + 1) ∙ ranks-length tr i
+
+pub ranks-more : (tr : List Record) (i : ℕ) → ranksUpto tr (i + 1) ≡ rankIf (isBegin (at tr i)) (ranksUpto tr i) (at tr i .first) (begins (past tr i) + 1)
+unfolding ranksUpto
+ranks-more tr i = rw add-one

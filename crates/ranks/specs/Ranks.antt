@@ -1,0 +1,34 @@
+-- Ranks by event number, as a list. Assumes nothing.
+use Prim.Native.Nat.{ℕ, zero, suc, _+_, _%_}
+use mathlib.Core.Bool.{Bool, true, false}
+use mathlib.Core.List.{List}
+use lib.ListN.{length, set, replicate}
+use Rattle.records.specs.declared.Record.{Record}
+use Rattle.records.specs.Records.{at, past, isBegin, begins}
+use Rattle.ranks.specs.declared.Ordering.{Ordering}
+use Rattle.ranks.specs.declared.Ordering.the-variants.{Link, Begin, Nothing}
+use Rattle.ranks.specs.Said.{Op, link, begin, other}
+
+-- what the code's answer says of links and begins
+abbrev pub says : Ordering → Op
+says (Link p u) = link p u
+says (Begin u) = begin u
+says Nothing = other
+
+unfoldable pub noRanks : List ℕ
+noRanks = replicate 1025 0
+
+unfoldable pub withRank : List ℕ → ℕ → ℕ → List ℕ
+withRank m e k = set m e (k % 65536)
+
+abbrev pub rankIf : Bool → List ℕ → ℕ → ℕ → List ℕ
+rankIf true m e k = withRank m e k
+rankIf false m e k = m
+
+-- the ranks after the first i records
+unfoldable pub ranksUpto : List Record → ℕ → List ℕ
+ranksUpto tr zero = noRanks
+ranksUpto tr (suc i) = rankIf (isBegin (at tr i)) (ranksUpto tr i) (at tr i .first) (begins (past tr i) + 1)
+
+unfoldable pub ranksOf : List Record → List ℕ
+ranksOf tr = ranksUpto tr (length tr)

@@ -1,0 +1,115 @@
+// The rank of an event: the place of its begin among the begins, counted from 1, and 0 where it has none. An event action's row is its rank less 1.
+use records::access;
+ghost use mathlib.Core.Path.{_≡_};
+ghost use lib.ListN.{getD};
+ghost use Rattle.records.specs.Bytes.{decode};
+ghost use Rattle.records.specs.Records.{at};
+ghost use Rattle.ranks.specs.Said.{linkOf, opOf, begin};
+ghost use mathlib.Core.Bool.{cond};
+ghost use Prim.Native.Nat.{_+_, _-_, _<_};
+ghost use lib.Dec.{eqb};
+ghost use Rattle.ranks.specs.Ranks.{noRanks, withRank, rankIf, ranksOf, says};
+
+// What a record says of links and begins, between rows.
+pub enum Ordering {
+    Link(u16, u16),
+    Begin(u16),
+    Nothing,
+}
+
+fn none() -> [u16; 1025]
+    ensures { λ r. ⌜ r ≡ noRanks ⌝ }
+{
+    [0; 1025]
+}
+
+fn set_rank(ranks: &mut [u16], e: u16, rank: usize)
+    ensures { λ u. ⌜ now (ranks .exit) ≡ withRank (now (ranks .entry)) e rank ⌝ }
+{
+    let at = e as usize;
+    if at < ranks.len() {
+        ranks[at] = (rank % 65536) as u16;
+    }
+}
+
+// A record of that kind and first after `found` begins: the ranks and the number of begins after it.
+fn note_rank(ranks: &mut [u16], kind: u8, e: u16, found: usize) -> usize
+    requires { ⌜ found < 9223372036854775807 ⌝ }
+    ensures { λ r. ⌜ (r ≡ cond (eqb kind 1) (found + 1) found) × (now (ranks .exit) ≡ rankIf (eqb kind 1) (now (ranks .entry)) e (found + 1)) ⌝ }
+{
+    if kind != 1 {
+        return found;
+    }
+    set_rank(ranks, e, found + 1);
+    found + 1
+}
+
+// The ranks of all events, by event number.
+pub fn ranks(recs: &[u8]) -> [u16; 1025]
+    ensures { λ r. ⌜ r ≡ ranksOf (decode (now (recs .entry))) ⌝ }
+{
+    let n = access::count(recs);
+    let mut all = none();
+    let mut found = 0;
+    let mut i = 0;
+    while i < n {
+        let kind = access::kind_at(recs, i);
+        let e = access::first_at(recs, i);
+        found = note_rank(&mut all, kind, e, found);
+        i += 1;
+    }
+    all
+}
+
+pub fn rank_of(ranks: &[u16], e: u16) -> u16
+    ensures { λ r. ⌜ r ≡ getD (now (ranks .entry)) e 0 ⌝ }
+{
+    let at = e as usize;
+    if at < ranks.len() {
+        return ranks[at];
+    }
+    0
+}
+
+fn link_of(from: u16, to: u16) -> Ordering
+    ensures { λ r. ⌜ says r ≡ linkOf from to ⌝ }
+{
+    if from == 0 {
+        return Ordering::Nothing;
+    }
+    if to == 0 {
+        return Ordering::Nothing;
+    }
+    Ordering::Link(from - 1, to - 1)
+}
+
+fn begin_of(rank: u16) -> Ordering
+    ensures { λ r. ⌜ says r ≡ begin (rank - 1) ⌝ }
+{
+    if rank == 0 {
+        return Ordering::Begin(0);
+    }
+    Ordering::Begin(rank - 1)
+}
+
+pub fn ordering_at(recs: &[u8], ranks: &[u16], i: usize) -> Ordering
+    ensures { λ r. ⌜ says r ≡ opOf (λ e. getD (now (ranks .entry)) e 0) (at (decode (now (recs .entry))) i) ⌝ }
+{
+    let kind = access::kind_at(recs, i);
+    if kind == 1 {
+        return begin_of(rank_of(ranks, access::first_at(recs, i)));
+    }
+    if kind == 3 {
+        return link_of(
+            rank_of(ranks, access::first_at(recs, i)),
+            rank_of(ranks, access::second_at(recs, i)),
+        );
+    }
+    if kind == 4 {
+        return link_of(
+            rank_of(ranks, access::second_at(recs, i)),
+            rank_of(ranks, access::first_at(recs, i)),
+        );
+    }
+    Ordering::Nothing
+}

@@ -1,0 +1,100 @@
+// The records of a trace, in the bytes from record 1 to the trailer. Positions count from 0; past the last whole record all fields are 0.
+use crate::Record;
+use crate::Trace;
+ghost use mathlib.Core.Path.{_≡_};
+ghost use Prim.Native.Nat.{_+_, _*_, _/_, _≤_, _<_};
+ghost use lib.ListN.{getD, length, take, drop};
+ghost use Rattle.records.specs.Bytes.{twoBytes, decode, part};
+ghost use Rattle.records.specs.Records.{at, past, begins};
+
+fn pair(low: u8, high: u8) -> u16
+    ensures { λ r. ⌜ r ≡ low + 256 * high ⌝ }
+{
+    (low as u16) + 256 * (high as u16)
+}
+
+// Two bytes as a number, low byte first.
+fn two_bytes(bytes: &[u8], at: usize) -> u16
+    requires { ⌜ at + 2 ≤ length (now bytes) ⌝ }
+    ensures { λ r. ⌜ r ≡ twoBytes (now (bytes .entry)) at ⌝ }
+{
+    pair(bytes[at], bytes[at + 1])
+}
+
+// The bytes of the records of a trace that was read; of any other trace, those that are there.
+pub fn records(bytes: &[u8], t: Trace) -> &[u8]
+    ensures { λ r. ⌜ now r ≡ part (now (bytes .entry)) (t .start) (t .records) ⌝ }
+{
+    let start = t.start;
+    let n = bytes.len();
+    if n < start {
+        return &bytes[n..];
+    }
+    let rest = (n - start) / 5;
+    if rest < t.records {
+        return &bytes[start..];
+    }
+    let end = start + 5 * t.records;
+    &bytes[start..end]
+}
+
+// How many records there are.
+pub fn count(recs: &[u8]) -> usize
+    ensures { λ r. ⌜ r ≡ length (decode (now (recs .entry))) ⌝ }
+{
+    recs.len() / 5
+}
+
+pub fn kind_at(recs: &[u8], i: usize) -> u8
+    ensures { λ r. ⌜ r ≡ at (decode (now (recs .entry))) i .kind ⌝ }
+{
+    if recs.len() / 5 <= i {
+        return 0;
+    }
+    recs[5 * i]
+}
+
+pub fn first_at(recs: &[u8], i: usize) -> u16
+    ensures { λ r. ⌜ r ≡ at (decode (now (recs .entry))) i .first ⌝ }
+{
+    if recs.len() / 5 <= i {
+        return 0;
+    }
+    two_bytes(recs, 5 * i + 1)
+}
+
+pub fn second_at(recs: &[u8], i: usize) -> u16
+    ensures { λ r. ⌜ r ≡ at (decode (now (recs .entry))) i .second ⌝ }
+{
+    if recs.len() / 5 <= i {
+        return 0;
+    }
+    two_bytes(recs, 5 * i + 3)
+}
+
+pub fn record_at(recs: &[u8], i: usize) -> Record
+    ensures { λ r. ⌜ r ≡ at (decode (now (recs .entry))) i ⌝ }
+{
+    Record {
+        kind: kind_at(recs, i),
+        first: first_at(recs, i),
+        second: second_at(recs, i),
+    }
+}
+
+// How many of the records are begins.
+pub fn count_begins(recs: &[u8]) -> usize
+    ensures { λ r. ⌜ r ≡ begins (past (decode (now (recs .entry))) (length (decode (now (recs .entry))))) ⌝ }
+{
+    let n = count(recs);
+    let mut found = 0;
+    let mut i = 0;
+    while i < n {
+        let k = kind_at(recs, i);
+        if k == 1 {
+            found += 1;
+        }
+        i += 1;
+    }
+    found
+}
