@@ -8,6 +8,7 @@ mod plain;
 mod product;
 mod random;
 mod shapes;
+mod stack;
 mod trace;
 
 use calls::Calls;
@@ -17,6 +18,7 @@ const USAGE: &str = "\
 bench compare [TRACES [SEED]]      both sides on random traces (default 5000, seed 1)
 bench selftest                     altered answers, each of which comparing must report
 bench measure                      times of both sides, ratio and growth
+bench stack                        how deep the stack goes in each call of the product
 bench count CALL SHAPE N WHO       one call alone, for counting instructions
     CALL none read fill short all open covered; SHAPE as `bench shapes` says; WHO product or plain
 bench shapes                       the traces that are measured";
@@ -60,6 +62,10 @@ fn run(words: &[&str]) -> Result<(), String> {
         ["selftest"] => Err("an alteration was not reported".into()),
         ["measure"] => {
             measure::run(linked()?);
+            Ok(())
+        }
+        ["stack"] => {
+            stack::run(linked()?);
             Ok(())
         }
         ["count", call, shape, n, who] => count(call, shape, number(n)?, who),

@@ -10,7 +10,7 @@ use Rattle.coverage.specs.Setting.{Setting, Laws}
 use Rattle.coverage.specs.Race.{before, Race, raceb}
 use Rattle.coverage.specs.Cover.{CoversFrom, one, more, Covered, Open}
 use Rattle.coverage.specs.Leading.{reach, leads, coveredb}
-use Rattle.coverage.proofs.Tests.{both, and, either, or-left, or-right, decide, found, find}
+use Rattle.coverage.proofs.Tests.{both, and, either, or-left, or-right, decide, found, find, failed}
 use Rattle.coverage.proofs.Order.{le-before, before-le, before-lt, race-of, of-race, race-not-le, race-after}
 
 module _ (t : Setting) where
@@ -94,12 +94,8 @@ module _ (t : Setting) (w : Laws t) where
       go (inl h) = absurd (race-not-le t w a b r h)
       go (inr c) = c
 
-  off : (x : Bool) → (T x → ⊥) → x ≡ false
-  off true h = absurd (h tt)
-  off false h = refl
-
   pub open-iff : (a b : ℕ) → Race t a b → (coveredb t a b ≡ false) ↔ Open t a b
-  open-iff a b r = (λ e cs c. subst T e (cover-leads b (t .ev a) c), λ o. off _ (λ h. let c = covered-iff a b r .0 h in o (c .0) (c .1)))
+  open-iff a b r = (λ e cs c. subst T e (cover-leads b (t .ev a) c), λ o. failed _ (λ h. let c = covered-iff a b r .0 h in o (c .0) (c .1)))
 
   -- closure downwards, and under races into what leads
   pub cover-below : {b u v : ℕ} {cs : List (ℕ × ℕ)} → T (t .le u v) → CoversFrom t b v cs → CoversFrom t b u cs

@@ -41,6 +41,15 @@ decide-eq m n = go (decide (eqb m n))
     go (inl h) = inl (eqb→eq m n h)
     go (inr h) = inr (λ e. h (eq→eqb m n e))
 
+pub passed : (a : Bool) → T a → a ≡ true
+passed true h = refl
+passed false h = absurd h
+
+pub failed : (a : Bool) → (T a → ⊥) → a ≡ false
+failed true h = absurd (h tt)
+failed false h = refl
+
+-- two tests that pass together are equal
 pub same : (a b : Bool) → (T a → T b) → (T b → T a) → a ≡ b
 same true true h k = refl
 same true false h k = absurd (h tt)

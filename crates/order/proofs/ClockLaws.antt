@@ -10,7 +10,8 @@ use lib.ListN.{getD}
 use Rattle.order.specs.Links.{Links, Forward, _∈_, _⊢_≼_, same, step, leq}
 use Rattle.order.specs.Chains.{first, bit, count, lasts, used, members}
 use Rattle.order.specs.Clocks.{largest, chainOf, entry, merged, compare}
-use Rattle.order.proofs.Tests.{both, and, decide, decide-eq, decide-lt, eq→eqb, equal-tests, smaller}
+use Rattle.coverage.proofs.Tests.{both, and, decide, decide-eq, eq→eqb, same as equal-tests}
+use Rattle.order.proofs.Tests.{decide-lt, smaller}
 use Rattle.order.proofs.AlongLaws.{Local, along-law}
 use Rattle.order.proofs.OrderLaws.{≼-refl, ≼-trans, ≼-last, ≼-forward, ≼→leq, leq→≼, leq-trans}
 use Rattle.order.proofs.CountLaws.{first-one, first-first, count-yes, count-le, count-mono, count-less, count-none, Last, count-last}

@@ -13,7 +13,8 @@ use Rattle.order.specs.Clocks.{largest, chainOf, entry, merged}
 use Rattle.ranks.specs.Said.{Op, link, begin, other}
 use Rattle.order.specs.Schedule.{begins, linked, Ordered, Makes}
 use Rattle.order.specs.Filling.{State, start, choose, merge, enter, next, after}
-use Rattle.order.proofs.Tests.{decide-eq, decide-lt}
+use Rattle.coverage.proofs.Tests.{decide-eq}
+use Rattle.order.proofs.Tests.{decide-lt}
 use Rattle.order.proofs.ScheduleLaws.{begins-suc, linked-suc, begins-mono, linked-exact, begin-next, link-between, link-after}
 use Rattle.order.proofs.ChainLaws.{used-zero, used-suc, used-le-self, members-zero, members-suc, members-le, needs-at, needs-none}
 use Rattle.order.proofs.ClockLaws.{largest-in, largest-le, entry-law, entry-le, chain-merged}

@@ -14,7 +14,7 @@ use Rattle.order.specs.Clocks.{flat, entry, clocksOf}
 use Rattle.ranks.specs.Said.{Op}
 use Rattle.order.specs.Schedule.{begins, Ordered, Makes}
 use Rattle.order.specs.Filling.{State, merge, enter, after, mergeAt, mergeFrom, mergeRow, tick}
-use Rattle.order.proofs.Tests.{decide-eq}
+use Rattle.coverage.proofs.Tests.{decide-eq}
 use Rattle.order.proofs.RowLaws.{SameBut, same-but, flat-length, flat-at, flat-same, flat-set, place}
 use Rattle.order.proofs.FillLaws.{merge-other, merge-own, enter-other, enter-own, filled-rows}
 

@@ -10,7 +10,8 @@ use Rattle.order.specs.Chains.{pick, lasts, chain}
 use Rattle.ranks.specs.Said.{Op, link, begin, other}
 use Rattle.order.specs.Schedule.{begins, Ordered, Makes}
 use Rattle.order.specs.Marking.{markBy, marksDown, marks}
-use Rattle.order.proofs.Tests.{both, and, either, or-left, or-right, decide-eq, decide-lt, eq→eqb, equal-tests}
+use Rattle.coverage.proofs.Tests.{both, and, either, or-left, or-right, decide-eq, eq→eqb, same as equal-tests}
+use Rattle.order.proofs.Tests.{decide-lt}
 use Rattle.order.proofs.OrderLaws.{≼-trans, ≼-first, ≼-forward, ≼→leq, leq→≼}
 use Rattle.order.proofs.ScheduleLaws.{begins-zero, begins-suc, begins-mono, link-between, link-after}
 

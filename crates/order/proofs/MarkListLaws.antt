@@ -13,7 +13,8 @@ use Rattle.order.specs.Links.{Links, Forward, leq}
 use Rattle.ranks.specs.Said.{Op, link, begin, other}
 use Rattle.order.specs.Schedule.{begins, Stands, Ordered, Makes}
 use Rattle.order.specs.Marking.{markBy, marksDown, marked, markIn, marksDownIn, noMarks, marksIn}
-use Rattle.order.proofs.Tests.{decide-eq, decide-lt}
+use Rattle.coverage.proofs.Tests.{decide-eq}
+use Rattle.order.proofs.Tests.{decide-lt}
 use Rattle.order.proofs.ScheduleLaws.{begins-mono}
 use Rattle.order.proofs.MarkLaws.{marks-begin}
 

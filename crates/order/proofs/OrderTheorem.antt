@@ -21,7 +21,7 @@ use Rattle.order.specs.HappensBefore.{Begins, HappensBefore, rank, trace
 use Rattle.order.specs.Fill.{eventsIn, shortRow, chainTable, traceClocks, FillReply, filled, refused, demand, spaceFor, fillTrace, fillRead, fillReply, pickList, clocksAfterTrace, clocksAfterRead, clocksAfter}
 use Rattle.order.specs.Question as question
 use Rattle.order.specs.Question.{orderTrace, orderRead, orderReply, bothBegin, compared, answered, YesExactly}
-use Rattle.order.proofs.Tests.{equal-tests}
+use Rattle.coverage.proofs.Tests.{same as equal-tests}
 use Rattle.order.proofs.ChainLaws.{chain-below, needs-none}
 use Rattle.order.proofs.RowLaws.{clocks-length, place}
 use Rattle.order.proofs.Theorems.{order-question}

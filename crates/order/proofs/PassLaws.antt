@@ -35,7 +35,7 @@ use Rattle.order.proofs.FlatLaws.{flat-read}
 use Rattle.order.proofs.TrackLaws.{Tracks, tracks-start, tracks-link, choose-is, tracks-begin, tracks-end}
 use Rattle.order.proofs.TraceOrder.{counted, counted-passes, ops-begins, ops-ordered, op-kind, forward-links, link-target}
 use Rattle.order.proofs.RankLaws.{ops-are}
-use Rattle.order.proofs.Tests.{both, and, eq→eqb}
+use Rattle.coverage.proofs.Tests.{both, and, eq→eqb}
 use Rattle.order.proofs.CountLaws.{first-first, first-only}
 
 -- a begin for which a chain is left, and one for which none is

@@ -10,7 +10,8 @@ use lib.ListN.{length, getD, set, replicate, length-append, length-set, length-r
 use lib.Seq.{getD-append-add, getD-append-seam, getD-set-same, getD-set-other, ext-getD}
 use Rattle.order.specs.Links.{Links}
 use Rattle.order.specs.Clocks.{table, flat, chainOf, entry, clocksOf, compare, compareIn}
-use Rattle.order.proofs.Tests.{decide-eq, decide-lt}
+use Rattle.coverage.proofs.Tests.{decide-eq}
+use Rattle.order.proofs.Tests.{decide-lt}
 
 pub table-length : (n : ℕ) (f : ℕ → ℕ) → length (table n f) ≡ n
 unfolding table

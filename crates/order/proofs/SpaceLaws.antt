@@ -8,7 +8,7 @@ use native.Mathlib.Omega.{arith}
 use native.Mathlib.Nat.{mul-le-mul-right, le-of-lt, le-div-iff-mul-le}
 use borrow.Author.Tests.{leb-true}
 use lib.Dec.{T, leb, leb→le, le→leb}
-use Rattle.order.proofs.Tests.{equal-tests}
+use Rattle.coverage.proofs.Tests.{same as equal-tests}
 use lib.ListN.{length, drop, replicate, length-append, length-replicate, length-drop}
 use lib.Seq.{drop-at}
 use Rattle.order.specs.Fill.{spaceFor}

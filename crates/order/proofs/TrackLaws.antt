@@ -15,7 +15,7 @@ use Rattle.order.specs.Clocks.{flat, clocksOf}
 use Rattle.ranks.specs.Said.{Op}
 use Rattle.order.specs.Schedule.{begins, Ordered, Makes}
 use Rattle.order.specs.Filling.{State, start, choose, merge, enter, after, mergeRow, tick, chooseIn}
-use Rattle.order.proofs.Tests.{decide-eq}
+use Rattle.coverage.proofs.Tests.{decide-eq}
 use Rattle.order.proofs.CountLaws.{firstFrom-local}
 use Rattle.order.proofs.RowLaws.{flat-zero}
 use Rattle.order.proofs.FlatLaws.{flat-read, merge-row, tick-row, pass-clocks}

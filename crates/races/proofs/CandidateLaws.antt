@@ -29,10 +29,6 @@ use Rattle.races.specs.Candidates.{isStart, isOrdered, cell, accesses, s
 use Rattle.order.specs.HappensBefore.{happensBefore}
 use Rattle.races.proofs.Instance.{laws}
 
-off : (x : Bool) → (T x → ⊥) → x ≡ false
-off true h = absurd (h tt)
-off false h = refl
-
 module _ (tr : List Record) where
   -- a race is between accesses of one cell, one of which writes
   pub record Racing (a b : ℕ) : Type 0 where

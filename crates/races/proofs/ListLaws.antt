@@ -20,7 +20,7 @@ use Rattle.coverage.specs.Race.{raceb}
 use Rattle.coverage.specs.Neighbours.{Cells, conflicts, writeBetween, neighbour}
 use Rattle.coverage.specs.Lists.{allRaces, shortList}
 use Rattle.coverage.proofs.Tests.{both, and, or-right, decide, found, find, eq→eqb}
-use Rattle.order.proofs.Tests.{equal-tests}
+use Rattle.coverage.proofs.Tests.{same as equal-tests}
 use Rattle.coverage.proofs.Lists.{upto-ext, upto-zero, upto-yes, upto-no, upto-empty}
 use Rattle.races.specs.Traces.{isAccess, cellsOf, settingOf}
 use Rattle.races.specs.Lists.{pairsOf}
@@ -29,14 +29,6 @@ use Rattle.races.specs.ListPass.{fromOf, firsts, withSecond, pairsBelow,
 use Rattle.coverage.proofs.Order.{race-of, race-not-le}
 use Rattle.races.proofs.Instance.{laws}
 use Rattle.races.proofs.CandidateLaws.{Start, start, racing, race-accesses}
-
-off : (x : Bool) → (T x → ⊥) → x ≡ false
-off true h = absurd (h tt)
-off false h = refl
-
-on : (x : Bool) → T x → x ≡ true
-on true h = refl
-on false h = absurd h
 
 module _ (tr : List Record) where
   abbrev race : ℕ → ℕ → Bool
