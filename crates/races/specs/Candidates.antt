@@ -54,6 +54,12 @@ module _ (tr : List Record) where
     pub size : length lasts ≡ 1025
     pub tells : (c : ℕ) → c < 1025 → Last short c i (getD lasts c 0)
 
+  -- after the record with the number that a cell has, before b, no record accesses the cell
+  pub record Ends (b : ℕ) (ends : List ℕ) : Type 0 where
+    pub size : length ends ≡ 1025
+    pub high : (c : ℕ) → c < 1025 → getD ends c 0 ≤ b
+    pub none : (c : ℕ) → c < 1025 → (x : ℕ) → getD ends c 0 ≤ x → x < b → T (accesses c x) → ⊥
+
   -- from a on to r, past no access of a's cell: a record before b with that cell, or b
   pub record NextAccess (b a r : ℕ) : Type 0 where
     pub ahead : a < r

@@ -14,7 +14,7 @@ ghost use Rattle.records.specs.Records.{at};
 ghost use Rattle.trace.specs.Reading.{Acceptable};
 ghost use Rattle.records.specs.Marks.{noMarks};
 ghost use Rattle.races.specs.Filled.{Filled};
-ghost use Rattle.races.specs.Candidates.{isStart, isOrdered, Starts, Lasts, Quiet, NextAccess, Range, FirstRace};
+ghost use Rattle.races.specs.Candidates.{isStart, isOrdered, Starts, Lasts, Quiet, Ends, NextAccess, Range, FirstRace};
 ghost use Rattle.races.specs.ListPass.{Ranges};
 
 // A record number for each cell, none yet.
@@ -111,6 +111,19 @@ pub(crate) fn note_access(
     put_if(lasts, is_access(r), c, last_number(fresh, quiet, b));
 }
 
+// Notes for each cell the number of its last access before b.
+pub(crate) fn note_ends(recs: &[u8], b: usize, ends: &mut [u16])
+    requires { ⌜ Acceptable (decode (now recs)) × (b < length (decode (now recs))) × (now ends ≡ noMarks) ⌝ }
+    ensures { λ u. ⌜ Ends (decode (now (recs .entry))) b (now (ends .exit)) ⌝ }
+{
+    let mut i = 0;
+    while i < b {
+        let r = access::record_at(recs, i);
+        put_if(ends, is_access(r), r.second as usize, (i + 1) as u16);
+        i += 1;
+    }
+}
+
 // From record a on to the next one that may access its cell, or to b.
 pub(crate) fn next_access(recs: &[u8], a: usize, b: usize) -> usize
     requires { ⌜ (a < b) × (b < length (decode (now recs))) × (length (decode (now recs)) ≤ 4096) ⌝ }
@@ -125,6 +138,22 @@ pub(crate) fn next_access(recs: &[u8], a: usize, b: usize) -> usize
         i += 1;
     }
     i
+}
+
+// The same, looking no further than to the last access of the cell.
+pub(crate) fn next_before(recs: &[u8], ends: &[u16], a: usize, b: usize) -> usize
+    requires { ⌜ Ends (decode (now recs)) b (now ends) × Acceptable (decode (now recs)) × (a < b) × (b < length (decode (now recs))) ⌝ }
+    ensures { λ r. ⌜ NextAccess (decode (now (recs .entry))) b a r ⌝ }
+{
+    let end = number_at(ends, access::second_at(recs, a) as usize) as usize;
+    if end <= a {
+        return b;
+    }
+    let next = next_access(recs, a, end);
+    if next < end {
+        return next;
+    }
+    b
 }
 
 pub(crate) struct Way {

@@ -11,6 +11,7 @@ ghost use Rattle.coverage.specs.Race.{Race};
 ghost use Rattle.coverage.specs.Leading.{coveredb};
 ghost use Rattle.races.specs.Traces.{settingOf};
 ghost use Rattle.races.specs.Filled.{Filled};
+ghost use Rattle.races.specs.Candidates.{Ends};
 ghost use Rattle.races.specs.Leading.{rows};
 ghost use Rattle.races.specs.Pair.{GivesCover};
 ghost use Rattle.races.specs.PairSearch.{racesOn, Second, Sought, Next};
@@ -53,23 +54,24 @@ fn find_second(
     width: usize,
     clocks: &[u16],
     work: &[u8],
+    ends: &[u16],
     t: usize,
     b: usize,
     c: usize,
 ) -> usize
-    requires { ⌜ Filled (decode (now recs)) (now ranks) (now of) width (now clocks) × Marks (decode (now recs)) (now ranks) (now work) b ⌝ }
+    requires { ⌜ Filled (decode (now recs)) (now ranks) (now of) width (now clocks) × Marks (decode (now recs)) (now ranks) (now work) b × Ends (decode (now recs)) b (now ends) ⌝ }
     requires { ⌜ (t < b) × (c < b) ⌝ }
     ensures { λ r. ⌜ Second (decode (now (recs .entry))) b t c r ⌝ }
 {
     if !racing::is_before(recs, ranks, of, width, clocks, t, c) {
         return b;
     }
-    let mut d = candidates::next_access(recs, c, b);
+    let mut d = candidates::next_before(recs, ends, c, b);
     while d < b {
         if races_on(recs, ranks, of, width, clocks, work, b, c, d) {
             return d;
         }
-        d = candidates::next_access(recs, d, b);
+        d = candidates::next_before(recs, ends, d, b);
     }
     b
 }
@@ -82,16 +84,17 @@ fn find_race(
     width: usize,
     clocks: &[u16],
     work: &[u8],
+    ends: &[u16],
     t: usize,
     b: usize,
 ) -> Step
-    requires { ⌜ Filled (decode (now recs)) (now ranks) (now of) width (now clocks) × Marks (decode (now recs)) (now ranks) (now work) b ⌝ }
+    requires { ⌜ Filled (decode (now recs)) (now ranks) (now of) width (now clocks) × Marks (decode (now recs)) (now ranks) (now work) b × Ends (decode (now recs)) b (now ends) ⌝ }
     requires { ⌜ Sought (decode (now recs)) b t ⌝ }
     ensures { λ r. ⌜ Next (decode (now (recs .entry))) b t (r .first) (r .second) ⌝ }
 {
     let mut c = leading::block_start(recs, t);
     while c < b {
-        let d = find_second(recs, ranks, of, width, clocks, work, t, b, c);
+        let d = find_second(recs, ranks, of, width, clocks, work, ends, t, b, c);
         if d < b {
             return Step {
                 first: c,
@@ -114,18 +117,19 @@ pub(crate) fn put_cover(
     width: usize,
     clocks: &[u16],
     work: &[u8],
+    ends: &[u16],
     list: &mut [u16],
     a: usize,
     b: usize,
 ) -> usize
-    requires { ⌜ Filled (decode (now recs)) (now ranks) (now of) width (now clocks) × Marks (decode (now recs)) (now ranks) (now work) b ⌝ }
+    requires { ⌜ Filled (decode (now recs)) (now ranks) (now of) width (now clocks) × Marks (decode (now recs)) (now ranks) (now work) b × Ends (decode (now recs)) b (now ends) ⌝ }
     requires { ⌜ Race (settingOf (decode (now recs))) a b × T (coveredb (settingOf (decode (now recs))) a b) × (2 * rows (decode (now recs)) ≤ length (now list)) ⌝ }
     ensures { λ r. ⌜ GivesCover (decode (now (recs .entry))) a b r (now (list .entry)) (now (list .exit)) ⌝ }
 {
     let mut t = a;
     let mut k = 0;
     while !racing::is_before(recs, ranks, of, width, clocks, t, b) {
-        let step = find_race(recs, ranks, of, width, clocks, work, t, b);
+        let step = find_race(recs, ranks, of, width, clocks, work, ends, t, b);
         pair::put_entry(list, k, (step.first + 1) as u16, (step.second + 1) as u16);
         k += 1;
         t = step.second;

@@ -1,4 +1,5 @@
 // The pair question: for a race, what an arrangement keeps that runs its second access without its first, or a cover.
+use crate::candidates;
 use crate::cover;
 use crate::leading;
 use crate::racing;
@@ -106,6 +107,8 @@ fn put_entries(
     ensures { λ r. ⌜ AnswersRace (decode (now (recs .entry))) a b (now (list .entry)) (now (list .exit)) r ⌝ }
 {
     if leading::is_leading(recs, ranks, work, a) {
+        let mut ends = candidates::no_starts();
+        candidates::note_ends(recs, b, &mut ends);
         return PairAnswer::Covered(cover::put_cover(
             recs,
             ranks,
@@ -113,6 +116,7 @@ fn put_entries(
             width,
             clocks,
             work,
+            &ends,
             list,
             a,
             b,
