@@ -25,9 +25,9 @@ use Rattle.coverage.specs.Race.{raceb}
 use Rattle.coverage.specs.Neighbours.{conflicts}
 use Rattle.coverage.proofs.Tests.{both, and, either, or-left, or-right, eq→eqb}
 use Rattle.races.specs.Traces.{isAccess, cellsOf, settingOf}
-use Rattle.races.specs.Candidates.{isStart, isOrdered, cell, accesses, startOf, Starts, Upto, Quiet, Last, Lasts, Ends, NextAccess, On, Jump, FirstRace}
+use Rattle.races.specs.Candidates.{isStart, isOrdered, cell, accesses, startOf, Starts, Upto, Quiet, Last, Lasts, isNoted, Ends, RaceEnd, NextAccess, On, Jump, FirstRace}
 use Rattle.order.specs.HappensBefore.{happensBefore}
-use Rattle.races.proofs.Instance.{laws}
+use Rattle.races.proofs.Instance.{laws, access-kind}
 
 module _ (tr : List Record) where
   -- a race is between accesses of one cell, one of which writes
@@ -286,27 +286,27 @@ module _ (tr : List Record) where
   pub scan-end : {a b i : ℕ} → NextAccess tr i a i → i ≤ b → b ≤ i → NextAccess tr b a i
   scan-end w l k = record { ahead = w .ahead; high = l; same = λ m. absurd (omega arith); none = w .none }
 
-  -- The last accesses before b, one record after the other.
-  pub ends-none : Ends tr 0 noMarks
+  -- The last accesses before b, or the last writes, one record after the other.
+  pub ends-none : (writes : Bool) → Ends tr writes 0 noMarks
   unfolding noMarks
-  ends-none = record { size = length-replicate {A = ℕ} 1025 0; high = λ c l. rw (getD-replicate {A = ℕ} 1025 c 0 0 l) (omega arith); none = λ c l x h k t. omega arith }
+  ends-none writes = record { size = length-replicate {A = ℕ} 1025 0; high = λ c l. rw (getD-replicate {A = ℕ} 1025 c 0 0 l) (omega arith); none = λ c l x h k t q. omega arith }
 
-  pub ends-next : {i : ℕ} {ends : List ℕ} → cell tr i < 1025 → Ends tr i ends → (ends′ : List ℕ) → ends′ ≡ cond (isAccess (at tr i)) (set ends (cell tr i) (i + 1)) ends → Ends tr (i + 1) ends′
-  ends-next {i} {ends} low w ends′ e = rw next (go (isAccess (at tr i)) refl e)
+  pub ends-next : {writes : Bool} {i : ℕ} {ends : List ℕ} → cell tr i < 1025 → Ends tr writes i ends → (ends′ : List ℕ) → ends′ ≡ cond (isNoted writes (at tr i)) (set ends (cell tr i) (i + 1)) ends → Ends tr writes (i + 1) ends′
+  ends-next {writes} {i} {ends} low w ends′ e = rw next (go (isNoted writes (at tr i)) refl e)
     where
       next : i + 1 ≡ suc i
       next = omega arith
 
-      -- at a cell that record i does not access
-      still : (c : ℕ) → c < 1025 → (T (accesses tr c i) → ⊥) → (x : ℕ) → getD ends c 0 ≤ x → x < suc i → T (accesses tr c x) → ⊥
-      still c l n x h k t = past (eq-or-lt-of-le (le-of-suc-le-suc k))
+      -- at a cell that record i does not access, or not that way
+      still : (c : ℕ) → c < 1025 → (T (isNoted writes (at tr i)) → cell tr i ≡ c → ⊥) → (x : ℕ) → getD ends c 0 ≤ x → x < suc i → T (isNoted writes (at tr x)) → cell tr x ≡ c → ⊥
+      still c l n x h k t q = past (eq-or-lt-of-le (le-of-suc-le-suc k))
         where
           past : (x ≡ i) ⊎ (x < i) → ⊥
-          past (inl q) = n (subst (λ (y : ℕ). T (accesses tr c y)) q t)
-          past (inr m) = w .none c l x h m t
+          past (inl z) = n (subst (λ (y : ℕ). T (isNoted writes (at tr y))) z t) (subst (λ (y : ℕ). cell tr y ≡ c) z q)
+          past (inr m) = w .none c l x h m t q
 
-      go : (t : Bool) → isAccess (at tr i) ≡ t → ends′ ≡ cond t (set ends (cell tr i) (i + 1)) ends → Ends tr (suc i) ends′
-      go true f p = record { size = ap length p ∙ (length-set ends (cell tr i) (i + 1) ∙ w .size); high = λ c l. rw p (high c l (ℕ-discrete c (cell tr i))); none = λ c l x h k t. none c l x (rw p at h) k t (ℕ-discrete c (cell tr i)) }
+      go : (t : Bool) → isNoted writes (at tr i) ≡ t → ends′ ≡ cond t (set ends (cell tr i) (i + 1)) ends → Ends tr writes (suc i) ends′
+      go true f p = record { size = ap length p ∙ (length-set ends (cell tr i) (i + 1) ∙ w .size); high = λ c l. rw p (high c l (ℕ-discrete c (cell tr i))); none = λ c l x h k t q. none c l x (rw p at h) k t q (ℕ-discrete c (cell tr i)) }
         where
           here : getD (set ends (cell tr i) (i + 1)) (cell tr i) 0 ≡ i + 1
           here = let z = w .size in getD-set-same ends (cell tr i) (i + 1) 0 (omega arith)
@@ -315,31 +315,32 @@ module _ (tr : List Record) where
           high c l (yes d) = rw d (omega (arith, here))
           high c l (no d) = rw (getD-set-other ends (cell tr i) c (i + 1) 0 d) (omega (arith, w .high c l))
 
-          none : (c : ℕ) → c < 1025 → (x : ℕ) → getD (set ends (cell tr i) (i + 1)) c 0 ≤ x → x < suc i → T (accesses tr c x) → Dec (c ≡ cell tr i) → ⊥
-          none c l x h k t (yes d) = let q = rw d at h in omega (arith, here, q)
-          none c l x h k t (no d) = still c l (λ u. d (sym (of-accesses tr c i u .1))) x (rw (getD-set-other ends (cell tr i) c (i + 1) 0 d) at h) k t
-      go false f p = record { size = ap length p ∙ w .size; high = λ c l. rw p (omega (arith, w .high c l)); none = λ c l x h k t. still c l (λ u. subst T f (of-accesses tr c i u .0)) x (rw p at h) k t }
+          none : (c : ℕ) → c < 1025 → (x : ℕ) → getD (set ends (cell tr i) (i + 1)) c 0 ≤ x → x < suc i → T (isNoted writes (at tr x)) → cell tr x ≡ c → Dec (c ≡ cell tr i) → ⊥
+          none c l x h k t q (yes d) = let m = rw d at h in omega (arith, here, m)
+          none c l x h k t q (no d) = still c l (λ _ z. d (sym z)) x (rw (getD-set-other ends (cell tr i) c (i + 1) 0 d) at h) k t q
+      go false f p = record { size = ap length p ∙ w .size; high = λ c l. rw p (omega (arith, w .high c l)); none = λ c l x h k t q. still c l (λ u _. subst T f u) x (rw p at h) k t q }
 
-  -- Looking no further than to the last access.
-  module _ {ends : List ℕ} {a b : ℕ} (w : Ends tr b ends) (low : cell tr a < 1025) (l : a < b) (v : ℕ) (e : v ≡ getD ends (cell tr a) 0) where
-    end-none : (x : ℕ) → v ≤ x → x < b → T (accesses tr (cell tr a) x) → ⊥
-    end-none x h k t = w .none (cell tr a) low x (rw e at h) k t
+  -- Past them no record races with c.
+  end-written : (c x : ℕ) → at tr c .kind ≡ 5 → T (raceb (settingOf tr) c x) → T (isWrite (at tr x))
+  end-written c x k t = go (racing tr c x t .one)
+    where
+      go : T (isWrite (at tr c)) ⊎ T (isWrite (at tr x)) → T (isWrite (at tr x))
+      go (inl h) = absurd (rw k at h)
+      go (inr h) = h
 
-    pub end-high : v ≤ b
-    end-high = rw e (w .high (cell tr a) low)
+  module _ {b c : ℕ} {ends : List ℕ} (low : cell tr c < 1025) (v : ℕ) (e : v ≡ getD ends (cell tr c) 0) where
+    pub write-end : Ends tr false b ends → RaceEnd tr b c v
+    write-end w = record { high = rw e (w .high (cell tr c) low); none = λ x h k t. let r = racing tr c x t in w .none (cell tr c) low x (rw e at h) k (r .second) (sym (r .same)) }
 
-    pub before-past : v ≤ a → NextAccess tr b a b
-    before-past h = record { ahead = l; high = omega arith; same = λ k. absurd (omega arith); none = λ x k m t. end-none x (omega arith) m t }
+    pub read-end : Ends tr true b ends → at tr c .kind ≡ 5 → RaceEnd tr b c v
+    read-end w q = record { high = rw e (w .high (cell tr c) low); none = λ x h k t. w .none (cell tr c) low x (rw e at h) k (end-written c x q t) (sym (racing tr c x t .same)) }
 
-    pub before-some : {r : ℕ} → NextAccess tr v a r → r < v → NextAccess tr b a r
-    before-some n h = let k = end-high in record { ahead = n .ahead; high = omega arith; same = λ _. n .same h; none = n .none }
-
-    pub before-none : {r : ℕ} → NextAccess tr v a r → v ≤ r → NextAccess tr b a b
-    before-none {r} n h = let k = n .high in record { ahead = l; high = omega arith; same = λ m. absurd (omega arith); none = λ x u m t. go x u m t (lt-or-ge x v) }
-      where
-        go : (x : ℕ) → a < x → x < b → T (accesses tr (cell tr a) x) → (x < v) ⊎ (v ≤ x) → ⊥
-        go x u m t (inl q) = n .none x u (omega (arith, h)) t
-        go x u m t (inr q) = end-none x q m t
+  pub other-end : (b c : ℕ) → at tr c .kind ≢ 6 → at tr c .kind ≢ 5 → RaceEnd tr b c 0
+  other-end b c m n = record { high = omega arith; none = λ x h k t. go (access-kind (at tr c) (racing tr c x t .first)) }
+    where
+      go : (at tr c .kind ≡ 5) ⊎ (at tr c .kind ≡ 6) → ⊥
+      go (inl z) = n z
+      go (inr z) = m z
 
   -- On the way to b that is the next one.
   pub next-jump : {a b r : ℕ} → On tr b a → NextAccess tr b a r → Jump tr b a r

@@ -23,7 +23,7 @@ use Rattle.coverage.proofs.Leads.{le-leads}
 use Rattle.races.specs.Traces.{settingOf}
 use Rattle.races.specs.Leading.{rows}
 use Rattle.races.specs.Pair.{flat, withEntries, raceEntry, raceEntries, GivesCover}
-use Rattle.races.specs.Candidates.{accesses, NextAccess}
+use Rattle.races.specs.Candidates.{accesses, RaceEnd, NextAccess}
 use Rattle.races.specs.LeadingPass.{Starts}
 use Rattle.races.specs.PairSearch.{racesOn, NoSecond, NoRace, Along, Second, Sought, Next, Written}
 use Rattle.races.proofs.Instance.{laws}
@@ -39,14 +39,14 @@ module _ {tr : List Record} (a : Acceptable tr) (b : ℕ) (inside : b < length t
   unfolding racesOn
   second-race c x h = both (leads (settingOf tr) b (ev x)) (raceb (settingOf tr) c x) h .1
 
-  pub along-start : {c d : ℕ} → NextAccess tr b c d → Along tr b c d
-  along-start {c} {d} j = record { ahead = j .ahead; same = j .same; none = λ x l h. go x l (second-race c x h) }
+  pub along-start : {e c d : ℕ} → NextAccess tr e c d → Along tr b e c d
+  along-start {e} {c} {d} j = record { ahead = j .ahead; same = j .same; none = λ x l h. go x l (second-race c x h) }
     where
       go : (x : ℕ) → x < d → T (raceb (settingOf tr) c x) → ⊥
       go x l r = j .none x (racing tr c x r .earlier) l (accesses-race tr c x r)
 
-  pub along-next : {c d r : ℕ} → d < b → racesOn tr b c d ≡ false → Along tr b c d → NextAccess tr b d r → Along tr b c r
-  along-next {c} {d} {r} m e w j = record { ahead = omega (arith, w .ahead, j .ahead); same = λ l. j .same l ∙ w .same m; none = λ x l h. go x l h (lt-or-ge x d) }
+  pub along-next : {end c d r : ℕ} → d < end → racesOn tr b c d ≡ false → Along tr b end c d → NextAccess tr end d r → Along tr b end c r
+  along-next {end} {c} {d} {r} m e w j = record { ahead = omega (arith, w .ahead, j .ahead); same = λ l. j .same l ∙ w .same m; none = λ x l h. go x l h (lt-or-ge x d) }
     where
       go : (x : ℕ) → x < r → T (racesOn tr b c x) → (x < d) ⊎ (d ≤ x) → ⊥
       go x l h (inl k) = w .none x k h
@@ -63,8 +63,17 @@ module _ {tr : List Record} (a : Acceptable tr) (b : ℕ) (inside : b < length t
     pub second-found : happensBefore tr (ev t) (ev c) ≡ true → (d : ℕ) → d < b → racesOn tr b c d ≡ true → Second tr b t c d
     second-found e d l f = record { found = λ _. (subst T (sym e) tt, subst T (sym f) tt); none = λ m. absurd (omega arith) }
 
-    pub second-none : (d : ℕ) → b ≤ d → NoSecond tr b c d → Second tr b t c b
-    second-none d l n = record { found = λ k. absurd (omega arith); none = λ _ x k h. n x (omega arith) }
+    -- none up to d, and none from e on
+    pub second-none : (d e : ℕ) → e ≤ d → RaceEnd tr b c e → NoSecond tr b c d → Second tr b t c b
+    second-none d e l w n = record { found = λ k. absurd (omega arith); none = λ _ x k h r. go x k r (lt-or-ge x d) }
+      where
+        go : (x : ℕ) → x < b → T (racesOn tr b c x) → (x < d) ⊎ (d ≤ x) → ⊥
+        go x k r (inl m) = n x m r
+        go x k r (inr m) = w .none x (omega arith) k (second-race c x r)
+
+    -- none at all
+    pub second-past : (e : ℕ) → e ≤ c → RaceEnd tr b c e → Second tr b t c b
+    second-past e l w = second-none (suc c) e (omega arith) w (λ x m r. let z = racing tr c x (second-race c x r) .earlier in omega arith)
 
   module _ (t : ℕ) where
     -- that event action is whole from its first record on

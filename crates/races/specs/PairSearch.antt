@@ -43,10 +43,10 @@ NoSecond tr b c d = (x : ℕ) → x < d → T (racesOn tr b c x) → ⊥
 abbrev pub NoRace : List Record → ℕ → ℕ → ℕ → Type 0
 NoRace tr b t c = (x y : ℕ) → x < c → y < b → T (happensBefore tr (eventOf (at tr t)) (eventOf (at tr x))) → T (racesOn tr b x y) → ⊥
 
--- the search for d along the accesses of c's cell
-pub record Along (tr : List Record) (b c d : ℕ) : Type 0 where
+-- the search for d along the accesses of c's cell, up to e
+pub record Along (tr : List Record) (b e c d : ℕ) : Type 0 where
   pub ahead : c < d
-  pub same : d < b → cell tr d ≡ cell tr c
+  pub same : d < e → cell tr d ≡ cell tr c
   pub none : NoSecond tr b c d
 
 -- d is such a record before b, where the event action of t happens before that of c; or there is none, and d is b or above

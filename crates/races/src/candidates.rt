@@ -5,7 +5,7 @@ use crate::racing::is_race;
 use records::Record;
 use records::access;
 ghost use mathlib.Core.Path.{_≡_};
-ghost use mathlib.Core.Bool.{cond, _&&_, _||_};
+ghost use mathlib.Core.Bool.{true, false, cond, _&&_, _||_};
 ghost use Prim.Native.Nat.{_+_, _≤_, _<_};
 ghost use lib.Dec.{T};
 ghost use lib.ListN.{length, getD, set};
@@ -14,7 +14,7 @@ ghost use Rattle.records.specs.Records.{at};
 ghost use Rattle.trace.specs.Reading.{Acceptable};
 ghost use Rattle.records.specs.Marks.{noMarks};
 ghost use Rattle.races.specs.Filled.{Filled};
-ghost use Rattle.races.specs.Candidates.{isStart, isOrdered, Starts, Lasts, Quiet, Ends, NextAccess, Range, FirstRace};
+ghost use Rattle.races.specs.Candidates.{isStart, isOrdered, Starts, Lasts, Quiet, isNoted, Ends, RaceEnd, NextAccess, Range, FirstRace};
 ghost use Rattle.races.specs.ListPass.{Ranges};
 
 // A record number for each cell, none yet.
@@ -111,15 +111,24 @@ pub(crate) fn note_access(
     put_if(lasts, is_access(r), c, last_number(fresh, quiet, b));
 }
 
-// Notes for each cell the number of its last access before b.
-pub(crate) fn note_ends(recs: &[u8], b: usize, ends: &mut [u16])
+fn is_noted(writes: bool, r: Record) -> bool
+    ensures { λ x. ⌜ x ≡ isNoted writes r ⌝ }
+{
+    if writes {
+        return r.kind == 6;
+    }
+    is_access(r)
+}
+
+// Notes for each cell the number of its last access before b, or only of its last write.
+pub(crate) fn note_ends(recs: &[u8], writes: bool, b: usize, ends: &mut [u16])
     requires { ⌜ Acceptable (decode (now recs)) × (b < length (decode (now recs))) × (now ends ≡ noMarks) ⌝ }
-    ensures { λ u. ⌜ Ends (decode (now (recs .entry))) b (now (ends .exit)) ⌝ }
+    ensures { λ u. ⌜ Ends (decode (now (recs .entry))) writes b (now (ends .exit)) ⌝ }
 {
     let mut i = 0;
     while i < b {
         let r = access::record_at(recs, i);
-        put_if(ends, is_access(r), r.second as usize, (i + 1) as u16);
+        put_if(ends, is_noted(writes, r), r.second as usize, (i + 1) as u16);
         i += 1;
     }
 }
@@ -140,20 +149,20 @@ pub(crate) fn next_access(recs: &[u8], a: usize, b: usize) -> usize
     i
 }
 
-// The same, looking no further than to the last access of the cell.
-pub(crate) fn next_before(recs: &[u8], ends: &[u16], a: usize, b: usize) -> usize
-    requires { ⌜ Ends (decode (now recs)) b (now ends) × Acceptable (decode (now recs)) × (a < b) × (b < length (decode (now recs))) ⌝ }
-    ensures { λ r. ⌜ NextAccess (decode (now (recs .entry))) b a r ⌝ }
+// From there on, before b, no record races with c: past the last access of its cell if c writes, past the last write if c reads.
+pub(crate) fn race_end(recs: &[u8], ends: &[u16], writes: &[u16], b: usize, c: usize) -> usize
+    requires { ⌜ Acceptable (decode (now recs)) × (c < b) × (b < length (decode (now recs))) ⌝ }
+    requires { ⌜ Ends (decode (now recs)) false b (now ends) × Ends (decode (now recs)) true b (now writes) ⌝ }
+    ensures { λ r. ⌜ RaceEnd (decode (now (recs .entry))) b c r ⌝ }
 {
-    let end = number_at(ends, access::second_at(recs, a) as usize) as usize;
-    if end <= a {
-        return b;
+    let r = access::record_at(recs, c);
+    if r.kind == 6 {
+        return number_at(ends, r.second as usize) as usize;
     }
-    let next = next_access(recs, a, end);
-    if next < end {
-        return next;
+    if r.kind == 5 {
+        return number_at(writes, r.second as usize) as usize;
     }
-    b
+    0
 }
 
 pub(crate) struct Way {

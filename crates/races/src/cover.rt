@@ -4,6 +4,7 @@ use crate::leading;
 use crate::pair;
 use crate::racing;
 ghost use mathlib.Core.Path.{_≡_};
+ghost use mathlib.Core.Bool.{true, false};
 ghost use Prim.Native.Nat.{_*_, _≤_, _<_};
 ghost use lib.ListN.{length};
 ghost use Rattle.records.specs.Bytes.{decode};
@@ -55,23 +56,28 @@ fn find_second(
     clocks: &[u16],
     work: &[u8],
     ends: &[u16],
+    writes: &[u16],
     t: usize,
     b: usize,
     c: usize,
 ) -> usize
-    requires { ⌜ Filled (decode (now recs)) (now ranks) (now of) width (now clocks) × Marks (decode (now recs)) (now ranks) (now work) b × Ends (decode (now recs)) b (now ends) ⌝ }
+    requires { ⌜ Filled (decode (now recs)) (now ranks) (now of) width (now clocks) × Marks (decode (now recs)) (now ranks) (now work) b × Ends (decode (now recs)) false b (now ends) × Ends (decode (now recs)) true b (now writes) ⌝ }
     requires { ⌜ (t < b) × (c < b) ⌝ }
     ensures { λ r. ⌜ Second (decode (now (recs .entry))) b t c r ⌝ }
 {
     if !racing::is_before(recs, ranks, of, width, clocks, t, c) {
         return b;
     }
-    let mut d = candidates::next_before(recs, ends, c, b);
-    while d < b {
+    let end = candidates::race_end(recs, ends, writes, b, c);
+    if end <= c {
+        return b;
+    }
+    let mut d = candidates::next_access(recs, c, end);
+    while d < end {
         if races_on(recs, ranks, of, width, clocks, work, b, c, d) {
             return d;
         }
-        d = candidates::next_before(recs, ends, d, b);
+        d = candidates::next_access(recs, d, end);
     }
     b
 }
@@ -85,16 +91,17 @@ fn find_race(
     clocks: &[u16],
     work: &[u8],
     ends: &[u16],
+    writes: &[u16],
     t: usize,
     b: usize,
 ) -> Step
-    requires { ⌜ Filled (decode (now recs)) (now ranks) (now of) width (now clocks) × Marks (decode (now recs)) (now ranks) (now work) b × Ends (decode (now recs)) b (now ends) ⌝ }
+    requires { ⌜ Filled (decode (now recs)) (now ranks) (now of) width (now clocks) × Marks (decode (now recs)) (now ranks) (now work) b × Ends (decode (now recs)) false b (now ends) × Ends (decode (now recs)) true b (now writes) ⌝ }
     requires { ⌜ Sought (decode (now recs)) b t ⌝ }
     ensures { λ r. ⌜ Next (decode (now (recs .entry))) b t (r .first) (r .second) ⌝ }
 {
     let mut c = leading::block_start(recs, t);
     while c < b {
-        let d = find_second(recs, ranks, of, width, clocks, work, ends, t, b, c);
+        let d = find_second(recs, ranks, of, width, clocks, work, ends, writes, t, b, c);
         if d < b {
             return Step {
                 first: c,
@@ -118,18 +125,19 @@ pub(crate) fn put_cover(
     clocks: &[u16],
     work: &[u8],
     ends: &[u16],
+    writes: &[u16],
     list: &mut [u16],
     a: usize,
     b: usize,
 ) -> usize
-    requires { ⌜ Filled (decode (now recs)) (now ranks) (now of) width (now clocks) × Marks (decode (now recs)) (now ranks) (now work) b × Ends (decode (now recs)) b (now ends) ⌝ }
+    requires { ⌜ Filled (decode (now recs)) (now ranks) (now of) width (now clocks) × Marks (decode (now recs)) (now ranks) (now work) b × Ends (decode (now recs)) false b (now ends) × Ends (decode (now recs)) true b (now writes) ⌝ }
     requires { ⌜ Race (settingOf (decode (now recs))) a b × T (coveredb (settingOf (decode (now recs))) a b) × (2 * rows (decode (now recs)) ≤ length (now list)) ⌝ }
     ensures { λ r. ⌜ GivesCover (decode (now (recs .entry))) a b r (now (list .entry)) (now (list .exit)) ⌝ }
 {
     let mut t = a;
     let mut k = 0;
     while !racing::is_before(recs, ranks, of, width, clocks, t, b) {
-        let step = find_race(recs, ranks, of, width, clocks, work, ends, t, b);
+        let step = find_race(recs, ranks, of, width, clocks, work, ends, writes, t, b);
         pair::put_entry(list, k, (step.first + 1) as u16, (step.second + 1) as u16);
         k += 1;
         t = step.second;

@@ -108,7 +108,9 @@ fn put_entries(
 {
     if leading::is_leading(recs, ranks, work, a) {
         let mut ends = candidates::no_starts();
-        candidates::note_ends(recs, b, &mut ends);
+        let mut writes = candidates::no_starts();
+        candidates::note_ends(recs, false, b, &mut ends);
+        candidates::note_ends(recs, true, b, &mut writes);
         return PairAnswer::Covered(cover::put_cover(
             recs,
             ranks,
@@ -117,6 +119,7 @@ fn put_entries(
             clocks,
             work,
             &ends,
+            &writes,
             list,
             a,
             b,

@@ -12,19 +12,19 @@ use Rattle.races.proofs.candidates.note_ends.Statement.{statement}
 use Rattle.races.proofs.candidates.note_ends.Tie as tie
 
 abbrev Inv-loop : tie.InvT-loop
-Inv-loop recs b ends₀ i₀ ends i = Ends (decode recs) i ends × (i ≤ b)
+Inv-loop recs writes b ends₀ i₀ ends i = Ends (decode recs) writes i ends × (i ≤ b)
 
 abbrev μ-loop : tie.MeasureT-loop
-μ-loop recs b ends₀ i₀ ends i = b - i
+μ-loop recs writes b ends₀ i₀ ends i = b - i
 
 loop-holds : tie.Need-loop-holds Inv-loop μ-loop
-loop-holds c = (subst (Ends (decode (now (c .before .before .args .recs))) 0) (sym (c .before .before .pre .2)) (ends-none (decode (now (c .before .before .args .recs)))), omega arith)
+loop-holds c = (subst (Ends (decode (now (c .before .before .args .recs))) (c .before .before .args .writes) 0) (sym (c .before .before .pre .2)) (ends-none (decode (now (c .before .before .args .recs))) (c .before .before .args .writes)), omega arith)
 
 record-at-requires : tie.Need-record-at-requires Inv-loop μ-loop
 record-at-requires c κs = search needs
 
-is-access-requires : tie.Need-is-access-requires Inv-loop μ-loop
-is-access-requires c κs = search needs
+is-noted-requires : tie.Need-is-noted-requires Inv-loop μ-loop
+is-noted-requires c κs = search needs
 
 cast-put-if : tie.Need-cast-put-if Inv-loop μ-loop
 cast-put-if c = search needs
@@ -47,13 +47,13 @@ loop-less c = omega (arith, c .before .before .before .before .before .before .b
 loop-again : tie.Need-loop-again Inv-loop μ-loop
 loop-again c =
     let h : c .before .before .before .before .before .before .before .before .loop .i < length (decode (now (c .before .before .before .before .before .before .before .before .before .before .before .args .recs))) = omega (arith, c .before .before .before .before .before .before .before .loop-test .taken, c .before .before .before .before .before .before .before .before .before .before .before .pre .1) in
-    (ends-next (decode (now (c .before .before .before .before .before .before .before .before .before .before .before .args .recs))) (cell-low (c .before .before .before .before .before .before .before .before .before .before .before .pre .0) (c .before .before .before .before .before .before .before .before .loop .i) h) (c .before .before .before .before .before .before .before .before .loop .inv .0) _ (c .before .before .put-if .ensures ∙ simp (c .before .before .before .before .is-access .ensures, c .before .before .before .before .before .before .record-at .ensures)), omega (arith, c .before .before .before .before .before .before .before .loop-test .taken))
+    (ends-next (decode (now (c .before .before .before .before .before .before .before .before .before .before .before .args .recs))) (cell-low (c .before .before .before .before .before .before .before .before .before .before .before .pre .0) (c .before .before .before .before .before .before .before .before .loop .i) h) (c .before .before .before .before .before .before .before .before .loop .inv .0) _ (c .before .before .put-if .ensures ∙ simp (c .before .before .before .before .is-noted .ensures, c .before .before .before .before .before .before .record-at .ensures)), omega (arith, c .before .before .before .before .before .before .before .loop-test .taken))
 
 same-length : tie.Need-same-length Inv-loop μ-loop
 same-length c = c .before .loop .inv .0 .size ∙ sym (ap length (c .before .before .before .before .pre .2) ∙ none-long)
 
 returns : tie.Need-returns Inv-loop μ-loop
-returns c = let e : c .before .loop .i ≡ c .before .before .before .before .args .b = omega (arith, c .before .loop .inv .1, c .loop-test .left) in subst (λ x. Ends (decode (now (c .before .before .before .before .args .recs))) x (c .before .loop .ends)) e (c .before .loop .inv .0)
+returns c = let e : c .before .loop .i ≡ c .before .before .before .before .args .b = omega (arith, c .before .loop .inv .1, c .loop-test .left) in subst (λ x. Ends (decode (now (c .before .before .before .before .args .recs))) (c .before .before .before .before .args .writes) x (c .before .loop .ends)) e (c .before .loop .inv .0)
 
 pub note-ends-spec : {M : Type 1} → statement M
 note-ends-spec =
@@ -63,7 +63,7 @@ note-ends-spec =
     μ-loop
     loop-holds
     record-at-requires
-    is-access-requires
+    is-noted-requires
     cast-put-if
     add-put-if
     cast-put-if-2
