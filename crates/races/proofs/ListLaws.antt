@@ -10,7 +10,7 @@ use native.Mathlib.Numerals.{add-one}
 use native.Mathlib.Nat.{eq-or-lt-of-le, le-of-suc-le-suc}
 use borrow.Author.Tests.{eq-eqb, ne-eqb, eqb-true, le-leb, lt-leb, lt-ltb}
 use lib.Dec.{T, leb, ltb, eqb, eqb→eq, leb→le, le→leb, ltb→lt, T-not, not-T}
-use lib.ListN.{length, length-append, length-map}
+use lib.ListN.{length, getD, length-append, length-map}
 use Rattle.records.specs.declared.Record.{Record}
 use Rattle.records.specs.Records.{at, isRead, isWrite}
 use Rattle.trace.specs.Reading.{Acceptable}
@@ -24,7 +24,7 @@ use Rattle.coverage.proofs.Tests.{same as equal-tests}
 use Rattle.coverage.proofs.Lists.{upto-ext, upto-zero, upto-yes, upto-no, upto-empty}
 use Rattle.races.specs.Traces.{isAccess, cellsOf, settingOf}
 use Rattle.races.specs.Lists.{pairsOf}
-use Rattle.races.specs.Candidates.{cell, accesses, startOf, Quiet, On, Range}
+use Rattle.races.specs.Candidates.{cell, accesses, startOf, Quiet, Ends, On, Range}
 use Rattle.races.specs.ListPass.{fromOf, firsts, withSecond, pairsBelow, Ranges}
 use Rattle.coverage.proofs.Order.{race-of, race-not-le}
 use Rattle.races.proofs.Instance.{laws}
@@ -206,18 +206,19 @@ module _ (tr : List Record) where
     way-all : v ≢ 0 → Ranges tr short b (v - 1) b
     way-all n = record { range = record { on = on-start n; high = omega arith; none = λ x l k. absurd (omega arith) }; firsts-are = ap (λ x. firsts tr x b b) from-is }
 
-    way-read : v ≢ 0 → T short → at tr b .kind ≡ 5 → Ranges tr short b (v - 1) v
-    way-read n s k = record { range = record { on = on-start n; high = w .high; none = λ x l m h. reads x l m h (racing tr x b h .one) }; firsts-are = ap (λ x. firsts tr x b b) from-is }
+    -- past the last write no record races with a read
+    way-read : v ≢ 0 → at tr b .kind ≡ 5 → {writes : List ℕ} → Ends tr true b writes → cell tr b < 1025 → Ranges tr short b (v - 1) (getD writes (cell tr b) 0)
+    way-read n k {writes} w low = record { range = record { on = on-start n; high = w .high (cell tr b) low; none = λ x l m h. reads x l m h (racing tr x b h .one) }; firsts-are = ap (λ x. firsts tr x b b) from-is }
       where
-        reads : (x : ℕ) → v ≤ x → x < b → T (race x b) → T (isWrite (at tr x)) ⊎ T (isWrite (at tr b)) → ⊥
-        reads x l m h (inl t) = w .after s x l m (race-accesses tr x b h) t
+        reads : (x : ℕ) → getD writes (cell tr b) 0 ≤ x → x < b → T (race x b) → T (isWrite (at tr x)) ⊎ T (isWrite (at tr b)) → ⊥
+        reads x l m h (inl t) = w .none (cell tr b) low x l m t (racing tr x b h .same)
         reads x l m h (inr t) = rw k at t
 
-    pub way-start : v ≢ 0 → (to : ℕ) → to ≡ cond (short && eqb (at tr b .kind) 5) v b → Ranges tr short b (v - 1) to
-    way-start n to q = rw q (go (short && eqb (at tr b .kind) 5) refl)
+    pub way-start : v ≢ 0 → {writes : List ℕ} → Ends tr true b writes → cell tr b < 1025 → (to : ℕ) → to ≡ cond (eqb (at tr b .kind) 5) (getD writes (cell tr b) 0) b → Ranges tr short b (v - 1) to
+    way-start n {writes} w low to q = rw q (go (eqb (at tr b .kind) 5) refl)
       where
-        go : (t : Bool) → (short && eqb (at tr b .kind) 5) ≡ t → Ranges tr short b (v - 1) (cond t v b)
-        go true f = let h = both short (eqb (at tr b .kind) 5) (subst T (sym f) tt) in way-read n (h .0) (eqb→eq (at tr b .kind) 5 (h .1))
+        go : (t : Bool) → eqb (at tr b .kind) 5 ≡ t → Ranges tr short b (v - 1) (cond t (getD writes (cell tr b) 0) b)
+        go true f = way-read n (eqb→eq (at tr b .kind) 5 (subst T (sym f) tt)) w low
         go false f = way-all n
 
   -- so the pairs found below n are the list's

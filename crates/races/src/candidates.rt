@@ -5,7 +5,7 @@ use crate::racing::is_race;
 use records::Record;
 use records::access;
 ghost use mathlib.Core.Path.{_≡_};
-ghost use mathlib.Core.Bool.{true, false, cond, _&&_, _||_};
+ghost use mathlib.Core.Bool.{true, false, cond, _||_};
 ghost use Prim.Native.Nat.{_+_, _≤_, _<_};
 ghost use lib.Dec.{T};
 ghost use lib.ListN.{length, getD, set};
@@ -99,16 +99,18 @@ pub(crate) fn note_access(
     b: usize,
     starts: &mut [u16],
     lasts: &mut [u16],
+    writes: &mut [u16],
 )
     requires { ⌜ Acceptable (decode (now recs)) × (b < length (decode (now recs))) × (T quiet → Quiet (decode (now recs)) short b) ⌝ }
-    requires { ⌜ Starts (decode (now recs)) short b (now starts) × Lasts (decode (now recs)) short b (now lasts) ⌝ }
-    ensures { λ u. ⌜ Starts (decode (now (recs .entry))) short (b + 1) (now (starts .exit)) × Lasts (decode (now (recs .entry))) short (b + 1) (now (lasts .exit)) ⌝ }
+    requires { ⌜ Starts (decode (now recs)) short b (now starts) × Lasts (decode (now recs)) short b (now lasts) × Ends (decode (now recs)) true b (now writes) ⌝ }
+    ensures { λ u. ⌜ Starts (decode (now (recs .entry))) short (b + 1) (now (starts .exit)) × Lasts (decode (now (recs .entry))) short (b + 1) (now (lasts .exit)) × Ends (decode (now (recs .entry))) true (b + 1) (now (writes .exit)) ⌝ }
 {
     let r = access::record_at(recs, b);
     let c = r.second as usize;
     let fresh = is_start(short, number_at(starts, c), r);
     put_if(starts, fresh, c, (b + 1) as u16);
     put_if(lasts, is_access(r), c, last_number(fresh, quiet, b));
+    put_if(writes, r.kind == 6, c, (b + 1) as u16);
 }
 
 fn is_noted(writes: bool, r: Record) -> bool
@@ -181,15 +183,12 @@ fn no_way(b: usize, quiet: bool) -> Way
     }
 }
 
-// Up to where, from the start of its cell on: in the short list only the last write before a read can race with it.
-fn way_end(start: usize, short: bool, reads: bool, b: usize) -> usize
-    ensures { λ r. ⌜ r ≡ cond (short && reads) start b ⌝ }
+// Up to where: past the last write no record races with a read.
+fn way_end(reads: bool, write: usize, b: usize) -> usize
+    ensures { λ r. ⌜ r ≡ cond reads write b ⌝ }
 {
-    if !short {
-        return b;
-    }
     if reads {
-        return start;
+        return write;
     }
     b
 }
@@ -203,11 +202,12 @@ pub(crate) fn way_to(
     clocks: &[u16],
     starts: &[u16],
     lasts: &[u16],
+    writes: &[u16],
     short: bool,
     b: usize,
 ) -> Way
     requires { ⌜ Filled (decode (now recs)) (now ranks) (now of) width (now clocks) × (b < length (decode (now recs))) ⌝ }
-    requires { ⌜ Starts (decode (now recs)) short b (now starts) × Lasts (decode (now recs)) short b (now lasts) ⌝ }
+    requires { ⌜ Starts (decode (now recs)) short b (now starts) × Lasts (decode (now recs)) short b (now lasts) × Ends (decode (now recs)) true b (now writes) ⌝ }
     ensures { λ r. ⌜ Ranges (decode (now (recs .entry))) short b (r .from) (r .to) × (T (r .quiet) → Quiet (decode (now (recs .entry))) short b) ⌝ }
 {
     let r = access::record_at(recs, b);
@@ -224,7 +224,7 @@ pub(crate) fn way_to(
     }
     Way {
         from: start - 1,
-        to: way_end(start, short, r.kind == 5, b),
+        to: way_end(r.kind == 5, number_at(writes, c) as usize, b),
         quiet: false,
     }
 }

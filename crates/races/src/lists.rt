@@ -236,10 +236,22 @@ fn list_all(
     let n = access::count(recs);
     let mut starts = no_starts();
     let mut lasts = no_starts();
+    let mut writes = no_starts();
     let mut k = 0;
     let mut b = 0;
     while b < n {
-        let way = way_to(recs, ranks, of, width, clocks, &starts, &lasts, short, b);
+        let way = way_to(
+            recs,
+            ranks,
+            of,
+            width,
+            clocks,
+            &starts,
+            &lasts,
+            &writes,
+            short,
+            b,
+        );
         k = list_at(
             recs,
             ranks,
@@ -255,7 +267,15 @@ fn list_all(
             k,
             writing,
         );
-        note_access(recs, short, way.quiet, b, &mut starts, &mut lasts);
+        note_access(
+            recs,
+            short,
+            way.quiet,
+            b,
+            &mut starts,
+            &mut lasts,
+            &mut writes,
+        );
         b += 1;
     }
     k

@@ -1,4 +1,5 @@
-use Rattle.races.proofs.CandidateLaws.{cell-low, starts-next, lasts-next}
+use native.Mathlib.Omega.{arith}
+use Rattle.races.proofs.CandidateLaws.{cell-low, starts-next, lasts-next, ends-next}
 use Rattle.races.specs.Candidates.{cell}
 use Rattle.records.specs.Bytes.{decode}
 use denote.Ref.{now}
@@ -37,16 +38,29 @@ last-number-requires c κs = search needs
 put-if-requires-2 : tie.Need-put-if-requires-2
 put-if-requires-2 c κs = search needs
 
+add-put-if-2 : tie.Need-add-put-if-2
+add-put-if-2 c = omega (arith, c .before .before .before .before .before .before .before .before .before .before .before .before .before .before .before .before .before .before .before .before .before .pre .0 .1, c .before .before .before .before .before .before .before .before .before .before .before .before .before .before .before .before .before .before .before .before .before .pre .0 .0 .few)
+
+cast-put-if-2 : tie.Need-cast-put-if-2
+cast-put-if-2 c = omega (arith, c .before .before .before .before .before .before .before .before .before .before .before .before .before .before .before .before .before .before .before .before .before .pre .0 .1, c .before .before .before .before .before .before .before .before .before .before .before .before .before .before .before .before .before .before .before .before .before .pre .0 .0 .few)
+
+put-if-requires-3 : tie.Need-put-if-requires-3
+put-if-requires-3 c κs = search needs
+
 same-length : tie.Need-same-length
 same-length c = search needs
 
 same-length-2 : tie.Need-same-length-2
 same-length-2 c = search needs
 
+same-length-3 : tie.Need-same-length-3
+same-length-3 c = search needs
+
 returns : tie.Need-returns
 returns c = (
-  starts-next (decode (now (c .before .before .before .before .before .before .before .before .before .before .before .before .before .before .before .before .before .before .args .recs))) (c .before .before .before .before .before .before .before .before .before .before .before .before .before .before .before .before .before .before .args .short) (cell-low (c .before .before .before .before .before .before .before .before .before .before .before .before .before .before .before .before .before .before .pre .0 .0) (c .before .before .before .before .before .before .before .before .before .before .before .before .before .before .before .before .before .before .args .b) (c .before .before .before .before .before .before .before .before .before .before .before .before .before .before .before .before .before .before .pre .0 .1)) (c .before .before .before .before .before .before .before .before .before .before .before .before .before .before .before .before .before .before .pre .1 .0) _ (c .before .before .before .before .before .before .before .before .put-if .ensures ∙ simp (c .before .before .before .before .before .before .before .before .before .before .is-start .ensures, c .before .before .before .before .before .before .before .before .before .before .before .number-at .ensures, c .before .before .before .before .before .before .before .before .before .before .before .before .before .before .record-at .ensures)),
-  lasts-next (c .before .before .before .before .before .before .before .before .before .before .before .before .before .before .before .before .before .before .pre .0 .0) (c .before .before .before .before .before .before .before .before .before .before .before .before .before .before .before .before .before .before .args .short) (c .before .before .before .before .before .before .before .before .before .before .before .before .before .before .before .before .before .before .args .quiet) (cell-low (c .before .before .before .before .before .before .before .before .before .before .before .before .before .before .before .before .before .before .pre .0 .0) (c .before .before .before .before .before .before .before .before .before .before .before .before .before .before .before .before .before .before .args .b) (c .before .before .before .before .before .before .before .before .before .before .before .before .before .before .before .before .before .before .pre .0 .1)) (c .before .before .before .before .before .before .before .before .before .before .before .before .before .before .before .before .before .before .pre .0 .2) (c .before .before .before .before .before .before .before .before .before .before .before .before .before .before .before .before .before .before .pre .1 .1) _ (c .before .before .put-if2 .ensures ∙ simp (c .before .before .before .last-number .ensures, c .before .before .before .before .is-access .ensures, c .before .before .before .before .before .before .before .before .before .before .is-start .ensures, c .before .before .before .before .before .before .before .before .before .before .before .number-at .ensures, c .before .before .before .before .before .before .before .before .before .before .before .before .before .before .record-at .ensures, c .before .before .before .before .before .before .before .before .before .before .before .before .before .before .before .before .before .before .pre .1 .0 .tells (cell (decode (now (c .before .before .before .before .before .before .before .before .before .before .before .before .before .before .before .before .before .before .args .recs))) (c .before .before .before .before .before .before .before .before .before .before .before .before .before .before .before .before .before .before .args .b)) (cell-low (c .before .before .before .before .before .before .before .before .before .before .before .before .before .before .before .before .before .before .pre .0 .0) (c .before .before .before .before .before .before .before .before .before .before .before .before .before .before .before .before .before .before .args .b) (c .before .before .before .before .before .before .before .before .before .before .before .before .before .before .before .before .before .before .pre .0 .1)))),
+  starts-next (decode (now (c .before .before .before .before .before .before .before .before .before .before .before .before .before .before .before .before .before .before .before .before .before .before .before .before .args .recs))) (c .before .before .before .before .before .before .before .before .before .before .before .before .before .before .before .before .before .before .before .before .before .before .before .before .args .short) (cell-low (c .before .before .before .before .before .before .before .before .before .before .before .before .before .before .before .before .before .before .before .before .before .before .before .before .pre .0 .0) (c .before .before .before .before .before .before .before .before .before .before .before .before .before .before .before .before .before .before .before .before .before .before .before .before .args .b) (c .before .before .before .before .before .before .before .before .before .before .before .before .before .before .before .before .before .before .before .before .before .before .before .before .pre .0 .1)) (c .before .before .before .before .before .before .before .before .before .before .before .before .before .before .before .before .before .before .before .before .before .before .before .before .pre .1 .0) _ (c .before .before .before .before .before .before .before .before .before .before .before .before .before .put-if .ensures ∙ simp (c .before .before .before .before .before .before .before .before .before .before .before .before .before .before .before .is-start .ensures, c .before .before .before .before .before .before .before .before .before .before .before .before .before .before .before .before .number-at .ensures, c .before .before .before .before .before .before .before .before .before .before .before .before .before .before .before .before .before .before .before .record-at .ensures)),
+  lasts-next (c .before .before .before .before .before .before .before .before .before .before .before .before .before .before .before .before .before .before .before .before .before .before .before .before .pre .0 .0) (c .before .before .before .before .before .before .before .before .before .before .before .before .before .before .before .before .before .before .before .before .before .before .before .before .args .short) (c .before .before .before .before .before .before .before .before .before .before .before .before .before .before .before .before .before .before .before .before .before .before .before .before .args .quiet) (cell-low (c .before .before .before .before .before .before .before .before .before .before .before .before .before .before .before .before .before .before .before .before .before .before .before .before .pre .0 .0) (c .before .before .before .before .before .before .before .before .before .before .before .before .before .before .before .before .before .before .before .before .before .before .before .before .args .b) (c .before .before .before .before .before .before .before .before .before .before .before .before .before .before .before .before .before .before .before .before .before .before .before .before .pre .0 .1)) (c .before .before .before .before .before .before .before .before .before .before .before .before .before .before .before .before .before .before .before .before .before .before .before .before .pre .0 .2) (c .before .before .before .before .before .before .before .before .before .before .before .before .before .before .before .before .before .before .before .before .before .before .before .before .pre .1 .1) _ (c .before .before .before .before .before .before .before .put-if2 .ensures ∙ simp (c .before .before .before .before .before .before .before .before .last-number .ensures, c .before .before .before .before .before .before .before .before .before .is-access .ensures, c .before .before .before .before .before .before .before .before .before .before .before .before .before .before .before .is-start .ensures, c .before .before .before .before .before .before .before .before .before .before .before .before .before .before .before .before .number-at .ensures, c .before .before .before .before .before .before .before .before .before .before .before .before .before .before .before .before .before .before .before .record-at .ensures, c .before .before .before .before .before .before .before .before .before .before .before .before .before .before .before .before .before .before .before .before .before .before .before .before .pre .1 .0 .tells (cell (decode (now (c .before .before .before .before .before .before .before .before .before .before .before .before .before .before .before .before .before .before .before .before .before .before .before .before .args .recs))) (c .before .before .before .before .before .before .before .before .before .before .before .before .before .before .before .before .before .before .before .before .before .before .before .before .args .b)) (cell-low (c .before .before .before .before .before .before .before .before .before .before .before .before .before .before .before .before .before .before .before .before .before .before .before .before .pre .0 .0) (c .before .before .before .before .before .before .before .before .before .before .before .before .before .before .before .before .before .before .before .before .before .before .before .before .args .b) (c .before .before .before .before .before .before .before .before .before .before .before .before .before .before .before .before .before .before .before .before .before .before .before .before .pre .0 .1)))),
+  ends-next (decode (now (c .before .before .before .before .before .before .before .before .before .before .before .before .before .before .before .before .before .before .before .before .before .before .before .before .args .recs))) (cell-low (c .before .before .before .before .before .before .before .before .before .before .before .before .before .before .before .before .before .before .before .before .before .before .before .before .pre .0 .0) (c .before .before .before .before .before .before .before .before .before .before .before .before .before .before .before .before .before .before .before .before .before .before .before .before .args .b) (c .before .before .before .before .before .before .before .before .before .before .before .before .before .before .before .before .before .before .before .before .before .before .before .before .pre .0 .1)) (c .before .before .before .before .before .before .before .before .before .before .before .before .before .before .before .before .before .before .before .before .before .before .before .before .pre .1 .2) _ (c .before .before .put-if3 .ensures ∙ simp (c .before .before .before .before .before .before .before .before .before .before .before .before .before .before .before .before .before .before .before .record-at .ensures)),
 )
 
 pub note-access-spec : {M : Type 1} → statement M
@@ -63,6 +77,10 @@ note-access-spec =
     is-access-requires
     last-number-requires
     put-if-requires-2
+    add-put-if-2
+    cast-put-if-2
+    put-if-requires-3
     same-length
     same-length-2
+    same-length-3
     returns)
