@@ -369,3 +369,17 @@ module _ (tr : List Record) where
 
   pub looking-end : {b from to a : ℕ} → FirstRace tr b from from a → to ≤ a → FirstRace tr b from to a
   looking-end w l = record { on = w .on; low = w .low; none = w .none; found = λ k. absurd (omega arith) }
+
+-- The three numbers of b's cell, once record b is taken into account.
+module _ {tr : List Record} (acc : Acceptable tr) (short : Bool) {b : ℕ} (h : b < length tr) {starts lasts writes : List ℕ} (s : Starts tr short b starts) (l : Lasts tr short b lasts) (w : Ends tr true b writes) (r : Record) (e : r ≡ at tr b) (v : ℕ) (e₀ : v ≡ getD starts (r .second) 0) (fresh : Bool) (e₁ : fresh ≡ isStart short v r) where
+  low : cell tr b < 1025
+  low = cell-low acc b h
+
+  pub noted-start : (starts′ : List ℕ) → starts′ ≡ cond fresh (set starts (r .second) (b + 1)) starts → Starts tr short (b + 1) starts′
+  noted-start starts′ p = starts-next tr short low s starts′ (p ∙ rw (e₁, e₀, e) refl)
+
+  pub noted-last : (quiet : Bool) → (T quiet → Quiet tr short b) → (x : Bool) → x ≡ isAccess r → (n : ℕ) → n ≡ cond (fresh || quiet) (b + 1) 0 → (lasts′ : List ℕ) → lasts′ ≡ cond x (set lasts (r .second) n) lasts → Lasts tr short (b + 1) lasts′
+  noted-last quiet q x f n g lasts′ p = lasts-next acc short quiet low q l lasts′ (p ∙ rw (f, g, e₁, e₀, e, s .tells (cell tr b) low) refl)
+
+  pub noted-write : (writes′ : List ℕ) → writes′ ≡ cond (eqb (r .kind) 6) (set writes (r .second) (b + 1)) writes → Ends tr true (b + 1) writes′
+  noted-write writes′ p = ends-next tr low w writes′ (p ∙ rw e refl)

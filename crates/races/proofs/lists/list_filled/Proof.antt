@@ -1,13 +1,6 @@
-use Rattle.races.proofs.ListEnds.{too-long, too-long-list, list-room, fits, fits-list}
-use Rattle.races.specs.Lists.{numbers}
-use Rattle.races.specs.ListPass.{pairsBelow, Clear}
+use Rattle.races.proofs.ListEnds.{all-refused, all-clear, all-room, all-listed}
 use Rattle.records.specs.Bytes.{decode}
-use mathlib.Core.List.{List}
-use mathlib.Core.Path.{refl, sym, ap, _∙_, subst}
-use Prim.Native.Nat.{ℕ, _/_, _≤_, _<_}
-use native.Mathlib.Omega.{arith}
-use lib.ListN.{length}
-use lib.Seq.{sets}
+use mathlib.Core.Path.{refl}
 use denote.Ref.{now}
 use borrow.Author.Needs.{needs}
 use Rattle.races.proofs.lists.list_filled.Statement.{statement}
@@ -32,14 +25,7 @@ same-length-2 : tie.Need-same-length-2
 same-length-2 c = search needs
 
 returns : tie.Need-returns
-returns c =
-    let w = c .before .before .before .before .before .before .list-all .ensures in
-    let h = subst (λ (xs : List ℕ). length xs / 5 < c .before .before .before .before .before .before .list-all .result) (w .0 .list-is) (c .before .if1 .taken) in
-    record {
-      answer = c .refused .ensures ∙ sym (too-long (decode (now (c .before .before .before .before .before .before .before .before .before .before .before .before .before .before .before .before .args .recs))) (c .before .before .before .before .before .before .before .before .before .before .before .before .before .before .before .before .args .short) (c .before .before .before .before .before .before .before .before .before .before .before .before .before .before .before .before .args .events) (now (c .before .before .before .before .before .before .before .before .before .before .before .before .before .before .before .before .args .list)) _ (w .0 .count) h);
-      work-after = w .1;
-      list-after = w .0 .list-is ∙ too-long-list (decode (now (c .before .before .before .before .before .before .before .before .before .before .before .before .before .before .before .before .args .recs))) (c .before .before .before .before .before .before .before .before .before .before .before .before .before .before .before .before .args .short) (c .before .before .before .before .before .before .before .before .before .before .before .before .before .before .before .before .args .events) (now (c .before .before .before .before .before .before .before .before .before .before .before .before .before .before .before .before .args .list)) _ (w .0 .count) h;
-    }
+returns c = all-refused (decode (now (c .before .before .before .before .before .before .before .before .before .before .before .before .before .before .before .before .args .recs))) (c .before .before .before .before .before .before .before .before .before .before .before .before .before .before .before .before .args .short) (c .before .before .before .before .before .before .before .before .before .before .before .before .before .before .before .before .args .events) (c .before .before .before .before .before .before .list-all .ensures .0) (c .before .before .before .before .before .before .list-all .ensures .1) (c .before .if1 .taken) _ (c .refused .ensures)
 
 slice-aggregate-list-all-2 : tie.Need-slice-aggregate-list-all-2
 slice-aggregate-list-all-2 c = search needs
@@ -47,8 +33,7 @@ slice-aggregate-list-all-2 c = search needs
 list-all-requires-2 : tie.Need-list-all-requires-2
 list-all-requires-2 c κs =
     let w = c .before .before .before .before .before .before .before .before .list-all .ensures in
-    let h = subst (λ (xs : List ℕ). c .before .before .before .before .before .before .before .before .list-all .result ≤ length xs / 5) (w .0 .list-is) (c .before .before .before .if1 .left) in
-    (rw (c .before .before .before .before .before .before .before .before .before .before .before .before .ranks .ensures) (c .before .before .before .before .before .before .before .before .before .before .before .before .before .before .before .before .before .before .pre .0), subst (Clear (decode (now (c .before .before .before .before .before .before .before .before .before .before .before .before .before .before .before .before .before .before .args .recs))) (c .before .before .before .before .before .before .before .before .before .before .before .before .before .before .before .before .before .before .args .events)) (sym (w .1)) (c .before .before .before .before .before .before .before .before .before .before .before .before .before .before .before .before .before .before .pre .1), λ t. omega (arith, ap length (w .0 .list-is), list-room (decode (now (c .before .before .before .before .before .before .before .before .before .before .before .before .before .before .before .before .before .before .args .recs))) (c .before .before .before .before .before .before .before .before .before .before .before .before .before .before .before .before .before .before .args .short) (c .before .before .before .before .before .before .before .before .before .before .before .before .before .before .before .before .before .before .args .events) (now (c .before .before .before .before .before .before .before .before .before .before .before .before .before .before .before .before .before .before .args .list)) _ (w .0 .count) h))
+    (rw (c .before .before .before .before .before .before .before .before .before .before .before .before .ranks .ensures) (c .before .before .before .before .before .before .before .before .before .before .before .before .before .before .before .before .before .before .pre .0), all-clear (decode (now (c .before .before .before .before .before .before .before .before .before .before .before .before .before .before .before .before .before .before .args .recs))) (c .before .before .before .before .before .before .before .before .before .before .before .before .before .before .before .before .before .before .args .short) (c .before .before .before .before .before .before .before .before .before .before .before .before .before .before .before .before .before .before .args .events) (w .0) (w .1) (c .before .before .before .before .before .before .before .before .before .before .before .before .before .before .before .before .before .before .pre .1), λ t. all-room (decode (now (c .before .before .before .before .before .before .before .before .before .before .before .before .before .before .before .before .before .before .args .recs))) (c .before .before .before .before .before .before .before .before .before .before .before .before .before .before .before .before .before .before .args .short) (c .before .before .before .before .before .before .before .before .before .before .before .before .before .before .before .before .before .before .args .events) (w .0) (w .1) (c .before .before .before .if1 .left))
 
 count-requires : tie.Need-count-requires
 count-requires c κs = search needs
@@ -61,15 +46,9 @@ same-length-4 c = search needs
 
 returns-2 : tie.Need-returns-2
 returns-2 c =
-    let tr = decode (now (c .before .before .before .before .before .before .before .before .before .before .before .before .before .before .before .before .before .before .before .before .before .before .before .before .args .recs)) in
     let w = c .before .before .before .before .before .before .before .before .before .before .before .before .before .before .list-all .ensures in
     let v = c .before .before .before .before .before .list-all2 .ensures in
-    let h = subst (λ (xs : List ℕ). c .before .before .before .before .before .before .before .before .before .before .before .before .before .before .list-all .result ≤ length xs / 5) (w .0 .list-is) (c .before .before .before .before .before .before .before .before .before .if1 .left) in
-    record {
-      answer = sym (fits (decode (now (c .before .before .before .before .before .before .before .before .before .before .before .before .before .before .before .before .before .before .before .before .before .before .before .before .args .recs))) (c .before .before .before .before .before .before .before .before .before .before .before .before .before .before .before .before .before .before .before .before .before .before .before .before .args .short) (c .before .before .before .before .before .before .before .before .before .before .before .before .before .before .before .before .before .before .before .before .before .before .before .before .args .events) (now (c .before .before .before .before .before .before .before .before .before .before .before .before .before .before .before .before .before .before .before .before .before .before .before .before .args .list)) _ (w .0 .count) h ∙ rw (← c .before .before .before .before .before .before .before .before .before .before .before .before .before .before .before .before .before .before .before .before .before .before .before .before .pre .2, ← c .count .ensures) refl);
-      work-after = v .1 ∙ w .1;
-      list-after = v .0 .list-is ∙ (ap (λ (xs : List ℕ). sets xs 0 (numbers tr (pairsBelow tr (c .before .before .before .before .before .before .before .before .before .before .before .before .before .before .before .before .before .before .before .before .before .before .before .before .args .short) (length tr)))) (w .0 .list-is) ∙ fits-list (decode (now (c .before .before .before .before .before .before .before .before .before .before .before .before .before .before .before .before .before .before .before .before .before .before .before .before .args .recs))) (c .before .before .before .before .before .before .before .before .before .before .before .before .before .before .before .before .before .before .before .before .before .before .before .before .args .short) (c .before .before .before .before .before .before .before .before .before .before .before .before .before .before .before .before .before .before .before .before .before .before .before .before .args .events) (now (c .before .before .before .before .before .before .before .before .before .before .before .before .before .before .before .before .before .before .before .before .before .before .before .before .args .list)) _ (w .0 .count) h);
-    }
+    all-listed (decode (now (c .before .before .before .before .before .before .before .before .before .before .before .before .before .before .before .before .before .before .before .before .before .before .before .before .args .recs))) (c .before .before .before .before .before .before .before .before .before .before .before .before .before .before .before .before .before .before .before .before .before .before .before .before .args .short) (c .before .before .before .before .before .before .before .before .before .before .before .before .before .before .before .before .before .before .before .before .before .before .before .before .args .events) (w .0) (w .1) (c .before .before .before .before .before .before .before .before .before .if1 .left) (v .0) (v .1) (c .count .result) (c .before .before .before .before .before .before .before .before .before .before .before .before .before .before .before .before .before .before .before .before .before .before .before .before .args .chains) (c .count .ensures) (c .before .before .before .before .before .before .before .before .before .before .before .before .before .before .before .before .before .before .before .before .before .before .before .before .pre .2) _ refl
 
 pub list-filled-spec : {M : Type 1} → statement M
 list-filled-spec =
