@@ -15,9 +15,17 @@ use Rattle.coverage.specs.Leading.{coveredb}
 use Rattle.races.specs.Traces.{settingOf}
 use Rattle.races.specs.Lists.{shapeOf, markOf, entry, numbers}
 use Rattle.races.specs.Demand.{Calls, Names}
-use Rattle.races.proofs.EntryStores.{entry-length}
 
 module _ (tr : List Record) where
+  entry-length : (a b : ℕ) → length (entry tr a b) ≡ 5
+  unfolding entry
+  entry-length a b = refl
+
+  pub numbers-length : (ps : List (ℕ × ℕ)) → length (numbers tr ps) ≡ 5 * length ps
+  unfolding numbers
+  numbers-length [] = refl
+  numbers-length ((a, b) ∷ ps) = omega (arith, length-append (entry tr a b) (numbers tr ps), entry-length a b, numbers-length ps)
+
   -- number j of entry k
   numbers-at : (ps : List (ℕ × ℕ)) (rest : List ℕ) (k j : ℕ) → k < length ps → j < 5
       → getD (numbers tr ps ++ rest) (5 * k + j) 0 ≡ getD (entry tr (getD ps k (0, 0) .0) (getD ps k (0, 0) .1)) j 0
@@ -25,9 +33,9 @@ module _ (tr : List Record) where
   numbers-at [] rest k j h l = absurd (omega arith)
   numbers-at ((a, b) ∷ ps) rest zero j h l =
       let e : 5 * 0 + j ≡ j = omega arith in
-      rw (e, append-assoc) (List·getD-append (entry tr a b) (numbers tr ps ++ rest) 0 j (omega (arith, entry-length tr a b)))
+      rw (e, append-assoc) (List·getD-append (entry tr a b) (numbers tr ps ++ rest) 0 j (omega (arith, entry-length a b)))
   numbers-at ((a, b) ∷ ps) rest (suc k) j h l =
-      let e : 5 * suc k + j ≡ length (entry tr a b) + (5 * k + j) = omega (arith, entry-length tr a b) in
+      let e : 5 * suc k + j ≡ length (entry tr a b) + (5 * k + j) = omega (arith, entry-length a b) in
       rw (e, append-assoc, getD-append-add (entry tr a b) (numbers tr ps ++ rest) (5 * k + j) 0) (numbers-at ps rest k j (omega arith) l)
 
   -- the parts of an entry
@@ -56,7 +64,7 @@ module _ (tr : List Record) where
       go (inl e) f = (0, omega arith, sym e)
       go (inr n) f = let r = f n in (suc (r .0), omega (arith, r .1), r .2)
 
-  at-place : (ps : List (ℕ × ℕ)) (k : ℕ) → k < length ps → Listed (getD ps k (0, 0) .0) (getD ps k (0, 0) .1) ps
+  pub at-place : (ps : List (ℕ × ℕ)) (k : ℕ) → k < length ps → Listed (getD ps k (0, 0) .0) (getD ps k (0, 0) .1) ps
   at-place [] k h = absurd (omega arith)
   at-place (p ∷ ps) zero h = List·Memᴰ·head refl
   at-place (p ∷ ps) (suc k) h = List·Memᴰ·tail (at-place ps k (omega arith))

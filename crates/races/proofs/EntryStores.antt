@@ -15,11 +15,10 @@ use lib.Seq.{sets, length-sets}
 use Rattle.records.specs.declared.Record.{Record}
 use Rattle.records.specs.Records.{at}
 use Rattle.coverage.specs.Race.{raceb}
-use Rattle.coverage.specs.Leading.{coveredb}
 use Rattle.races.specs.Traces.{isAccess, settingOf}
-use Rattle.races.specs.Lists.{shapeOf, markOf, entry, numbers}
+use Rattle.races.specs.Lists.{shapeOf}
 use Rattle.races.specs.Candidates.{Jump, Range, FirstRace}
-use Rattle.races.specs.ListPass.{fromOf, firsts, withSecond, pairsBelow, entryIf, OneWrites, RoomIf, Writes, WritesAll, Ranges}
+use Rattle.races.specs.ListPass.{fromOf, firsts, withSecond, pairsBelow, raw, raws, entryIf, OneWrites, RoomIf, Writes, WritesAll, Ranges}
 use Rattle.races.proofs.CandidateLaws.{racing}
 use Rattle.races.proofs.ListLaws.{firsts-start, firsts-yes, firsts-no, firsts-grow, firsts-skip, firsts-low, firsts-empty, firsts-length, below-none, below-more, below-length}
 
@@ -38,23 +37,23 @@ sets-append l i (x ∷ xs) ys =
     rw e (sets-append (set l i x) (suc i) xs ys)
 
 module _ (tr : List Record) where
-  pub entry-length : (a b : ℕ) → length (entry tr a b) ≡ 5
-  unfolding entry
-  entry-length a b = refl
+  pub raw-length : (a b : ℕ) → length (raw tr a b) ≡ 5
+  unfolding raw
+  raw-length a b = refl
 
-  numbers-append : (ps qs : List (ℕ × ℕ)) → numbers tr (ps ++ qs) ≡ numbers tr ps ++ numbers tr qs
-  unfolding numbers
-  numbers-append [] qs = refl
-  numbers-append ((a, b) ∷ ps) qs = ap (λ l. entry tr a b ++ l) (numbers-append ps qs) ∙ sym (append-assoc (entry tr a b) (numbers tr ps) (numbers tr qs))
+  raws-append : (ps qs : List (ℕ × ℕ)) → raws tr (ps ++ qs) ≡ raws tr ps ++ raws tr qs
+  unfolding raws
+  raws-append [] qs = refl
+  raws-append ((a, b) ∷ ps) qs = ap (λ l. raw tr a b ++ l) (raws-append ps qs) ∙ sym (append-assoc (raw tr a b) (raws tr ps) (raws tr qs))
 
-  pub numbers-length : (ps : List (ℕ × ℕ)) → length (numbers tr ps) ≡ 5 * length ps
-  unfolding numbers
-  numbers-length [] = refl
-  numbers-length ((a, b) ∷ ps) = omega (arith, length-append (entry tr a b) (numbers tr ps), entry-length a b, numbers-length ps)
+  pub raws-length : (ps : List (ℕ × ℕ)) → length (raws tr ps) ≡ 5 * length ps
+  unfolding raws
+  raws-length [] = refl
+  raws-length ((a, b) ∷ ps) = omega (arith, length-append (raw tr a b) (raws tr ps), raw-length a b, raws-length ps)
 
-  numbers-one : (a b : ℕ) → numbers tr ((a, b) ∷ []) ≡ entry tr a b
-  unfolding numbers
-  numbers-one a b = append-nil (entry tr a b)
+  raws-one : (a b : ℕ) → raws tr ((a, b) ∷ []) ≡ raw tr a b
+  unfolding raws
+  raws-one a b = append-nil (raw tr a b)
 
   second-append : (b : ℕ) (xs ys : List ℕ) → withSecond tr b (xs ++ ys) ≡ withSecond tr b xs ++ withSecond tr b ys
   second-append b [] ys = refl
@@ -63,48 +62,40 @@ module _ (tr : List Record) where
   -- one second access, so far as its first accesses below a
   module _ (b from k : ℕ) (list : List ℕ) where
     abbrev written : ℕ → List ℕ
-    written a = sets list (5 * k) (numbers tr (withSecond tr b (firsts tr from b a)))
+    written a = sets list (5 * k) (raws tr (withSecond tr b (firsts tr from b a)))
 
     pub written-start : list ≡ written from
-    unfolding numbers
+    unfolding raws
     written-start = rw (firsts-start tr from b)
 
-    pub written-yes : (a : ℕ) → from ≤ a → raceb (settingOf tr) a b ≡ true → written (a + 1) ≡ sets (written a) (5 * (k + length (firsts tr from b a))) (entry tr a b)
+    pub written-yes : (a : ℕ) → from ≤ a → raceb (settingOf tr) a b ≡ true → written (a + 1) ≡ sets (written a) (5 * (k + length (firsts tr from b a))) (raw tr a b)
     written-yes a l e =
         let xs = firsts tr from b a in
-        let p : 5 * k + length (numbers tr (withSecond tr b xs)) ≡ 5 * (k + length xs) = omega (arith, numbers-length (withSecond tr b xs), length-map {B = ℕ × ℕ} xs (λ x. (x, b))) in
-        rw (firsts-yes tr from b a l e, second-append b xs (a ∷ []), numbers-append (withSecond tr b xs) ((a, b) ∷ []), numbers-one a b, sets-append list (5 * k) (numbers tr (withSecond tr b xs)) (entry tr a b), p)
+        let p : 5 * k + length (raws tr (withSecond tr b xs)) ≡ 5 * (k + length xs) = omega (arith, raws-length (withSecond tr b xs), length-map {B = ℕ × ℕ} xs (λ x. (x, b))) in
+        rw (firsts-yes tr from b a l e, second-append b xs (a ∷ []), raws-append (withSecond tr b xs) ((a, b) ∷ []), raws-one a b, sets-append list (5 * k) (raws tr (withSecond tr b xs)) (raw tr a b), p)
 
     pub written-no : (a : ℕ) → raceb (settingOf tr) a b ≡ false → written (a + 1) ≡ written a
     written-no a e = rw (firsts-no tr from b a e)
 
   -- all second accesses below b
   pub below-written : (short : Bool) (b : ℕ) (list : List ℕ)
-      → sets (sets list 0 (numbers tr (pairsBelow tr short b))) (5 * length (pairsBelow tr short b)) (numbers tr (withSecond tr b (firsts tr (fromOf tr short b) b b)))
-      ≡ sets list 0 (numbers tr (pairsBelow tr short (b + 1)))
+      → sets (sets list 0 (raws tr (pairsBelow tr short b))) (5 * length (pairsBelow tr short b)) (raws tr (withSecond tr b (firsts tr (fromOf tr short b) b b)))
+      ≡ sets list 0 (raws tr (pairsBelow tr short (b + 1)))
   below-written short b list =
       let ps = pairsBelow tr short b in
       let qs = withSecond tr b (firsts tr (fromOf tr short b) b b) in
-      let p : 5 * length ps ≡ 0 + length (numbers tr ps) = omega (arith, numbers-length ps) in
-      rw (below-more tr short b, numbers-append ps qs, sets-append list 0 (numbers tr ps) (numbers tr qs), p)
+      let p : 5 * length ps ≡ 0 + length (raws tr ps) = omega (arith, raws-length ps) in
+      rw (below-more tr short b, raws-append ps qs, sets-append list 0 (raws tr ps) (raws tr qs), p)
 
-pub entry-stores : (tr : List Record) (l : List ℕ) (i a b x y z : ℕ) → x ≡ at tr b .second → y ≡ shapeOf tr a b → z ≡ markOf tr a b
-    → set (set (set (set (set l i (a + 1)) (i + 1) (b + 1)) (i + 2) x) (i + 3) y) (i + 4) z ≡ sets l i (entry tr a b)
-unfolding entry
-entry-stores tr l i a b x y z p q r = five-stores l i (a + 1) (b + 1) x y z ∙ rw (p, q, r)
-
-pub covered-mark : (tr : List Record) (a b : ℕ) → coveredb (settingOf tr) a b ≡ true → 0 ≡ markOf tr a b
-unfolding markOf
-covered-mark tr a b e = rw e
-
-pub open-mark : (tr : List Record) (a b : ℕ) → coveredb (settingOf tr) a b ≡ false → 1 ≡ markOf tr a b
-unfolding markOf
-open-mark tr a b e = rw e
+pub raw-stores : (tr : List Record) (l : List ℕ) (i a b x y : ℕ) → x ≡ at tr b .second → y ≡ shapeOf tr a b
+    → set (set (set (set (set l i (a + 1)) (i + 1) (b + 1)) (i + 2) x) (i + 3) y) (i + 4) 0 ≡ sets l i (raw tr a b)
+unfolding raw
+raw-stores tr l i a b x y p q = five-stores l i (a + 1) (b + 1) x y 0 ∙ rw (p, q)
 
 -- The loop over the first accesses of one second access, turn by turn.
 pub record Writing (tr : List Record) (b from k : ℕ) (list₀ list : List ℕ) (next a : ℕ) : Type 0 where
   pub next-is : next ≡ k + length (firsts tr from b a)
-  pub list-is : list ≡ sets list₀ (5 * k) (numbers tr (withSecond tr b (firsts tr from b a)))
+  pub list-is : list ≡ sets list₀ (5 * k) (raws tr (withSecond tr b (firsts tr from b a)))
   pub low : from ≤ a
   pub high : a ≤ b
 
@@ -118,12 +109,12 @@ writing-start tr b from k list h = record {
 
 module _ {tr : List Record} {b from k : ℕ} {list₀ list : List ℕ} {next a : ℕ} (w : Writing tr b from k list₀ list next a) where
   pub writing-size : length list ≡ length list₀
-  writing-size = ap length (w .list-is) ∙ length-sets list₀ (5 * k) (numbers tr (withSecond tr b (firsts tr from b a)))
+  writing-size = ap length (w .list-is) ∙ length-sets list₀ (5 * k) (raws tr (withSecond tr b (firsts tr from b a)))
 
   pub writing-room : a < b → 5 * (k + length (firsts tr from b b)) ≤ length list₀ → raceb (settingOf tr) a b ≡ true → 5 * next + 5 ≤ length list
   writing-room l h e = omega (arith, h, writing-size, w .next-is, firsts-grow tr from b a b l (w .low) e)
 
-  writing-yes : a < b → raceb (settingOf tr) a b ≡ true → Writing tr b from k list₀ (sets list (5 * next) (entry tr a b)) (next + 1) (a + 1)
+  writing-yes : a < b → raceb (settingOf tr) a b ≡ true → Writing tr b from k list₀ (sets list (5 * next) (raw tr a b)) (next + 1) (a + 1)
   writing-yes l e = record {
     next-is = omega (arith, w .next-is, ap length (firsts-yes tr from b a (w .low) e), length-append (firsts tr from b a) (a ∷ []));
     list-is = sym (written-yes tr b from k list₀ a (w .low) e ∙ rw (← w .next-is, ← w .list-is) refl);
@@ -154,7 +145,7 @@ module _ {tr : List Record} {b from k : ℕ} {list₀ list : List ℕ} {next a :
       let f = firsts-skip tr from b a r (omega arith) (λ x u v. j .none x (omega arith) v) in
       record {
         next-is = w .next-is ∙ ap (λ xs. k + length xs) (sym f);
-        list-is = w .list-is ∙ ap (λ xs. sets list₀ (5 * k) (numbers tr (withSecond tr b xs))) (sym f);
+        list-is = w .list-is ∙ ap (λ xs. sets list₀ (5 * k) (raws tr (withSecond tr b xs))) (sym f);
         low = omega arith;
         high = j .on .high;
       }
@@ -162,14 +153,14 @@ module _ {tr : List Record} {b from k : ℕ} {list₀ list : List ℕ} {next a :
   pub writing-end : {to : ℕ} → to ≤ a → Range tr b from to → Writes true tr b from k list₀ list next
   writing-end {to} h g =
       let f = firsts-skip tr from b a b (w .high) (λ x l m. g .none x (omega arith) m) in
-      record { next = w .next-is ∙ ap (λ xs. k + length xs) (sym f); list-is = w .list-is ∙ ap (λ xs. sets list₀ (5 * k) (numbers tr (withSecond tr b xs))) (sym f) }
+      record { next = w .next-is ∙ ap (λ xs. k + length xs) (sym f); list-is = w .list-is ∙ ap (λ xs. sets list₀ (5 * k) (raws tr (withSecond tr b xs))) (sym f) }
 
 pub writing-next : {tr : List Record} {b from k : ℕ} {list₀ list : List ℕ} {next a : ℕ} → Writing tr b from k list₀ list next a → a < b → (list′ : List ℕ) (r : ℕ) → OneWrites tr a b next list list′ r → (a′ : ℕ) → Jump tr b a a′ → Writing tr b from k list₀ list′ r a′
 writing-next w l list′ r o a′ j = writing-jump (writing-one w l list′ r o) refl j
 
 -- a second access without races has no entries
 pub no-entries : (writing : Bool) {tr : List Record} {b from to low : ℕ} (k : ℕ) (list : List ℕ) → Range tr b from to → FirstRace tr b from to low → to ≤ low → Writes writing tr b from k list list k
-unfolding numbers
+unfolding raws
 no-entries writing {tr} {b} {from} {to} {low} k list g f l = record { next = omega (arith, ap length none); list-is = go writing }
   where
     beyond : (x : ℕ) → from ≤ x → x < b → (x < low) ⊎ (low ≤ x) → T (raceb (settingOf tr) x b) → ⊥
@@ -179,7 +170,7 @@ no-entries writing {tr} {b} {from} {to} {low} k list g f l = record { next = ome
     none : firsts tr from b b ≡ []
     none = firsts-empty tr from b b (λ x m n. beyond x m n (lt-or-ge x low))
 
-    go : (t : Bool) → list ≡ cond t (sets list (5 * k) (numbers tr (withSecond tr b (firsts tr from b b)))) list
+    go : (t : Bool) → list ≡ cond t (sets list (5 * k) (raws tr (withSecond tr b (firsts tr from b b)))) list
     go true = rw none
     go false = refl
 
@@ -195,7 +186,7 @@ module _ {tr : List Record} {b from to low : ℕ} (g : Range tr b from to) (f : 
   low-room {k = k} {list = list} r h = subst (λ (xs : List ℕ). 5 * (k + length xs) ≤ length list) low-firsts (r .space h)
 
   pub low-writes : {writing : Bool} {k : ℕ} {list list′ : List ℕ} {r : ℕ} → Writes writing tr b low k list list′ r → Writes writing tr b from k list list′ r
-  low-writes {writing} {k} {list} {list′} {r} w = record { next = w .next ∙ ap (λ xs. k + length xs) (sym low-firsts); list-is = w .list-is ∙ ap (λ xs. cond writing (sets list (5 * k) (numbers tr (withSecond tr b xs))) list) (sym low-firsts) }
+  low-writes {writing} {k} {list} {list′} {r} w = record { next = w .next ∙ ap (λ xs. k + length xs) (sym low-firsts); list-is = w .list-is ∙ ap (λ xs. cond writing (sets list (5 * k) (raws tr (withSecond tr b xs))) list) (sym low-firsts) }
 
   -- only counted
   pub low-counts : {writing : Bool} → writing ≡ false → (k : ℕ) (list : List ℕ) (found : ℕ) → found ≡ length (firsts tr low b b) → Writes writing tr b from k list list (k + found)
@@ -208,7 +199,7 @@ race-second tr a b r = racing tr a b r .second
 -- A way that the code finds, for the entries that the lists have.
 module _ {tr : List Record} {short : Bool} {b from to : ℕ} (w : Ranges tr short b from to) where
   pub way-writes : {writing : Bool} {k : ℕ} {list list′ : List ℕ} {r : ℕ} → Writes writing tr b from k list list′ r → Writes writing tr b (fromOf tr short b) k list list′ r
-  way-writes {writing} {k} {list} o = record { next = o .next ∙ ap (λ xs. k + length xs) (sym (w .firsts-are)); list-is = o .list-is ∙ ap (λ xs. cond writing (sets list (5 * k) (numbers tr (withSecond tr b xs))) list) (sym (w .firsts-are)) }
+  way-writes {writing} {k} {list} o = record { next = o .next ∙ ap (λ xs. k + length xs) (sym (w .firsts-are)); list-is = o .list-is ∙ ap (λ xs. cond writing (sets list (5 * k) (raws tr (withSecond tr b xs))) list) (sym (w .firsts-are)) }
 
   pub way-length : length (firsts tr (fromOf tr short b) b b) ≡ length (firsts tr from b b)
   way-length = ap length (w .firsts-are)
@@ -216,14 +207,14 @@ module _ {tr : List Record} {short : Bool} {b from to : ℕ} (w : Ranges tr shor
 -- the loop over the second accesses, turn by turn
 pub record Listing (writing : Bool) (tr : List Record) (short : Bool) (list₀ list : List ℕ) (k b : ℕ) : Type 0 where
   pub next-is : k ≡ length (pairsBelow tr short b)
-  pub list-is : list ≡ cond writing (sets list₀ 0 (numbers tr (pairsBelow tr short b))) list₀
+  pub list-is : list ≡ cond writing (sets list₀ 0 (raws tr (pairsBelow tr short b))) list₀
   pub within : b ≤ length tr
 
 pub listing-start : (writing : Bool) (tr : List Record) (short : Bool) (list : List ℕ) → Listing writing tr short list list 0 0
-unfolding numbers pairsBelow
+unfolding raws pairsBelow
 listing-start writing tr short list = record { next-is = sym (ap length (below-none tr short)); list-is = go writing; within = omega arith }
   where
-    go : (t : Bool) → list ≡ cond t (sets list 0 (numbers tr (pairsBelow tr short 0))) list
+    go : (t : Bool) → list ≡ cond t (sets list 0 (raws tr (pairsBelow tr short 0))) list
     go true = refl
     go false = refl
 
@@ -239,8 +230,8 @@ module _ {writing : Bool} {tr : List Record} {short : Bool} {list₀ list : List
   pub listing-size : length list ≡ length list₀
   listing-size = go writing (w .list-is)
     where
-      go : (t : Bool) → list ≡ cond t (sets list₀ 0 (numbers tr (pairsBelow tr short b))) list₀ → length list ≡ length list₀
-      go true e = ap length e ∙ length-sets list₀ 0 (numbers tr (pairsBelow tr short b))
+      go : (t : Bool) → list ≡ cond t (sets list₀ 0 (raws tr (pairsBelow tr short b))) list₀ → length list ≡ length list₀
+      go true e = ap length e ∙ length-sets list₀ 0 (raws tr (pairsBelow tr short b))
       go false e = ap length e
 
   pub listing-room : {from to : ℕ} → length tr ≤ 4096 → b < length tr → (T writing → 5 * length (pairsBelow tr short (length tr)) ≤ length list₀) → Ranges tr short b from to → RoomIf writing tr b from k list
@@ -256,7 +247,7 @@ module _ {writing : Bool} {tr : List Record} {short : Bool} {list₀ list : List
     within = omega arith;
   }
     where
-      go : (t : Bool) → list′ ≡ cond t (sets list (5 * k) (numbers tr (withSecond tr b (firsts tr (fromOf tr short b) b b)))) list → list ≡ cond t (sets list₀ 0 (numbers tr (pairsBelow tr short b))) list₀ → list′ ≡ cond t (sets list₀ 0 (numbers tr (pairsBelow tr short (b + 1)))) list₀
+      go : (t : Bool) → list′ ≡ cond t (sets list (5 * k) (raws tr (withSecond tr b (firsts tr (fromOf tr short b) b b)))) list → list ≡ cond t (sets list₀ 0 (raws tr (pairsBelow tr short b))) list₀ → list′ ≡ cond t (sets list₀ 0 (raws tr (pairsBelow tr short (b + 1)))) list₀
       go true p q = p ∙ (rw (q, w .next-is) refl ∙ below-written tr short b list₀)
       go false p q = p ∙ q
 
@@ -264,4 +255,4 @@ module _ {writing : Bool} {tr : List Record} {short : Bool} {list₀ list : List
   listing-end h =
       let u = w .within in
       let e : b ≡ length tr = omega arith in
-      record { count = w .next-is ∙ ap (λ i. length (pairsBelow tr short i)) e; list-is = w .list-is ∙ ap (λ i. cond writing (sets list₀ 0 (numbers tr (pairsBelow tr short i))) list₀) e }
+      record { count = w .next-is ∙ ap (λ i. length (pairsBelow tr short i)) e; list-is = w .list-is ∙ ap (λ i. cond writing (sets list₀ 0 (raws tr (pairsBelow tr short i))) list₀) e }

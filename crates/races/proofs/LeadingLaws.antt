@@ -53,7 +53,7 @@ chosen false x false y true z h = inr (inr (tt, h))
 chosen false x false y false z h = absurd h
 
 module _ (ranks work accessed written : List ℕ) (r : Record) where
-  on-cases : T (leadsOn ranks work accessed written r) → (T (isFork r) × T (markedEvent ranks work (r .second))) ⊎ ((T (isWrite r) × T (isMarked accessed (r .second))) ⊎ (T (isRead r) × T (isMarked written (r .second))))
+  pub on-cases : T (leadsOn ranks work accessed written r) → (T (isFork r) × T (markedEvent ranks work (r .second))) ⊎ ((T (isWrite r) × T (isMarked accessed (r .second))) ⊎ (T (isRead r) × T (isMarked written (r .second))))
   unfolding leadsOn
   on-cases h = chosen (isFork r) (markedEvent ranks work (r .second)) (isWrite r) (isMarked accessed (r .second)) (isRead r) (isMarked written (r .second)) h
 
@@ -127,7 +127,7 @@ module _ {tr : List Record} (a : Acceptable tr) where
       let n : rank tr e ≢ 0 = λ z. omega (arith, begins-rank a b) in
       simp (ranks-are a e, ne-eqb (rank tr e) 0 n)
 
-  marked-begins : (work : List ℕ) (e : ℕ) → T (markedEvent (ranksOf tr) work e) → Begins tr e
+  pub marked-begins : (work : List ℕ) (e : ℕ) → T (markedEvent (ranksOf tr) work e) → Begins tr e
   unfolding markedEvent
   marked-begins work e h = rank-begins a e (λ z. rw (ranks-are a e, z) at h)
 

@@ -2,6 +2,8 @@ pub mod Instance
 pub mod NoteLaws
 pub mod LeadingLaws
 pub mod PassLaws
+pub mod SlotLaws
+pub mod GroupLaws
 pub mod WorkLaws
 pub mod Examples
 pub mod Cases
@@ -9,12 +11,13 @@ pub mod FilledLaws
 pub mod CandidateLaws
 pub mod ListLaws
 pub mod EntryStores
+pub mod DemandLaws
+pub mod MarkingLaws
 pub mod ListEnds
 pub mod Spaces
 pub mod PairEntries
 pub mod CoverLaws
 pub mod PairLaws
 pub mod PairEnds
-pub mod DemandLaws
 pub mod ThirdDemand
 pub mod PairCases

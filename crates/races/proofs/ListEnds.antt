@@ -30,7 +30,7 @@ use Rattle.races.specs.Paper.{listPaper, Lists, ListsFilled}
 use Rattle.races.specs.ListPass.{pairsBelow, WritesAll, Clear}
 use Rattle.races.specs.Filled.{Filled}
 use Rattle.races.proofs.ListLaws.{pairs-below}
-use Rattle.races.proofs.EntryStores.{numbers-length}
+use Rattle.races.proofs.DemandLaws.{numbers-length}
 
 -- a trace whose clocks are filled
 module _ (tr : List Record) (short : Bool) (events : ℕ) (list : List ℕ) (count : ℕ) (c : count ≡ length (pairsBelow tr short (length tr))) where
@@ -47,9 +47,6 @@ module _ (tr : List Record) (short : Bool) (events : ℕ) (list : List ℕ) (cou
     too-long-list = rw too-long refl
 
   module _ (h : count ≤ length list / 5) where
-    pub list-room : 5 * length (pairsBelow tr short (length tr)) ≤ length list
-    list-room = omega (arith, c, h)
-
     pub fits : listFilled short tr events (length list) ≡ listed events (length tr) (chainsUsed tr) count
     unfolding listFilled demand
     fits = rw (← counted, le-leb count (length list / 5) h)
@@ -64,34 +61,28 @@ module _ (tr : List Record) (short : Bool) (events : ℕ) (list : List ℕ) (cou
         rw (fits, pairs-below tr short) (sets-eq (numbers tr ps) list 0 q ∙ rw d refl)
 
 -- counted, and then written
-module _ (tr : List Record) (short : Bool) (events : ℕ) {work work₁ list list₁ : List ℕ} {count : ℕ} (w : WritesAll false tr short list list₁ count) (k : work₁ ≡ work) where
+module _ (tr : List Record) (short : Bool) (events : ℕ) {list list₁ : List ℕ} {count : ℕ} (w : WritesAll false tr short list list₁ count) where
   kept : list₁ ≡ list
   kept = w .list-is
 
-  pub all-refused : length list₁ / 5 < count → (r : Listing) → listPaper r ≡ refused 24 0 → ListsFilled short tr events work work₁ list list₁ r
-  all-refused h r p =
+  pub all-refused : (work : List ℕ) → length list₁ / 5 < count → (r : Listing) → listPaper r ≡ refused 24 0 → ListsFilled short tr events work work list list₁ r
+  all-refused work h r p =
       let q = subst (λ (xs : List ℕ). length xs / 5 < count) kept h in
       record {
         answer = p ∙ sym (too-long tr short events list count (w .count) q);
-        work-after = k;
+        work-after = refl;
         list-after = kept ∙ too-long-list tr short events list count (w .count) q;
       }
-
-  pub all-clear : Clear tr events work → Clear tr events work₁
-  all-clear c = subst (Clear tr events) (sym k) c
 
   module _ (h : count ≤ length list₁ / 5) where
     fit : count ≤ length list / 5
     fit = subst (λ (xs : List ℕ). count ≤ length xs / 5) kept h
 
-    pub all-room : 5 * length (pairsBelow tr short (length tr)) ≤ length list₁
-    all-room = omega (arith, ap length kept, list-room tr short events list count (w .count) fit)
-
-    pub all-listed : {work₂ list₂ : List ℕ} {again : ℕ} → WritesAll true tr short list₁ list₂ again → work₂ ≡ work₁ → (n chains : ℕ) → n ≡ length tr → chains ≡ chainsUsed tr → (r : Listing) → listPaper r ≡ listed events n chains count → ListsFilled short tr events work work₂ list list₂ r
+    pub all-listed : {work work₂ list₂ : List ℕ} → list₂ ≡ sets list₁ 0 (numbers tr (pairsBelow tr short (length tr))) → work₂ ≡ work → (n chains : ℕ) → n ≡ length tr → chains ≡ chainsUsed tr → (r : Listing) → listPaper r ≡ listed events n chains count → ListsFilled short tr events work work₂ list list₂ r
     all-listed v e n chains m c r p = record {
       answer = p ∙ sym (fits tr short events list count (w .count) fit ∙ rw (← c, ← m) refl);
-      work-after = e ∙ k;
-      list-after = v .list-is ∙ (ap (λ (xs : List ℕ). sets xs 0 (numbers tr (pairsBelow tr short (length tr)))) kept ∙ fits-list tr short events list count (w .count) fit);
+      work-after = e;
+      list-after = v ∙ (ap (λ (xs : List ℕ). sets xs 0 (numbers tr (pairsBelow tr short (length tr)))) kept ∙ fits-list tr short events list count (w .count) fit);
     }
 
 -- an accepted trace

@@ -58,10 +58,6 @@ module _ (tr : List Record) where
       let r = both (conflicts (cellsOf tr) a b) _ (q .1) in
       both (isAccess (at tr a)) (isAccess (at tr b)) (both (isAccess (at tr a) && isAccess (at tr b)) _ (r .0) .0) .1
 
-  pub firsts-none : (from b i : ℕ) → isAccess (at tr b) ≡ false → firsts tr from b i ≡ []
-  unfolding firsts
-  firsts-none from b i e = upto-empty i (test from b) (λ a l h. subst T e (race-access a b (both (leb from a) (race a b) h .1)))
-
   upto-length : (m : ℕ) (p : ℕ → Bool) → length (upto m p) ≤ m
   upto-length zero p = omega (arith, ap length (upto-zero p))
   upto-length (suc m) p = go (decide (p m)) (upto-length m p)

@@ -288,44 +288,6 @@ module _ {tr : List Record} (a : Acceptable tr) (ranks : List ℕ) (are : ranks 
       let q : suc i - 1 ≡ i = omega arith in
       rw (m, are, ranks-are a (ev tr lo)) (pass-led a b access (rw q at s) room p (rw are at (d .0 (subst T (sym e) tt))) accessed′ written′ named′ x y z)
 
--- The start and the end, as the code makes them: `first` is the work space once the event action of b is marked.
-module _ {tr : List Record} {ranks : List ℕ} {b : ℕ} {entry first : List ℕ} (w : Ready tr ranks b entry) (marked : first ≡ withMark entry (getD ranks (ev tr b) 0 - 1)) where
-  ranks-row : getD ranks (ev tr b) 0 - 1 ≡ rank tr (ev tr b) - 1
-  ranks-row = rw (w .ranked) (ap (λ (n : ℕ). n - 1) (ranks-are (w .acceptable) (ev tr b)))
-
-  pub first-long : length first ≡ length entry
-  first-long = ap length marked ∙ marked-size entry _
-
-  pub starts-pass : (lo : ℕ) → Starts tr lo b → (accessed written named : List ℕ) → Notes tr isAccess lo b noMarks accessed → Notes tr isWrite lo b noMarks written → Notes tr isJoin lo b noMarks named → Passed tr b lo first first accessed written named
-  starts-pass lo s accessed written named x y z =
-      let p = pass-start (w .acceptable) b (w .access) lo s entry accessed written named (w .room) zero-at x y z in
-      record {
-        low = p .low;
-        parted = p .parted;
-        accesses = p .accesses;
-        writes = p .writes;
-        waits = p .waits;
-        marks = record { size = refl; rest = refl; byte = rw (marked, ranks-row) (p .marks .byte) };
-      }
-    where
-      zero-at : (r : ℕ) → r < rows tr → getD entry r 0 ≡ 0
-      zero-at r l = sym (getD-take (rows tr) entry r 0 l) ∙ rw (w .clear) (getD-replicate {A = ℕ} (rows tr) r 0 0 l)
-
-  pub ends-pass : (hi low : ℕ) → hi ≤ low → (work accessed written named : List ℕ) → Passed tr b hi first work accessed written named → LeadingFrom tr b low entry work
-  unfolding withMark
-  ends-pass hi low l work accessed written named p =
-      let k = row-low (w .acceptable) b (inside (w .acceptable) b (w .access)) in
-      let r = ranks-row in
-      record {
-        from = hi;
-        below = l;
-        marks = record {
-          size = p .marks .size ∙ first-long;
-          rest = p .marks .rest ∙ (ap (drop (rows tr)) marked ∙ drop-set-lt (rows tr) entry (getD ranks (ev tr b) 0 - 1) 1 (omega arith));
-          byte = p .marks .byte;
-        };
-      }
-
 -- Marks of the event actions from low on.
 module _ {tr : List Record} {b low : ℕ} {entry work : List ℕ} (w : LeadingFrom tr b low entry work) where
   -- of all of them

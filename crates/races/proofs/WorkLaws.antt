@@ -36,9 +36,6 @@ clear-again w l after f = f ∙ (rw (w .events-are) (leading-cleared l) ∙ sym 
 pub zeros-front : (m : ℕ) (rest : List ℕ) → take m (replicate m 0 ++ rest) ≡ replicate m 0
 zeros-front m rest = take-at (replicate m 0) rest m (length-replicate {A = ℕ} m 0)
 
-pub zeros-room : (m : ℕ) (entry : List ℕ) → m ≤ length entry → length (replicate m 0 ++ drop m entry) ≡ length entry
-zeros-room m entry h = simp (length-append, length-drop) (omega (arith, length-replicate {A = ℕ} m 0))
-
 -- Of a race (x, b), the mark of the event action of x says whether it is covered.
 pub marked-iff : {tr : List Record} (a : Acceptable tr) (x b : ℕ) (rest : List ℕ) → Race (settingOf tr) x b → T (markedEvent (ranksOf tr) (leadingMarks tr b ++ rest) (eventOf (at tr x))) ↔ Covered (settingOf tr) x b
 marked-iff {tr} a x b rest r =

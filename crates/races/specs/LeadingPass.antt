@@ -1,19 +1,22 @@
 -- How the event actions that lead to b are found: one pass over the event actions, from that of b down to the first. `LeadingLaws` proves that
 -- this gives `leads`. Definitions alone. Assumes nothing.
-use Prim.Native.Nat.{ℕ, suc, _-_, _≤_, _<_}
+use Prim.Native.Nat.{ℕ, suc, _+_, _-_, _≤_, _<_}
 use mathlib.Core.Path.{_≡_}
 use mathlib.Core.Logic.{_≢_, _⊎_, _↔_}
-use mathlib.Core.Bool.{Bool, false, cond, _&&_}
+use mathlib.Core.Bool.{Bool, true, false, cond, _&&_}
 use mathlib.Core.List.{List}
 use lib.Dec.{T, leb, eqb}
-use lib.ListN.{length, getD, drop}
+use lib.ListN.{length, getD, take, drop, replicate}
 use Rattle.records.specs.declared.Record.{Record}
 use Rattle.records.specs.Records.{at, isFork, isJoin, isRead, isWrite, eventOf}
-use Rattle.records.specs.Marks.{isMarked, withMark}
+use Rattle.records.specs.Marks.{noMarks, isMarked, withMark}
+use Rattle.trace.specs.Reading.{Acceptable}
+use Rattle.ranks.specs.Ranks.{ranksOf}
 use Rattle.order.specs.HappensBefore.{rank}
 use Rattle.coverage.specs.Leading.{leads}
 use Rattle.races.specs.Traces.{isAccess, settingOf}
 use Rattle.races.specs.Leading.{mark, rows}
+use Rattle.races.specs.Slots.{slot}
 
 -- the number is marked where the test says so
 abbrev pub markIf : Bool → List ℕ → ℕ → List ℕ
@@ -49,6 +52,11 @@ module _ (tr : List Record) where
   pub record Notes (test : Record → Bool) (lo hi : ℕ) (m m′ : List ℕ) : Type 0 where
     pub size : length m′ ≡ length m
     pub tells : (c : ℕ) → c < length m → T (isMarked m′ c) ↔ (T (isMarked m c) ⊎ Second test c lo hi)
+
+  -- or nothing is marked besides, where they are not to be noted
+  pub record NotesIf (noted : Bool) (test : Record → Bool) (lo hi : ℕ) (m m′ : List ℕ) : Type 0 where
+    pub notes : noted ≡ true → Notes test lo hi m m′
+    pub same : noted ≡ false → m′ ≡ m
 
   -- one of the records from lo on, before hi, leads on
   abbrev pub OneLeads : List ℕ → List ℕ → List ℕ → List ℕ → ℕ → ℕ → Type 0
@@ -93,3 +101,58 @@ module _ (tr : List Record) (b : ℕ) where
 abbrev pub PassesOn : List Record → ℕ → ℕ → List ℕ → List ℕ → List ℕ → List ℕ → List ℕ → List ℕ → List ℕ → List ℕ → Type 0
 PassesOn tr hi lo work accessed written named work′ accessed′ written′ named′ =
     (b : ℕ) (entry : List ℕ) → T (isAccess (at tr b)) → rows tr ≤ length entry → Passed tr b hi entry work accessed written named → Passed tr b lo entry work′ accessed′ written′ named′
+
+-- nothing is marked or noted, so that no event action is led
+abbrev pub Silent : List Record → List ℕ → List ℕ → List ℕ → List ℕ → Type 0
+Silent tr work accessed written named = (lo hi : ℕ) → lo < hi → hi ≤ length tr → Led tr (ranksOf tr) work accessed written named lo hi → ⊥
+
+-- What a pass from hi on down to lo does for one second access: it passes on, and where nothing is marked it marks nothing.
+pub record Goes (tr : List Record) (hi lo : ℕ) (work accessed written named work′ accessed′ written′ named′ : List ℕ) : Type 0 where
+  pub passes : PassesOn tr hi lo work accessed written named work′ accessed′ written′ named′
+  pub still : Silent tr work accessed written named → (work′ ≡ work) × (accessed′ ≡ accessed) × (written′ ≡ written) × (named′ ≡ named)
+
+module _ (tr : List Record) where
+  -- only marks of event actions are written
+  pub record Rest (entry work : List ℕ) : Type 0 where
+    pub size : length work ≡ length entry
+    pub beyond : drop (rows tr) work ≡ drop (rows tr) entry
+
+  -- where a pass from hi on down to the event action of a record ends
+  pub record Lands (to hi r : ℕ) : Type 0 where
+    pub reaches : r ≤ to
+    pub below : r ≤ hi
+    pub stays : hi ≤ to → r ≡ hi
+    pub starts : to < hi → Starts tr r to
+
+  -- Second accesses, at most eight, ascending.
+  pub record Seconds (seconds : List ℕ) (count : ℕ) : Type 0 where
+    pub acceptable : Acceptable tr
+    pub some : 0 < count
+    pub few : count ≤ 8
+    pub given : count ≤ length seconds
+    pub access : (i : ℕ) → i < count → T (isAccess (at tr (getD seconds i 0)))
+    pub rising : (i k : ℕ) → i ≤ k → k < count → getD seconds i 0 ≤ getD seconds k 0
+
+  -- When the event actions from hi on are passed, and those of the second accesses from the j-th on among them:
+  pub record Reached (seconds : List ℕ) (count j hi : ℕ) (entry work accessed written named : List ℕ) : Type 0 where
+    pub low : hi ≤ length tr
+    pub room : rows tr ≤ length entry
+    pub zeros : (r : ℕ) → r < rows tr → getD entry r 0 ≡ 0
+    pub rest : Rest entry work
+    pub sizes : (length accessed ≡ 1025) × (length written ≡ 1025) × (length named ≡ 1025)
+    pub reached : (i : ℕ) → j ≤ i → i < count → Passed tr (getD seconds i 0) hi (slot i entry) (slot i work) (slot i accessed) (slot i written) (slot i named)
+    pub idle : (i : ℕ) → (i < j) ⊎ (count ≤ i) → (slot i work ≡ slot i entry) × (slot i accessed ≡ noMarks) × (slot i written ≡ noMarks) × (slot i named ≡ noMarks)
+    pub starts : (i : ℕ) → i < j → hi ≤ getD seconds i 0 → Starts tr hi (getD seconds i 0)
+
+  -- for each of them the event actions with a record from low on that lead to it are marked
+  pub record LeadingGroup (seconds : List ℕ) (count low : ℕ) (entry work : List ℕ) : Type 0 where
+    pub rest : Rest entry work
+    pub marks : (i : ℕ) → i < count → LeadingFrom tr (getD seconds i 0) low (slot i entry) (slot i work)
+    pub idle : (i : ℕ) → count ≤ i → slot i work ≡ slot i entry
+
+-- What marking for several second accesses takes.
+pub record Group (tr : List Record) (ranks seconds : List ℕ) (count : ℕ) (work : List ℕ) : Type 0 where
+  pub seconds-are : Seconds tr seconds count
+  pub ranked : ranks ≡ ranksOf tr
+  pub room : rows tr ≤ length work
+  pub clear : take (rows tr) work ≡ replicate (rows tr) 0

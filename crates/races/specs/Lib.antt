@@ -1,11 +1,13 @@
 pub mod Traces
 pub mod Leading
+pub mod Slots
 pub mod LeadingPass
 pub mod Filled
 pub mod Lists
 pub mod Paper
 pub mod Candidates
 pub mod ListPass
+pub mod Marking
 pub mod Pair
 pub mod PairSearch
 pub mod Demand

@@ -8,16 +8,14 @@ use lib.Dec.{T, leb}
 use lib.ListN.{length, drop, replicate, take}
 use lib.Seq.{sets}
 use Rattle.records.specs.declared.Record.{Record}
-use Rattle.records.specs.Records.{at, eventOf}
+use Rattle.records.specs.Records.{at}
 use Rattle.trace.specs.Reading.{Acceptable}
 use Rattle.ranks.specs.Ranks.{ranksOf}
 use Rattle.coverage.specs.Below.{upto}
 use Rattle.coverage.specs.Race.{raceb}
-use Rattle.coverage.specs.Leading.{coveredb}
 use Rattle.races.specs.Traces.{settingOf}
 use Rattle.races.specs.Leading.{rows, leadingMarks}
-use Rattle.races.specs.LeadingPass.{markedEvent}
-use Rattle.races.specs.Lists.{entry, numbers}
+use Rattle.races.specs.Lists.{shapeOf}
 use Rattle.races.specs.Candidates.{cell, startOf, Range}
 use Rattle.races.specs.Filled.{Filled}
 
@@ -38,6 +36,14 @@ module _ (tr : List Record) where
   pairsBelow short zero = []
   pairsBelow short (suc b) = pairsBelow short b ++ withSecond b (firsts (fromOf short b) b b)
 
+  -- an entry whose mark is not known yet
+  unfoldable pub raw : ℕ → ℕ → List ℕ
+  raw a b = (a + 1) ∷ (b + 1) ∷ at tr b .second ∷ shapeOf tr a b ∷ 0 ∷ []
+
+  unfoldable pub raws : List (ℕ × ℕ) → List ℕ
+  raws [] = []
+  raws ((a, b) ∷ ps) = raw a b ++ raws ps
+
 -- the event actions that lead to b are marked
 pub record Marks (tr : List Record) (ranks work : List ℕ) (b : ℕ) : Type 0 where
   pub acceptable : Acceptable tr
@@ -50,31 +56,22 @@ pub record Ranges (tr : List Record) (short : Bool) (b from to : ℕ) : Type 0 w
   pub range : Range tr b from to
   pub firsts-are : firsts tr (fromOf tr short b) b b ≡ firsts tr from b b
 
--- the mark of the event action of a, as the second access b has it
-abbrev pub MarkOf : List Record → List ℕ → List ℕ → ℕ → ℕ → Type 0
-MarkOf tr ranks work a b = markedEvent ranks work (eventOf (at tr a)) ≡ coveredb (settingOf tr) a b
-
--- from a place on the event actions that lead to b are marked
-pub record MarksFrom (tr : List Record) (ranks work : List ℕ) (b low : ℕ) : Type 0 where
-  pub tells : (a : ℕ) → low ≤ a → a < b → MarkOf tr ranks work a b
-
 -- what one pair of records asks for, and what becomes of entry k
-pub record OneRoom (tr : List Record) (ranks of : List ℕ) (width : ℕ) (clocks work : List ℕ) (a b k : ℕ) (list : List ℕ) : Type 0 where
+pub record OneRoom (tr : List Record) (ranks of : List ℕ) (width : ℕ) (clocks : List ℕ) (a b k : ℕ) (list : List ℕ) : Type 0 where
   pub filled : Filled tr ranks of width clocks
-  pub marks : MarkOf tr ranks work a b
   pub earlier : a < b
   pub inside : b < length tr
   pub space : raceb (settingOf tr) a b ≡ true → 5 * k + 5 ≤ length list
 
 abbrev pub entryIf : Bool → List Record → ℕ → ℕ → ℕ → List ℕ → List ℕ
-entryIf true tr a b k list = sets list (5 * k) (entry tr a b)
+entryIf true tr a b k list = sets list (5 * k) (raw tr a b)
 entryIf false tr a b k list = list
 
 pub record OneWrites (tr : List Record) (a b k : ℕ) (list list′ : List ℕ) (r : ℕ) : Type 0 where
   pub next : r ≡ cond (raceb (settingOf tr) a b) (k + 1) k
   pub list-is : list′ ≡ entryIf (raceb (settingOf tr) a b) tr a b k list
 
--- what a turn over one second access asks for: filled clocks, a work space with room, and list space for its entries from entry k on
+-- what a turn over one second access asks for: filled clocks, and list space for its entries from entry k on
 pub record Room (tr : List Record) (ranks of : List ℕ) (width : ℕ) (clocks : List ℕ) (b from k : ℕ) (list : List ℕ) : Type 0 where
   pub filled : Filled tr ranks of width clocks
   pub inside : b < length tr
@@ -88,12 +85,12 @@ pub record RoomIf (writing : Bool) (tr : List Record) (b from k : ℕ) (list : L
 -- its entries are written from entry k on, or only counted
 pub record Writes (writing : Bool) (tr : List Record) (b from k : ℕ) (list list′ : List ℕ) (r : ℕ) : Type 0 where
   pub next : r ≡ k + length (firsts tr from b b)
-  pub list-is : list′ ≡ cond writing (sets list (5 * k) (numbers tr (withSecond tr b (firsts tr from b b)))) list
+  pub list-is : list′ ≡ cond writing (sets list (5 * k) (raws tr (withSecond tr b (firsts tr from b b)))) list
 
 -- so are all entries
 pub record WritesAll (writing : Bool) (tr : List Record) (short : Bool) (list list′ : List ℕ) (r : ℕ) : Type 0 where
   pub count : r ≡ length (pairsBelow tr short (length tr))
-  pub list-is : list′ ≡ cond writing (sets list 0 (numbers tr (pairsBelow tr short (length tr)))) list
+  pub list-is : list′ ≡ cond writing (sets list 0 (raws tr (pairsBelow tr short (length tr)))) list
 
 -- the work space is 0 over one byte for each event action
 pub record Clear (tr : List Record) (events : ℕ) (work : List ℕ) : Type 0 where

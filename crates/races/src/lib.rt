@@ -3,6 +3,7 @@ mod candidates;
 mod cover;
 mod leading;
 mod lists;
+mod marking;
 pub mod pair;
 mod racing;
 mod workspace;

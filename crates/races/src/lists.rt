@@ -1,4 +1,4 @@
-// Both lists: for each second access, the first accesses that race with it, counted and then written.
+// Both lists: for each second access, the first accesses that race with it, counted, then written, then marked.
 use crate::Listing;
 use crate::Summary;
 use crate::candidates::first_race;
@@ -6,7 +6,7 @@ use crate::candidates::next_access;
 use crate::candidates::no_starts;
 use crate::candidates::note_access;
 use crate::candidates::way_to;
-use crate::leading;
+use crate::marking;
 use crate::racing::is_race;
 use crate::workspace;
 use order::Filling;
@@ -25,12 +25,11 @@ ghost use lib.ListN.{length, drop};
 ghost use lib.Seq.{sets};
 ghost use Rattle.records.specs.Bytes.{decode};
 ghost use Rattle.records.specs.Records.{at};
-ghost use Rattle.races.specs.Leading.{rows, leadingMarks};
 ghost use Rattle.ranks.specs.Ranks.{ranksOf};
 ghost use Rattle.order.specs.Fill.{chainsUsed};
-ghost use Rattle.races.specs.Lists.{entry, numbers, shapeOf, ListReply};
+ghost use Rattle.races.specs.Lists.{numbers, shapeOf, ListReply};
 ghost use Rattle.races.specs.Paper.{listPaper, ListsFilled, Lists};
-ghost use Rattle.races.specs.ListPass.{firsts, pairsBelow, MarkOf, MarksFrom, OneRoom, OneWrites, Clear, Room, RoomIf, Writes, WritesAll};
+ghost use Rattle.races.specs.ListPass.{firsts, pairsBelow, raw, OneRoom, OneWrites, Clear, Room, RoomIf, Writes, WritesAll};
 ghost use Rattle.races.specs.Candidates.{Range};
 ghost use Rattle.races.specs.Filled.{Filled};
 ghost use Rattle.races.specs.Traces.{isAccess};
@@ -74,29 +73,17 @@ fn shape_of(recs: &[u8], a: usize, b: usize) -> u16
     2
 }
 
-// Entry k of the list: the race of records a and b, whose event actions that lead to b are marked.
-fn put_entry(
-    recs: &[u8],
-    ranks: &[u16],
-    work: &[u8],
-    a: usize,
-    b: usize,
-    list: &mut [u16],
-    k: usize,
-)
-    requires { ⌜ MarkOf (decode (now recs)) (now ranks) (now work) a b × (a < b) × (b < 4096) × (5 * k + 5 ≤ length (now list)) ⌝ }
-    ensures { λ u. ⌜ now (list .exit) ≡ sets (now (list .entry)) (5 * k) (entry (decode (now (recs .entry))) a b) ⌝ }
+// Entry k of the list: the race of records a and b, its mark still 0.
+fn put_entry(recs: &[u8], a: usize, b: usize, list: &mut [u16], k: usize)
+    requires { ⌜ (a < b) × (b < 4096) × (5 * k + 5 ≤ length (now list)) ⌝ }
+    ensures { λ u. ⌜ now (list .exit) ≡ sets (now (list .entry)) (5 * k) (raw (decode (now (recs .entry))) a b) ⌝ }
 {
     let at = 5 * k;
     list[at] = (a + 1) as u16;
     list[at + 1] = (b + 1) as u16;
     list[at + 2] = access::second_at(recs, b);
     list[at + 3] = shape_of(recs, a, b);
-    if leading::is_leading(recs, ranks, work, a) {
-        list[at + 4] = 0;
-        return;
-    }
-    list[at + 4] = 1;
+    list[at + 4] = 0;
 }
 
 // Records a and b: entry k where they are a race. The next entry.
@@ -106,30 +93,28 @@ fn write_race(
     of: &[u16],
     width: usize,
     clocks: &[u16],
-    work: &[u8],
     a: usize,
     b: usize,
     list: &mut [u16],
     k: usize,
 ) -> usize
-    requires { ⌜ OneRoom (decode (now recs)) (now ranks) (now of) width (now clocks) (now work) a b k (now list) ⌝ }
+    requires { ⌜ OneRoom (decode (now recs)) (now ranks) (now of) width (now clocks) a b k (now list) ⌝ }
     ensures { λ r. ⌜ OneWrites (decode (now (recs .entry))) a b k (now (list .entry)) (now (list .exit)) r ⌝ }
 {
     if is_race(recs, ranks, of, width, clocks, a, b) {
-        put_entry(recs, ranks, work, a, b, list, k);
+        put_entry(recs, a, b, list, k);
         return k + 1;
     }
     k
 }
 
-// The races on the way to b, whose event actions from low on that lead to b are marked, from entry k on.
+// The races on the way to b, from entry k on.
 fn write_races(
     recs: &[u8],
     ranks: &[u16],
     of: &[u16],
     width: usize,
     clocks: &[u16],
-    work: &[u8],
     low: usize,
     to: usize,
     b: usize,
@@ -137,40 +122,15 @@ fn write_races(
     k: usize,
 ) -> usize
     requires { ⌜ Room (decode (now recs)) (now ranks) (now of) width (now clocks) b low k (now list) ⌝ }
-    requires { ⌜ Range (decode (now recs)) b low to × MarksFrom (decode (now recs)) (now ranks) (now work) b low ⌝ }
+    requires { ⌜ Range (decode (now recs)) b low to ⌝ }
     ensures { λ r. ⌜ Writes true (decode (now (recs .entry))) b low k (now (list .entry)) (now (list .exit)) r ⌝ }
 {
     let mut next = k;
     let mut a = low;
     while a < to {
-        next = write_race(recs, ranks, of, width, clocks, work, a, b, list, next);
+        next = write_race(recs, ranks, of, width, clocks, a, b, list, next);
         a = next_access(recs, a, b);
     }
-    next
-}
-
-// Marks what leads to b and writes the races on the way to b, the first of which is at low. The work space is 0 before and after.
-fn write_at(
-    recs: &[u8],
-    ranks: &[u16],
-    of: &[u16],
-    width: usize,
-    clocks: &[u16],
-    work: &mut [u8],
-    events: usize,
-    low: usize,
-    to: usize,
-    b: usize,
-    list: &mut [u16],
-    k: usize,
-) -> usize
-    requires { ⌜ Room (decode (now recs)) (now ranks) (now of) width (now clocks) b low k (now list) × Clear (decode (now recs)) events (now work) ⌝ }
-    requires { ⌜ Range (decode (now recs)) b low to × T (isAccess (at (decode (now recs)) b)) ⌝ }
-    ensures { λ r. ⌜ Writes true (decode (now (recs .entry))) b low k (now (list .entry)) (now (list .exit)) r × (now (work .exit) ≡ now (work .entry)) ⌝ }
-{
-    leading::mark_leading(recs, ranks, low, b, work);
-    let next = write_races(recs, ranks, of, width, clocks, work, low, to, b, list, k);
-    workspace::clear_marks(work, events);
     next
 }
 
@@ -181,8 +141,6 @@ fn list_at(
     of: &[u16],
     width: usize,
     clocks: &[u16],
-    work: &mut [u8],
-    events: usize,
     from: usize,
     to: usize,
     b: usize,
@@ -191,30 +149,17 @@ fn list_at(
     writing: bool,
 ) -> usize
     requires { ⌜ Filled (decode (now recs)) (now ranks) (now of) width (now clocks) × (b < length (decode (now recs))) × Range (decode (now recs)) b from to ⌝ }
-    requires { ⌜ RoomIf writing (decode (now recs)) b from k (now list) × Clear (decode (now recs)) events (now work) ⌝ }
-    ensures { λ r. ⌜ Writes writing (decode (now (recs .entry))) b from k (now (list .entry)) (now (list .exit)) r × (now (work .exit) ≡ now (work .entry)) ⌝ }
+    requires { ⌜ RoomIf writing (decode (now recs)) b from k (now list) ⌝ }
+    ensures { λ r. ⌜ Writes writing (decode (now (recs .entry))) b from k (now (list .entry)) (now (list .exit)) r ⌝ }
 {
     let low = first_race(recs, ranks, of, width, clocks, from, to, b);
     if to <= low {
         return k;
     }
-    if !writing {
-        return k + count_at(recs, ranks, of, width, clocks, low, to, b);
+    if writing {
+        return write_races(recs, ranks, of, width, clocks, low, to, b, list, k);
     }
-    write_at(
-        recs,
-        ranks,
-        of,
-        width,
-        clocks,
-        work,
-        events,
-        low,
-        to,
-        b,
-        list,
-        k,
-    )
+    k + count_at(recs, ranks, of, width, clocks, low, to, b)
 }
 
 // All entries, written or only counted; their number.
@@ -224,14 +169,12 @@ fn list_all(
     of: &[u16],
     width: usize,
     clocks: &[u16],
-    work: &mut [u8],
-    events: usize,
     list: &mut [u16],
     short: bool,
     writing: bool,
 ) -> usize
-    requires { ⌜ Filled (decode (now recs)) (now ranks) (now of) width (now clocks) × Clear (decode (now recs)) events (now work) × (T writing → 5 * length (pairsBelow (decode (now recs)) short (length (decode (now recs)))) ≤ length (now list)) ⌝ }
-    ensures { λ r. ⌜ WritesAll writing (decode (now (recs .entry))) short (now (list .entry)) (now (list .exit)) r × (now (work .exit) ≡ now (work .entry)) ⌝ }
+    requires { ⌜ Filled (decode (now recs)) (now ranks) (now of) width (now clocks) × (T writing → 5 * length (pairsBelow (decode (now recs)) short (length (decode (now recs)))) ≤ length (now list)) ⌝ }
+    ensures { λ r. ⌜ WritesAll writing (decode (now (recs .entry))) short (now (list .entry)) (now (list .exit)) r ⌝ }
 {
     let n = access::count(recs);
     let mut starts = no_starts();
@@ -258,8 +201,6 @@ fn list_all(
             of,
             width,
             clocks,
-            work,
-            events,
             way.from,
             way.to,
             b,
@@ -279,6 +220,29 @@ fn list_all(
         b += 1;
     }
     k
+}
+
+// Writes the entries found, and marks them.
+fn write_all(
+    recs: &[u8],
+    ranks: &[u16],
+    of: &[u16],
+    width: usize,
+    clocks: &[u16],
+    work: &mut [u8],
+    events: usize,
+    list: &mut [u16],
+    short: bool,
+    found: usize,
+)
+    requires { ⌜ Filled (decode (now recs)) (now ranks) (now of) width (now clocks) × Clear (decode (now recs)) events (now work) × (found ≡ length (pairsBelow (decode (now recs)) short (length (decode (now recs))))) × (5 * found ≤ length (now list)) ⌝ }
+    ensures { λ u. ⌜ (now (list .exit) ≡ sets (now (list .entry)) 0 (numbers (decode (now (recs .entry))) (pairsBelow (decode (now (recs .entry))) short (length (decode (now (recs .entry))))))) × (now (work .exit) ≡ now (work .entry)) ⌝ }
+{
+    if found == 0 {
+        return;
+    }
+    list_all(recs, ranks, of, width, clocks, list, short, true);
+    marking::mark_all(recs, ranks, work, events, list, found);
 }
 
 fn refused(number: u16) -> Listing
@@ -306,22 +270,11 @@ fn list_filled(
     ensures { λ r. ⌜ ListsFilled short (decode (now (recs .entry))) events (now (work .entry)) (now (work .exit)) (now (list .entry)) (now (list .exit)) r ⌝ }
 {
     let all = ranks(recs);
-    let found = list_all(
-        recs,
-        &all,
-        of,
-        width,
-        clocks,
-        work,
-        events,
-        list,
-        short,
-        false,
-    );
+    let found = list_all(recs, &all, of, width, clocks, list, short, false);
     if list.len() / 5 < found {
         return refused(trace::LIST_SPACE);
     }
-    list_all(
+    write_all(
         recs,
         &all,
         of,
@@ -331,7 +284,7 @@ fn list_filled(
         events,
         list,
         short,
-        true,
+        found,
     );
     Listing::Listed(Summary {
         events: events,

@@ -1,8 +1,6 @@
-use Rattle.races.proofs.NoteLaws.{says-led}
-use Rattle.races.proofs.PassLaws.{passes-by, passes-led}
-use borrow.Author.Tests.{not-true, not-false}
+use Rattle.races.proofs.GroupLaws.{led-waits, goes-by, goes-one, rest-none, rest-one}
+use lib.Bits.{bitOr}
 use Prim.Native.Nat.{_<_}
-use mathlib.Core.Path.{_∙_}
 use native.Mathlib.Omega.{arith}
 use denote.Ref.{now}
 use Rattle.records.specs.Bytes.{decode}
@@ -16,8 +14,11 @@ block-before-requires c κs = search needs
 first-at-requires : tie.Need-first-at-requires
 first-at-requires c κs = search needs
 
-is-led-requires : tie.Need-is-led-requires
-is-led-requires c κs = search needs
+cast-marks-at : tie.Need-cast-marks-at
+cast-marks-at c = search needs
+
+marks-at-requires : tie.Need-marks-at-requires
+marks-at-requires c κs = search needs
 
 same-length : tie.Need-same-length
 same-length c = search needs
@@ -33,19 +34,14 @@ same-length-4 c = search needs
 
 returns : tie.Need-returns
 returns c =
-    let block = c .before .before .before .before .block-before in
-    let l : block .result .lo < c .before .before .before .before .before .before .before .before .before .before .before .before .before .before .args .hi = omega (arith, block .ensures .0 .low, c .before .before .before .before .before .before .before .before .before .before .before .before .before .before .pre .2) in
-    let d = says-led (decode (now (c .before .before .before .before .before .before .before .before .before .before .before .before .before .before .args .recs))) (now (c .before .before .before .before .before .before .before .before .before .before .before .before .before .before .args .ranks)) (now (c .before .before .before .before .before .before .before .before .before .before .before .before .before .before .args .work)) (now (c .before .before .before .before .before .before .before .before .before .before .before .before .before .before .args .accessed)) (now (c .before .before .before .before .before .before .before .before .before .before .before .before .before .before .args .written)) (now (c .before .before .before .before .before .before .before .before .before .before .before .before .before .before .args .named)) (block .result .lo) (c .before .before .before .before .before .before .before .before .before .before .before .before .before .before .args .hi) (block .result .led) (block .ensures .1) (c .before .is-led .result) (c .before .is-led .ensures ∙ simp (c .before .before .before .first-at .ensures)) in
-    (l, passes-by (c .before .before .before .before .before .before .before .before .before .before .before .before .before .before .pre .0) (now (c .before .before .before .before .before .before .before .before .before .before .before .before .before .before .args .ranks)) (c .before .before .before .before .before .before .before .before .before .before .before .before .before .before .pre .1) _ _ _ _ (c .before .is-led .result) (block .result .lo) (c .before .before .before .before .before .before .before .before .before .before .before .before .before .before .args .hi) l (block .ensures .0) d (not-true (c .before .is-led .result) (c .if1 .taken)))
+    let block = c .before .before .before .before .before .block-before in
+    let p = c .before .before .before .before .before .before .before .before .before .before .before .before .before .before .before .pre in
+    let l : block .result .lo < c .before .before .before .before .before .before .before .before .before .before .before .before .before .before .before .args .hi = omega (arith, block .ensures .0 .low, p .2) in
+    let d = led-waits (decode (now (c .before .before .before .before .before .before .before .before .before .before .before .before .before .before .before .args .recs))) (now (c .before .before .before .before .before .before .before .before .before .before .before .before .before .before .before .args .ranks)) (now (c .before .before .before .before .before .before .before .before .before .before .before .before .before .before .before .args .work)) (now (c .before .before .before .before .before .before .before .before .before .before .before .before .before .before .before .args .accessed)) (now (c .before .before .before .before .before .before .before .before .before .before .before .before .before .before .before .args .written)) (now (c .before .before .before .before .before .before .before .before .before .before .before .before .before .before .before .args .named)) (block .result .lo) (c .before .before .before .before .before .before .before .before .before .before .before .before .before .before .before .args .hi) (block .result .led) (block .ensures .1) (c .before .before .before .first-at .result) (c .before .before .before .first-at .ensures) (c .before .before .marks-at .result) (c .before .before .marks-at .ensures) in
+    (block .ensures .0, rest-none _ _, goes-by (p .0) (now (c .before .before .before .before .before .before .before .before .before .before .before .before .before .before .before .args .ranks)) (p .1) (now (c .before .before .before .before .before .before .before .before .before .before .before .before .before .before .before .args .work)) (now (c .before .before .before .before .before .before .before .before .before .before .before .before .before .before .before .args .accessed)) (now (c .before .before .before .before .before .before .before .before .before .before .before .before .before .before .before .args .written)) (now (c .before .before .before .before .before .before .before .before .before .before .before .before .before .before .before .args .named)) (block .result .lo) (c .before .before .before .before .before .before .before .before .before .before .before .before .before .before .before .args .hi) (bitOr (block .result .led) (c .before .before .marks-at .result)) l (p .3) (block .ensures .0) d (c .if1 .taken))
 
-row-of-requires : tie.Need-row-of-requires
-row-of-requires c κs = search needs
-
-set-mark-requires : tie.Need-set-mark-requires
-set-mark-requires c κs = search needs
-
-keep-requires : tie.Need-keep-requires
-keep-requires c κs = search needs
+take-in-requires : tie.Need-take-in-requires
+take-in-requires c κs = search needs
 
 same-length-5 : tie.Need-same-length-5
 same-length-5 c = search needs
@@ -61,11 +57,12 @@ same-length-8 c = search needs
 
 returns-2 : tie.Need-returns-2
 returns-2 c =
-    let block = c .before .before .before .before .before .before .before .before .before .before .before .before .before .before .before .before .before .before .before .block-before in
-    let l : block .result .lo < c .before .before .before .before .before .before .before .before .before .before .before .before .before .before .before .before .before .before .before .before .before .before .before .before .before .before .before .before .before .args .hi = omega (arith, block .ensures .0 .low, c .before .before .before .before .before .before .before .before .before .before .before .before .before .before .before .before .before .before .before .before .before .before .before .before .before .before .before .before .before .pre .2) in
-    let d = says-led (decode (now (c .before .before .before .before .before .before .before .before .before .before .before .before .before .before .before .before .before .before .before .before .before .before .before .before .before .before .before .before .before .args .recs))) (now (c .before .before .before .before .before .before .before .before .before .before .before .before .before .before .before .before .before .before .before .before .before .before .before .before .before .before .before .before .before .args .ranks)) (now (c .before .before .before .before .before .before .before .before .before .before .before .before .before .before .before .before .before .before .before .before .before .before .before .before .before .before .before .before .before .args .work)) (now (c .before .before .before .before .before .before .before .before .before .before .before .before .before .before .before .before .before .before .before .before .before .before .before .before .before .before .before .before .before .args .accessed)) (now (c .before .before .before .before .before .before .before .before .before .before .before .before .before .before .before .before .before .before .before .before .before .before .before .before .before .before .before .before .before .args .written)) (now (c .before .before .before .before .before .before .before .before .before .before .before .before .before .before .before .before .before .before .before .before .before .before .before .before .before .before .before .before .before .args .named)) (block .result .lo) (c .before .before .before .before .before .before .before .before .before .before .before .before .before .before .before .before .before .before .before .before .before .before .before .before .before .before .before .before .before .args .hi) (block .result .led) (block .ensures .1) (c .before .before .before .before .before .before .before .before .before .before .before .before .before .before .before .before .is-led .result) (c .before .before .before .before .before .before .before .before .before .before .before .before .before .before .before .before .is-led .ensures ∙ simp (c .before .before .before .before .before .before .before .before .before .before .before .before .before .before .before .before .before .before .first-at .ensures)) in
-    let k = c .before .before .before .before .before .before .keep .ensures in
-    (l, passes-led (c .before .before .before .before .before .before .before .before .before .before .before .before .before .before .before .before .before .before .before .before .before .before .before .before .before .before .before .before .before .pre .0) (now (c .before .before .before .before .before .before .before .before .before .before .before .before .before .before .before .before .before .before .before .before .before .before .before .before .before .before .before .before .before .args .ranks)) (c .before .before .before .before .before .before .before .before .before .before .before .before .before .before .before .before .before .before .before .before .before .before .before .before .before .before .before .before .before .pre .1) _ _ _ _ (c .before .before .before .before .before .before .before .before .before .before .before .before .before .before .before .before .is-led .result) (block .result .lo) (c .before .before .before .before .before .before .before .before .before .before .before .before .before .before .before .before .before .before .before .before .before .before .before .before .before .before .before .before .before .args .hi) l (block .ensures .0) d (not-false (c .before .before .before .before .before .before .before .before .before .before .before .before .before .before .before .before .is-led .result) (c .before .before .before .before .before .before .before .before .before .before .before .before .before .before .before .if1 .left)) _ _ _ _ (c .before .before .before .before .before .before .before .before .before .before .before .before .set-mark .ensures ∙ simp (c .before .before .before .before .before .before .before .before .before .before .before .before .before .row-of .ensures, c .before .before .before .before .before .before .before .before .before .before .before .before .before .before .before .before .before .before .first-at .ensures)) (k .0) (k .1) (k .2))
+    let block = c .before .before .before .before .before .before .before .before .before .before .before .before .before .before .before .before .before .before .block-before in
+    let p = c .before .before .before .before .before .before .before .before .before .before .before .before .before .before .before .before .before .before .before .before .before .before .before .before .before .before .before .before .pre in
+    let l : block .result .lo < c .before .before .before .before .before .before .before .before .before .before .before .before .before .before .before .before .before .before .before .before .before .before .before .before .before .before .before .before .args .hi = omega (arith, block .ensures .0 .low, p .2) in
+    let d = led-waits (decode (now (c .before .before .before .before .before .before .before .before .before .before .before .before .before .before .before .before .before .before .before .before .before .before .before .before .before .before .before .before .args .recs))) (now (c .before .before .before .before .before .before .before .before .before .before .before .before .before .before .before .before .before .before .before .before .before .before .before .before .before .before .before .before .args .ranks)) (now (c .before .before .before .before .before .before .before .before .before .before .before .before .before .before .before .before .before .before .before .before .before .before .before .before .before .before .before .before .args .work)) (now (c .before .before .before .before .before .before .before .before .before .before .before .before .before .before .before .before .before .before .before .before .before .before .before .before .before .before .before .before .args .accessed)) (now (c .before .before .before .before .before .before .before .before .before .before .before .before .before .before .before .before .before .before .before .before .before .before .before .before .before .before .before .before .args .written)) (now (c .before .before .before .before .before .before .before .before .before .before .before .before .before .before .before .before .before .before .before .before .before .before .before .before .before .before .before .before .args .named)) (block .result .lo) (c .before .before .before .before .before .before .before .before .before .before .before .before .before .before .before .before .before .before .before .before .before .before .before .before .before .before .before .before .args .hi) (block .result .led) (block .ensures .1) (c .before .before .before .before .before .before .before .before .before .before .before .before .before .before .before .before .first-at .result) (c .before .before .before .before .before .before .before .before .before .before .before .before .before .before .before .before .first-at .ensures) (c .before .before .before .before .before .before .before .before .before .before .before .before .before .before .before .marks-at .result) (c .before .before .before .before .before .before .before .before .before .before .before .before .before .before .before .marks-at .ensures) in
+    let t = c .before .before .before .before .before .before .before .before .take-in .ensures in
+    (block .ensures .0, rest-one (p .0) (now (c .before .before .before .before .before .before .before .before .before .before .before .before .before .before .before .before .before .before .before .before .before .before .before .before .before .before .before .before .args .ranks)) (p .1) (now (c .before .before .before .before .before .before .before .before .before .before .before .before .before .before .before .before .before .before .before .before .before .before .before .before .before .before .before .before .args .work)) (now (c .before .before .before .before .before .before .before .before .before .before .before .before .before .before .before .before .before .before .before .before .before .before .before .before .before .before .before .before .args .accessed)) (now (c .before .before .before .before .before .before .before .before .before .before .before .before .before .before .before .before .before .before .before .before .before .before .before .before .before .before .before .before .args .written)) (now (c .before .before .before .before .before .before .before .before .before .before .before .before .before .before .before .before .before .before .before .before .before .before .before .before .before .before .before .before .args .named)) (block .result .lo) (c .before .before .before .before .before .before .before .before .before .before .before .before .before .before .before .before .before .before .before .before .before .before .before .before .before .before .before .before .args .hi) (bitOr (block .result .led) (c .before .before .before .before .before .before .before .before .before .before .before .before .before .before .before .marks-at .result)) l (p .3) (block .ensures .0) d (t .0), goes-one (p .0) (now (c .before .before .before .before .before .before .before .before .before .before .before .before .before .before .before .before .before .before .before .before .before .before .before .before .before .before .before .before .args .ranks)) (p .1) (now (c .before .before .before .before .before .before .before .before .before .before .before .before .before .before .before .before .before .before .before .before .before .before .before .before .before .before .before .before .args .work)) (now (c .before .before .before .before .before .before .before .before .before .before .before .before .before .before .before .before .before .before .before .before .before .before .before .before .before .before .before .before .args .accessed)) (now (c .before .before .before .before .before .before .before .before .before .before .before .before .before .before .before .before .before .before .before .before .before .before .before .before .before .before .before .before .args .written)) (now (c .before .before .before .before .before .before .before .before .before .before .before .before .before .before .before .before .before .before .before .before .before .before .before .before .before .before .before .before .args .named)) (block .result .lo) (c .before .before .before .before .before .before .before .before .before .before .before .before .before .before .before .before .before .before .before .before .before .before .before .before .before .before .before .before .args .hi) (bitOr (block .result .led) (c .before .before .before .before .before .before .before .before .before .before .before .before .before .before .before .marks-at .result)) l (p .3) (block .ensures .0) d _ _ _ _ (t .0) (t .1))
 
 pub pass-spec : {M : Type 1} → statement M
 pass-spec =
@@ -73,15 +70,14 @@ pass-spec =
     (tie.spec
     block-before-requires
     first-at-requires
-    is-led-requires
+    cast-marks-at
+    marks-at-requires
     same-length
     same-length-2
     same-length-3
     same-length-4
     returns
-    row-of-requires
-    set-mark-requires
-    keep-requires
+    take-in-requires
     same-length-5
     same-length-6
     same-length-7

@@ -1,5 +1,6 @@
-use Rattle.races.proofs.ListEnds.{all-refused, all-clear, all-room, all-listed}
+use Rattle.races.proofs.ListEnds.{all-refused, all-listed}
 use Rattle.records.specs.Bytes.{decode}
+use native.Mathlib.Omega.{arith}
 use mathlib.Core.Path.{refl}
 use denote.Ref.{now}
 use borrow.Author.Needs.{needs}
@@ -21,34 +22,26 @@ refused-requires c κs = search needs
 same-length : tie.Need-same-length
 same-length c = search needs
 
-same-length-2 : tie.Need-same-length-2
-same-length-2 c = search needs
-
 returns : tie.Need-returns
-returns c = all-refused (decode (now (c .before .before .before .before .before .before .before .before .before .before .before .before .before .before .before .before .args .recs))) (c .before .before .before .before .before .before .before .before .before .before .before .before .before .before .before .before .args .short) (c .before .before .before .before .before .before .before .before .before .before .before .before .before .before .before .before .args .events) (c .before .before .before .before .before .before .list-all .ensures .0) (c .before .before .before .before .before .before .list-all .ensures .1) (c .before .if1 .taken) _ (c .refused .ensures)
+returns c = all-refused (decode (now (c .before .before .before .before .before .before .before .before .before .before .before .before .before .args .recs))) (c .before .before .before .before .before .before .before .before .before .before .before .before .before .args .short) (c .before .before .before .before .before .before .before .before .before .before .before .before .before .args .events) (c .before .before .before .before .list-all .ensures) (now (c .before .before .before .before .before .before .before .before .before .before .before .before .before .args .work)) (c .before .if1 .taken) _ (c .refused .ensures)
 
-slice-aggregate-list-all-2 : tie.Need-slice-aggregate-list-all-2
-slice-aggregate-list-all-2 c = search needs
+slice-aggregate-write-all : tie.Need-slice-aggregate-write-all
+slice-aggregate-write-all c = search needs
 
-list-all-requires-2 : tie.Need-list-all-requires-2
-list-all-requires-2 c κs =
-    let w = c .before .before .before .before .before .before .before .before .list-all .ensures in
-    (rw (c .before .before .before .before .before .before .before .before .before .before .before .before .ranks .ensures) (c .before .before .before .before .before .before .before .before .before .before .before .before .before .before .before .before .before .before .pre .0), all-clear (decode (now (c .before .before .before .before .before .before .before .before .before .before .before .before .before .before .before .before .before .before .args .recs))) (c .before .before .before .before .before .before .before .before .before .before .before .before .before .before .before .before .before .before .args .short) (c .before .before .before .before .before .before .before .before .before .before .before .before .before .before .before .before .before .before .args .events) (w .0) (w .1) (c .before .before .before .before .before .before .before .before .before .before .before .before .before .before .before .before .before .before .pre .1), λ t. all-room (decode (now (c .before .before .before .before .before .before .before .before .before .before .before .before .before .before .before .before .before .before .args .recs))) (c .before .before .before .before .before .before .before .before .before .before .before .before .before .before .before .before .before .before .args .short) (c .before .before .before .before .before .before .before .before .before .before .before .before .before .before .before .before .before .before .args .events) (w .0) (w .1) (c .before .before .before .if1 .left))
+write-all-requires : tie.Need-write-all-requires
+write-all-requires c κs = let p = c .before .before .before .before .before .before .before .before .before .before .before .before .before .before .before .pre in let w = c .before .before .before .before .before .before .list-all .ensures in let t = c .before .before .before .if1 .left in (rw (c .before .before .before .before .before .before .before .before .before .ranks .ensures) (p .0), p .1, w .count, omega arith)
 
 count-requires : tie.Need-count-requires
 count-requires c κs = search needs
 
+same-length-2 : tie.Need-same-length-2
+same-length-2 c = search needs
+
 same-length-3 : tie.Need-same-length-3
 same-length-3 c = search needs
 
-same-length-4 : tie.Need-same-length-4
-same-length-4 c = search needs
-
 returns-2 : tie.Need-returns-2
-returns-2 c =
-    let w = c .before .before .before .before .before .before .before .before .before .before .before .before .before .before .list-all .ensures in
-    let v = c .before .before .before .before .before .list-all2 .ensures in
-    all-listed (decode (now (c .before .before .before .before .before .before .before .before .before .before .before .before .before .before .before .before .before .before .before .before .before .before .before .before .args .recs))) (c .before .before .before .before .before .before .before .before .before .before .before .before .before .before .before .before .before .before .before .before .before .before .before .before .args .short) (c .before .before .before .before .before .before .before .before .before .before .before .before .before .before .before .before .before .before .before .before .before .before .before .before .args .events) (w .0) (w .1) (c .before .before .before .before .before .before .before .before .before .if1 .left) (v .0) (v .1) (c .count .result) (c .before .before .before .before .before .before .before .before .before .before .before .before .before .before .before .before .before .before .before .before .before .before .before .before .args .chains) (c .count .ensures) (c .before .before .before .before .before .before .before .before .before .before .before .before .before .before .before .before .before .before .before .before .before .before .before .before .pre .2) _ refl
+returns-2 c = all-listed (decode (now (c .before .before .before .before .before .before .before .before .before .before .before .before .before .before .before .before .before .before .before .before .before .args .recs))) (c .before .before .before .before .before .before .before .before .before .before .before .before .before .before .before .before .before .before .before .before .before .args .short) (c .before .before .before .before .before .before .before .before .before .before .before .before .before .before .before .before .before .before .before .before .before .args .events) (c .before .before .before .before .before .before .before .before .before .before .before .before .list-all .ensures) (c .before .before .before .before .before .before .before .before .before .if1 .left) (c .before .before .before .before .before .write-all .ensures .0) (c .before .before .before .before .before .write-all .ensures .1) (c .count .result) (c .before .before .before .before .before .before .before .before .before .before .before .before .before .before .before .before .before .before .before .before .before .args .chains) (c .count .ensures) (c .before .before .before .before .before .before .before .before .before .before .before .before .before .before .before .before .before .before .before .before .before .pre .2) _ refl
 
 pub list-filled-spec : {M : Type 1} → statement M
 list-filled-spec =
@@ -59,11 +52,10 @@ list-filled-spec =
     list-all-requires
     refused-requires
     same-length
-    same-length-2
     returns
-    slice-aggregate-list-all-2
-    list-all-requires-2
+    slice-aggregate-write-all
+    write-all-requires
     count-requires
+    same-length-2
     same-length-3
-    same-length-4
     returns-2)

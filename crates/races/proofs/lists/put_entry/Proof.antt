@@ -1,10 +1,7 @@
--- `races::lists::put_entry` meets its contract.
--- Assumes nothing.
-use Rattle.races.proofs.EntryStores.{entry-stores, covered-mark, open-mark}
+use Rattle.races.proofs.EntryStores.{raw-stores}
 use Rattle.records.specs.Bytes.{decode}
 use lib.ListN.{length-set}
 use native.Mathlib.Omega.{arith}
-use mathlib.Core.Path.{sym, _∙_}
 use denote.Ref.{now}
 use borrow.Author.Needs.{needs}
 use Rattle.races.proofs.lists.put_entry.Statement.{statement}
@@ -38,7 +35,7 @@ mul-list-2 : tie.Need-mul-list-2
 mul-list-2 c = search needs
 
 slice-write-list-2 : tie.Need-slice-write-list-2
-slice-write-list-2 c = simp length-set (omega (arith, c .before .before .before .before .pre .3))
+slice-write-list-2 c = simp length-set (omega (arith, c .before .before .pre .2))
 
 second-at-requires : tie.Need-second-at-requires
 second-at-requires c κs = search needs
@@ -50,7 +47,7 @@ mul-list-3 : tie.Need-mul-list-3
 mul-list-3 c = search needs
 
 slice-write-list-3 : tie.Need-slice-write-list-3
-slice-write-list-3 c = simp length-set (omega (arith, c .before .before .before .before .before .pre .3))
+slice-write-list-3 c = simp length-set (omega (arith, c .before .before .before .pre .2))
 
 shape-of-requires : tie.Need-shape-of-requires
 shape-of-requires c κs = search needs
@@ -62,10 +59,7 @@ mul-list-4 : tie.Need-mul-list-4
 mul-list-4 c = search needs
 
 slice-write-list-4 : tie.Need-slice-write-list-4
-slice-write-list-4 c = simp length-set (omega (arith, c .before .before .before .before .before .before .pre .3))
-
-is-leading-requires : tie.Need-is-leading-requires
-is-leading-requires c κs = search needs
+slice-write-list-4 c = simp length-set (omega (arith, c .before .before .before .before .pre .2))
 
 add-list-6 : tie.Need-add-list-6
 add-list-6 c = search needs
@@ -74,32 +68,13 @@ mul-list-5 : tie.Need-mul-list-5
 mul-list-5 c = search needs
 
 slice-write-list-5 : tie.Need-slice-write-list-5
-slice-write-list-5 c = simp length-set (omega (arith, c .before .before .before .before .before .before .before .before .pre .3))
+slice-write-list-5 c = simp length-set (omega (arith, c .before .before .before .before .pre .2))
 
 same-length : tie.Need-same-length
 same-length c = search needs
 
 returns : tie.Need-returns
-returns c =
-    let tr = decode (now (c .before .before .before .before .before .before .before .before .args .recs)) in
-    entry-stores tr _ _ _ _ _ _ _ (c .before .before .before .second-at .ensures) (c .before .before .shape-of .ensures) (covered-mark tr (c .before .before .before .before .before .before .before .before .args .a) (c .before .before .before .before .before .before .before .before .args .b) (sym (c .before .before .before .before .before .before .before .before .pre .0) ∙ (sym (c .before .is-leading .ensures) ∙ c .if1 .taken)))
-
-add-list-7 : tie.Need-add-list-7
-add-list-7 c = search needs
-
-mul-list-6 : tie.Need-mul-list-6
-mul-list-6 c = search needs
-
-slice-write-list-6 : tie.Need-slice-write-list-6
-slice-write-list-6 c = simp length-set (omega (arith, c .before .before .before .before .before .before .before .before .pre .3))
-
-same-length-2 : tie.Need-same-length-2
-same-length-2 c = search needs
-
-returns-2 : tie.Need-returns-2
-returns-2 c =
-    let tr = decode (now (c .before .before .before .before .before .before .before .before .args .recs)) in
-    entry-stores tr _ _ _ _ _ _ _ (c .before .before .before .second-at .ensures) (c .before .before .shape-of .ensures) (open-mark tr (c .before .before .before .before .before .before .before .before .args .a) (c .before .before .before .before .before .before .before .before .args .b) (sym (c .before .before .before .before .before .before .before .before .pre .0) ∙ (sym (c .before .is-leading .ensures) ∙ c .if1 .left)))
+returns c = raw-stores (decode (now (c .before .before .before .before .args .recs))) _ _ _ _ _ _ (c .before .second-at .ensures) (c .shape-of .ensures)
 
 pub put-entry-spec : {M : Type 1} → statement M
 put-entry-spec =
@@ -123,14 +98,8 @@ put-entry-spec =
     add-list-5
     mul-list-4
     slice-write-list-4
-    is-leading-requires
     add-list-6
     mul-list-5
     slice-write-list-5
     same-length
-    returns
-    add-list-7
-    mul-list-6
-    slice-write-list-6
-    same-length-2
-    returns-2)
+    returns)

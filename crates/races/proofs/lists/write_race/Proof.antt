@@ -1,5 +1,3 @@
--- `races::lists::write_race` meets its contract.
--- Assumes nothing.
 use native.Mathlib.Omega.{arith}
 use mathlib.Core.Path.{refl, sym, _∙_}
 use Prim.Native.Nat.{_<_}
@@ -12,13 +10,13 @@ is-race-requires c κs = search needs
 
 put-entry-requires : tie.Need-put-entry-requires
 put-entry-requires c κs =
-    let m = c .before .before .before .before .before .before .before .before .before .pre in
+    let m = c .before .before .before .before .before .before .before .before .pre in
     let e = sym (c .before .before .is-race .ensures) ∙ c .before .if1 .taken in
-    let h : c .before .before .before .before .before .before .before .before .before .args .b < 4096 = omega (arith, m .inside, m .filled .acceptable .few) in
-    (m .marks, c .before .before .before .before .before .before .before .before .before .pre .earlier, h, c .before .before .before .before .before .before .before .before .before .pre .space e)
+    let h : c .before .before .before .before .before .before .before .before .args .b < 4096 = omega (arith, m .inside, m .filled .acceptable .few) in
+    (m .earlier, h, m .space e)
 
 add-result : tie.Need-add-result
-add-result c = omega (arith, c .before .before .before .before .before .before .before .before .before .before .before .before .pre .space (sym (c .before .before .before .before .before .is-race .ensures) ∙ c .before .before .before .before .if1 .taken), c .before .before .before .before .before .before .before .before .before .before .before .before .good .1 .1 .1 .1 .1 .1 .1 .1 .0)
+add-result c = omega (arith, c .before .before .before .before .before .before .before .before .before .before .before .pre .space (sym (c .before .before .before .before .before .is-race .ensures) ∙ c .before .before .before .before .if1 .taken), c .before .before .before .before .before .before .before .before .before .before .before .good .1 .1 .1 .1 .1 .1 .1 .0)
 
 same-length : tie.Need-same-length
 same-length c = search needs
