@@ -25,7 +25,7 @@ use Rattle.coverage.specs.Race.{raceb}
 use Rattle.coverage.specs.Neighbours.{conflicts}
 use Rattle.coverage.proofs.Tests.{both, and, either, or-left, or-right, eq→eqb}
 use Rattle.races.specs.Traces.{isAccess, cellsOf, settingOf}
-use Rattle.races.specs.Candidates.{isStart, isOrdered, cell, accesses, startOf, Starts, Upto, Quiet, Last, Lasts, isNoted, Ends, RaceEnd, NextAccess, On, Jump, FirstRace}
+use Rattle.races.specs.Candidates.{isStart, isOrdered, cell, accesses, startOf, Starts, Upto, Quiet, Last, Lasts, Ends, NextAccess, On, Jump, FirstRace}
 use Rattle.order.specs.HappensBefore.{happensBefore}
 use Rattle.races.proofs.Instance.{laws, access-kind}
 
@@ -286,26 +286,26 @@ module _ (tr : List Record) where
   pub scan-end : {a b i : ℕ} → NextAccess tr i a i → i ≤ b → b ≤ i → NextAccess tr b a i
   scan-end w l k = record { ahead = w .ahead; high = l; same = λ m. absurd (omega arith); none = w .none }
 
-  -- The last accesses before b, or the last writes, one record after the other.
-  pub ends-none : (writes : Bool) → Ends tr writes 0 noMarks
+  -- The last writes before b, one record after the other.
+  pub ends-none : Ends tr 0 noMarks
   unfolding noMarks
-  ends-none writes = record { size = length-replicate {A = ℕ} 1025 0; high = λ c l. rw (getD-replicate {A = ℕ} 1025 c 0 0 l) (omega arith); none = λ c l x h k t q. omega arith }
+  ends-none = record { size = length-replicate {A = ℕ} 1025 0; high = λ c l. rw (getD-replicate {A = ℕ} 1025 c 0 0 l) (omega arith); none = λ c l x h k t q. omega arith }
 
-  pub ends-next : {writes : Bool} {i : ℕ} {ends : List ℕ} → cell tr i < 1025 → Ends tr writes i ends → (ends′ : List ℕ) → ends′ ≡ cond (isNoted writes (at tr i)) (set ends (cell tr i) (i + 1)) ends → Ends tr writes (i + 1) ends′
-  ends-next {writes} {i} {ends} low w ends′ e = rw next (go (isNoted writes (at tr i)) refl e)
+  pub ends-next : {i : ℕ} {ends : List ℕ} → cell tr i < 1025 → Ends tr i ends → (ends′ : List ℕ) → ends′ ≡ cond (isWrite (at tr i)) (set ends (cell tr i) (i + 1)) ends → Ends tr (i + 1) ends′
+  ends-next {i} {ends} low w ends′ e = rw next (go (isWrite (at tr i)) refl e)
     where
       next : i + 1 ≡ suc i
       next = omega arith
 
       -- at a cell that record i does not access, or not that way
-      still : (c : ℕ) → c < 1025 → (T (isNoted writes (at tr i)) → cell tr i ≡ c → ⊥) → (x : ℕ) → getD ends c 0 ≤ x → x < suc i → T (isNoted writes (at tr x)) → cell tr x ≡ c → ⊥
+      still : (c : ℕ) → c < 1025 → (T (isWrite (at tr i)) → cell tr i ≡ c → ⊥) → (x : ℕ) → getD ends c 0 ≤ x → x < suc i → T (isWrite (at tr x)) → cell tr x ≡ c → ⊥
       still c l n x h k t q = past (eq-or-lt-of-le (le-of-suc-le-suc k))
         where
           past : (x ≡ i) ⊎ (x < i) → ⊥
-          past (inl z) = n (subst (λ (y : ℕ). T (isNoted writes (at tr y))) z t) (subst (λ (y : ℕ). cell tr y ≡ c) z q)
+          past (inl z) = n (subst (λ (y : ℕ). T (isWrite (at tr y))) z t) (subst (λ (y : ℕ). cell tr y ≡ c) z q)
           past (inr m) = w .none c l x h m t q
 
-      go : (t : Bool) → isNoted writes (at tr i) ≡ t → ends′ ≡ cond t (set ends (cell tr i) (i + 1)) ends → Ends tr writes (suc i) ends′
+      go : (t : Bool) → isWrite (at tr i) ≡ t → ends′ ≡ cond t (set ends (cell tr i) (i + 1)) ends → Ends tr (suc i) ends′
       go true f p = record { size = ap length p ∙ (length-set ends (cell tr i) (i + 1) ∙ w .size); high = λ c l. rw p (high c l (ℕ-discrete c (cell tr i))); none = λ c l x h k t q. none c l x (rw p at h) k t q (ℕ-discrete c (cell tr i)) }
         where
           here : getD (set ends (cell tr i) (i + 1)) (cell tr i) 0 ≡ i + 1
@@ -315,32 +315,10 @@ module _ (tr : List Record) where
           high c l (yes d) = rw d (omega (arith, here))
           high c l (no d) = rw (getD-set-other ends (cell tr i) c (i + 1) 0 d) (omega (arith, w .high c l))
 
-          none : (c : ℕ) → c < 1025 → (x : ℕ) → getD (set ends (cell tr i) (i + 1)) c 0 ≤ x → x < suc i → T (isNoted writes (at tr x)) → cell tr x ≡ c → Dec (c ≡ cell tr i) → ⊥
+          none : (c : ℕ) → c < 1025 → (x : ℕ) → getD (set ends (cell tr i) (i + 1)) c 0 ≤ x → x < suc i → T (isWrite (at tr x)) → cell tr x ≡ c → Dec (c ≡ cell tr i) → ⊥
           none c l x h k t q (yes d) = let m = rw d at h in omega (arith, here, m)
           none c l x h k t q (no d) = still c l (λ _ z. d (sym z)) x (rw (getD-set-other ends (cell tr i) c (i + 1) 0 d) at h) k t q
       go false f p = record { size = ap length p ∙ w .size; high = λ c l. rw p (omega (arith, w .high c l)); none = λ c l x h k t q. still c l (λ u _. subst T f u) x (rw p at h) k t q }
-
-  -- Past them no record races with c.
-  end-written : (c x : ℕ) → at tr c .kind ≡ 5 → T (raceb (settingOf tr) c x) → T (isWrite (at tr x))
-  end-written c x k t = go (racing tr c x t .one)
-    where
-      go : T (isWrite (at tr c)) ⊎ T (isWrite (at tr x)) → T (isWrite (at tr x))
-      go (inl h) = absurd (rw k at h)
-      go (inr h) = h
-
-  module _ {b c : ℕ} {ends : List ℕ} (low : cell tr c < 1025) (v : ℕ) (e : v ≡ getD ends (cell tr c) 0) where
-    pub write-end : Ends tr false b ends → RaceEnd tr b c v
-    write-end w = record { high = rw e (w .high (cell tr c) low); none = λ x h k t. let r = racing tr c x t in w .none (cell tr c) low x (rw e at h) k (r .second) (sym (r .same)) }
-
-    pub read-end : Ends tr true b ends → at tr c .kind ≡ 5 → RaceEnd tr b c v
-    read-end w q = record { high = rw e (w .high (cell tr c) low); none = λ x h k t. w .none (cell tr c) low x (rw e at h) k (end-written c x q t) (sym (racing tr c x t .same)) }
-
-  pub other-end : (b c : ℕ) → at tr c .kind ≢ 6 → at tr c .kind ≢ 5 → RaceEnd tr b c 0
-  other-end b c m n = record { high = omega arith; none = λ x h k t. go (access-kind (at tr c) (racing tr c x t .first)) }
-    where
-      go : (at tr c .kind ≡ 5) ⊎ (at tr c .kind ≡ 6) → ⊥
-      go (inl z) = n z
-      go (inr z) = m z
 
   -- On the way to b that is the next one.
   pub next-jump : {a b r : ℕ} → On tr b a → NextAccess tr b a r → Jump tr b a r
@@ -371,7 +349,7 @@ module _ (tr : List Record) where
   looking-end w l = record { on = w .on; low = w .low; none = w .none; found = λ k. absurd (omega arith) }
 
 -- The three numbers of b's cell, once record b is taken into account.
-module _ {tr : List Record} (acc : Acceptable tr) (short : Bool) {b : ℕ} (h : b < length tr) {starts lasts writes : List ℕ} (s : Starts tr short b starts) (l : Lasts tr short b lasts) (w : Ends tr true b writes) (r : Record) (e : r ≡ at tr b) (v : ℕ) (e₀ : v ≡ getD starts (r .second) 0) (fresh : Bool) (e₁ : fresh ≡ isStart short v r) where
+module _ {tr : List Record} (acc : Acceptable tr) (short : Bool) {b : ℕ} (h : b < length tr) {starts lasts writes : List ℕ} (s : Starts tr short b starts) (l : Lasts tr short b lasts) (w : Ends tr b writes) (r : Record) (e : r ≡ at tr b) (v : ℕ) (e₀ : v ≡ getD starts (r .second) 0) (fresh : Bool) (e₁ : fresh ≡ isStart short v r) where
   low : cell tr b < 1025
   low = cell-low acc b h
 
@@ -381,5 +359,5 @@ module _ {tr : List Record} (acc : Acceptable tr) (short : Bool) {b : ℕ} (h : 
   pub noted-last : (quiet : Bool) → (T quiet → Quiet tr short b) → (x : Bool) → x ≡ isAccess r → (n : ℕ) → n ≡ cond (fresh || quiet) (b + 1) 0 → (lasts′ : List ℕ) → lasts′ ≡ cond x (set lasts (r .second) n) lasts → Lasts tr short (b + 1) lasts′
   noted-last quiet q x f n g lasts′ p = lasts-next acc short quiet low q l lasts′ (p ∙ rw (f, g, e₁, e₀, e, s .tells (cell tr b) low) refl)
 
-  pub noted-write : (writes′ : List ℕ) → writes′ ≡ cond (eqb (r .kind) 6) (set writes (r .second) (b + 1)) writes → Ends tr true (b + 1) writes′
+  pub noted-write : (writes′ : List ℕ) → writes′ ≡ cond (eqb (r .kind) 6) (set writes (r .second) (b + 1)) writes → Ends tr (b + 1) writes′
   noted-write writes′ p = ends-next tr low w writes′ (p ∙ rw e refl)

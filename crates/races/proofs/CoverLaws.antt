@@ -23,11 +23,9 @@ use Rattle.coverage.proofs.Leads.{le-leads}
 use Rattle.races.specs.Traces.{settingOf}
 use Rattle.races.specs.Leading.{rows}
 use Rattle.races.specs.Pair.{flat, withEntries, raceEntry, raceEntries, GivesCover}
-use Rattle.races.specs.Candidates.{accesses, RaceEnd, NextAccess}
 use Rattle.races.specs.LeadingPass.{Starts}
-use Rattle.races.specs.PairSearch.{racesOn, NoSecond, NoRace, Along, Second, Sought, Next, Written}
+use Rattle.races.specs.PairSearch.{racesFrom, First, NoRace, Sought, Next, Written}
 use Rattle.races.proofs.Instance.{laws}
-use Rattle.races.proofs.CandidateLaws.{racing, accesses-race}
 use Rattle.races.proofs.NoteLaws.{starts-parted}
 use Rattle.races.proofs.PairEntries.{flat-length, no-entries, entries-room, put-more, rank-rises, rank-some, rank-few}
 
@@ -35,81 +33,77 @@ module _ {tr : List Record} (a : Acceptable tr) (b : ℕ) (inside : b < length t
   abbrev ev : ℕ → ℕ
   ev i = eventOf (at tr i)
 
-  second-race : (c x : ℕ) → T (racesOn tr b c x) → T (raceb (settingOf tr) c x)
-  unfolding racesOn
-  second-race c x h = both (leads (settingOf tr) b (ev x)) (raceb (settingOf tr) c x) h .1
+  -- what such a race has
+  parts : (t c d : ℕ) → T (racesFrom tr t c d) → Race (settingOf tr) c d × T (happensBefore tr (ev t) (ev c))
+  unfolding racesFrom
+  parts t c d h = let p = both (raceb (settingOf tr) c d) (happensBefore tr (ev t) (ev c)) h in (race-of (settingOf tr) c d (p .0), p .1)
 
-  pub along-start : {e c d : ℕ} → NextAccess tr e c d → Along tr b e c d
-  along-start {e} {c} {d} j = record { ahead = j .ahead; same = j .same; none = λ x l h. go x l (second-race c x h) }
-    where
-      go : (x : ℕ) → x < d → T (raceb (settingOf tr) c x) → ⊥
-      go x l r = j .none x (racing tr c x r .earlier) l (accesses-race tr c x r)
+  of-parts : (t c d : ℕ) → Race (settingOf tr) c d → T (happensBefore tr (ev t) (ev c)) → T (racesFrom tr t c d)
+  unfolding racesFrom
+  of-parts t c d r h = and (raceb (settingOf tr) c d) (happensBefore tr (ev t) (ev c)) (of-race (settingOf tr) c d r) h
 
-  pub along-next : {end c d r : ℕ} → d < end → racesOn tr b c d ≡ false → Along tr b end c d → NextAccess tr end d r → Along tr b end c r
-  along-next {end} {c} {d} {r} m e w j = record { ahead = omega (arith, w .ahead, j .ahead); same = λ l. j .same l ∙ w .same m; none = λ x l h. go x l h (lt-or-ge x d) }
-    where
-      go : (x : ℕ) → x < r → T (racesOn tr b c x) → (x < d) ⊎ (d ≤ x) → ⊥
-      go x l h (inl k) = w .none x k h
-      go x l h (inr k) = past (ℕ-discrete x d)
-        where
-          past : Dec (x ≡ d) → ⊥
-          past (yes z) = subst T (ap (racesOn tr b c) z ∙ e) h
-          past (no n) = j .none x (omega arith) l (subst (λ (y : ℕ). T (accesses tr y x)) (sym (w .same m)) (accesses-race tr c x (second-race c x h)))
+  module _ (lo t d : ℕ) where
+    pub first-apart : leads (settingOf tr) b (ev d) ≡ false → First tr b lo t d d
+    first-apart e = record { found = λ l. absurd (omega arith); none = λ l x m h. absurd (subst T e h) }
 
-  module _ (t c : ℕ) where
-    pub second-apart : happensBefore tr (ev t) (ev c) ≡ false → Second tr b t c b
-    second-apart e = record { found = λ l. absurd (omega arith); none = λ _ x l h k. subst T e h }
+    -- none from lo on, before c
+    abbrev pub Missing : ℕ → Type 0
+    Missing c = (lo ≤ c) × ((x : ℕ) → lo ≤ x → x < c → T (racesFrom tr t x d) → ⊥)
 
-    pub second-found : happensBefore tr (ev t) (ev c) ≡ true → (d : ℕ) → d < b → racesOn tr b c d ≡ true → Second tr b t c d
-    second-found e d l f = record { found = λ _. (subst T (sym e) tt, subst T (sym f) tt); none = λ m. absurd (omega arith) }
+    pub missing-start : Missing lo
+    missing-start = (omega arith, λ x l k. absurd (omega arith))
 
-    -- none up to d, and none from e on
-    pub second-none : (d e : ℕ) → e ≤ d → RaceEnd tr b c e → NoSecond tr b c d → Second tr b t c b
-    second-none d e l w n = record { found = λ k. absurd (omega arith); none = λ _ x k h r. go x k r (lt-or-ge x d) }
+    pub missing-next : (c : ℕ) → Missing c → racesFrom tr t c d ≡ false → Missing (c + 1)
+    missing-next c m e = (omega (arith, m .0), λ x l k h. go x l k h (ℕ-discrete x c))
       where
-        go : (x : ℕ) → x < b → T (racesOn tr b c x) → (x < d) ⊎ (d ≤ x) → ⊥
-        go x k r (inl m) = n x m r
-        go x k r (inr m) = w .none x (omega arith) k (second-race c x r)
+        go : (x : ℕ) → lo ≤ x → x < c + 1 → T (racesFrom tr t x d) → Dec (x ≡ c) → ⊥
+        go x l k h (yes z) = subst T (ap (λ (y : ℕ). racesFrom tr t y d) z ∙ e) h
+        go x l k h (no n) = m .1 x l (omega arith) h
 
-    -- none at all
-    pub second-past : (e : ℕ) → e ≤ c → RaceEnd tr b c e → Second tr b t c b
-    second-past e l w = second-none (suc c) e (omega arith) w (λ x m r. let z = racing tr c x (second-race c x r) .earlier in omega arith)
+    pub first-found : (c : ℕ) → leads (settingOf tr) b (ev d) ≡ true → racesFrom tr t c d ≡ true → c < d → First tr b lo t d c
+    first-found c e f l = record { found = λ _. (subst T (sym e) tt, subst T (sym f) tt); none = λ k. absurd (omega arith) }
 
-  module _ (t : ℕ) where
-    -- that event action is whole from its first record on
-    pub no-race-start : t < b → (c : ℕ) → Starts tr c t → NoRace tr b t c
-    no-race-start m c s x y l k h r =
-        let z = s .low in
-        let f = laws a .forward t x (omega arith) (omega arith) h (λ e. starts-parted a c t (omega arith) s x t l z (omega arith) (sym e)) in
-        omega arith
+    pub first-none : (c : ℕ) → d ≤ c → Missing c → First tr b lo t d c
+    first-none c l m = record { found = λ k. absurd (omega arith); none = λ k x n h r. let p = parts t x d r .0 .first in m .1 x n (omega arith) r }
 
-    pub no-race-next : (c d : ℕ) → b ≤ d → Second tr b t c d → NoRace tr b t c → NoRace tr b t (c + 1)
-    no-race-next c d m q n x y l k h = go (lt-or-ge x c)
+  module _ (t lo : ℕ) where
+    pub no-race-start : NoRace tr b lo t lo
+    no-race-start x y l k h r = let p = parts t x y r .0 .first in omega arith
+
+    pub no-race-next : (d c : ℕ) → d ≤ c → First tr b lo t d c → NoRace tr b lo t d → NoRace tr b lo t (d + 1)
+    no-race-next d c m q n x y l k h r = go (ℕ-discrete y d)
       where
-        go : (x < c) ⊎ (c ≤ x) → T (racesOn tr b x y) → ⊥
-        go (inl z) r = n x y z k h r
-        go (inr z) r =
-            let e : x ≡ c = omega arith in
-            q .none m y k (subst (λ (i : ℕ). T (happensBefore tr (ev t) (ev i))) e h) (subst (λ (i : ℕ). T (racesOn tr b i y)) e r)
+        go : Dec (y ≡ d) → ⊥
+        go (yes z) = q .none m x l (subst (λ (i : ℕ). T (leads (settingOf tr) b (ev i))) z h) (subst (λ (i : ℕ). T (racesFrom tr t x i)) z r)
+        go (no z) = n x y l (omega arith) h r
 
-    pub next-found : (c d : ℕ) → d < b → Second tr b t c d → Next tr b t c d
-    unfolding racesOn
-    next-found c d l q =
-        let f = q .found l in
-        let p = both (leads (settingOf tr) b (ev d)) (raceb (settingOf tr) c d) (f .1) in
-        record { race = race-of (settingOf tr) c d (p .1); above = f .0; below = l; leading = p .0 }
+    pub next-found : (d c : ℕ) → d < b → c < d → First tr b lo t d c → Next tr b t c d
+    next-found d c l k q =
+        let f = q .found k in
+        let p = parts t c d (f .1) in
+        record { race = p .0; above = p .1; below = l; leading = f .0 }
 
-    -- there is one
-    pub next-some : Sought tr b t → (c : ℕ) → b ≤ c → NoRace tr b t c → ⊥
-    unfolding racesOn
-    next-some q c m n = go (cover-next (settingOf tr) (laws a) b (ev t) inside (q .leading) (q .apart))
+    -- there is one, and its first record stands in the event action of t or after it
+    pub next-some : Sought tr b t → Starts tr lo t → (d : ℕ) → b ≤ d → NoRace tr b lo t d → ⊥
+    next-some q s d m n = go (cover-next (settingOf tr) (laws a) b (ev t) inside (q .leading) (q .apart))
       where
         leading : (d : ℕ) → T (before (settingOf tr) d b) ⊎ (T (leads (settingOf tr) b (ev d)) × (T (happensBefore tr (ev d) (ev b)) → ⊥)) → T (leads (settingOf tr) b (ev d))
         leading d (inl h) = le-leads (settingOf tr) (laws a) b (ev d) (before-le (settingOf tr) (laws a) d b h)
         leading d (inr h) = h .0
 
+        later : (x : ℕ) → x < b → T (happensBefore tr (ev t) (ev x)) → lo ≤ x
+        later x k h = go′ (lt-or-ge x lo)
+          where
+            go′ : (x < lo) ⊎ (lo ≤ x) → lo ≤ x
+            go′ (inl l) =
+                let z = s .low in
+                let u = q .below in
+                let f = laws a .forward t x (omega arith) (omega arith) h (λ e. starts-parted a lo t (omega arith) s x t l z (omega arith) (sym e)) in
+                omega arith
+            go′ (inr l) = l
+
         go : (c d : ℕ) × Race (settingOf tr) c d × T (happensBefore tr (ev t) (ev c)) × (d < b) × (T (before (settingOf tr) d b) ⊎ (T (leads (settingOf tr) b (ev d)) × (T (happensBefore tr (ev d) (ev b)) → ⊥))) → ⊥
-        go (x, d, r, h, l, w) = n x d (omega (arith, r .first)) l h (and (leads (settingOf tr) b (ev d)) (raceb (settingOf tr) x d) (leading d w) (of-race (settingOf tr) x d r))
+        go (x, y, r, h, l, w) = n x y (later x (omega (arith, r .first)) h) (omega arith) (leading y w) (of-parts t x y r h)
 
 race-snoc : (es : List (ℕ × ℕ)) (c d : ℕ) → raceEntries (es ++ (c, d) ∷ []) ≡ raceEntries es ++ (c + 1, d + 1) ∷ []
 unfolding raceEntries

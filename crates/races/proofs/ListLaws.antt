@@ -203,14 +203,14 @@ module _ (tr : List Record) where
     way-all n = record { range = record { on = on-start n; high = omega arith; none = λ x l k. absurd (omega arith) }; firsts-are = ap (λ x. firsts tr x b b) from-is }
 
     -- past the last write no record races with a read
-    way-read : v ≢ 0 → at tr b .kind ≡ 5 → {writes : List ℕ} → Ends tr true b writes → cell tr b < 1025 → Ranges tr short b (v - 1) (getD writes (cell tr b) 0)
+    way-read : v ≢ 0 → at tr b .kind ≡ 5 → {writes : List ℕ} → Ends tr b writes → cell tr b < 1025 → Ranges tr short b (v - 1) (getD writes (cell tr b) 0)
     way-read n k {writes} w low = record { range = record { on = on-start n; high = w .high (cell tr b) low; none = λ x l m h. reads x l m h (racing tr x b h .one) }; firsts-are = ap (λ x. firsts tr x b b) from-is }
       where
         reads : (x : ℕ) → getD writes (cell tr b) 0 ≤ x → x < b → T (race x b) → T (isWrite (at tr x)) ⊎ T (isWrite (at tr b)) → ⊥
         reads x l m h (inl t) = w .none (cell tr b) low x l m t (racing tr x b h .same)
         reads x l m h (inr t) = rw k at t
 
-    pub way-start : v ≢ 0 → {writes : List ℕ} → Ends tr true b writes → cell tr b < 1025 → (to : ℕ) → to ≡ cond (eqb (at tr b .kind) 5) (getD writes (cell tr b) 0) b → Ranges tr short b (v - 1) to
+    pub way-start : v ≢ 0 → {writes : List ℕ} → Ends tr b writes → cell tr b < 1025 → (to : ℕ) → to ≡ cond (eqb (at tr b .kind) 5) (getD writes (cell tr b) 0) b → Ranges tr short b (v - 1) to
     way-start n {writes} w low to q = rw q (go (eqb (at tr b .kind) 5) refl)
       where
         go : (t : Bool) → eqb (at tr b .kind) 5 ≡ t → Ranges tr short b (v - 1) (cond t (getD writes (cell tr b) 0) b)

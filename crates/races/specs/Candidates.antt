@@ -17,10 +17,6 @@ use Rattle.races.specs.Traces.{isAccess, settingOf}
 unfoldable pub isStart : Bool → ℕ → Record → Bool
 isStart short v r = isAccess r && (eqb v 0 || (short && isWrite r))
 
--- a write, or any access
-abbrev pub isNoted : Bool → Record → Bool
-isNoted writes r = cond writes (isWrite r) (isAccess r)
-
 module _ (tr : List Record) where
   abbrev pub cell : ℕ → ℕ
   cell i = at tr i .second
@@ -58,16 +54,11 @@ module _ (tr : List Record) where
     pub size : length lasts ≡ 1025
     pub tells : (c : ℕ) → c < 1025 → Last short c i (getD lasts c 0)
 
-  -- after the record with the number that a cell has, before b, no record accesses the cell, or none writes it
-  pub record Ends (writes : Bool) (b : ℕ) (ends : List ℕ) : Type 0 where
+  -- after the record with the number that a cell has, before b, no record writes the cell
+  pub record Ends (b : ℕ) (ends : List ℕ) : Type 0 where
     pub size : length ends ≡ 1025
     pub high : (c : ℕ) → c < 1025 → getD ends c 0 ≤ b
-    pub none : (c : ℕ) → c < 1025 → (x : ℕ) → getD ends c 0 ≤ x → x < b → T (isNoted writes (at tr x)) → cell x ≡ c → ⊥
-
-  -- from e on, before b, no record races with c
-  pub record RaceEnd (b c e : ℕ) : Type 0 where
-    pub high : e ≤ b
-    pub none : (x : ℕ) → e ≤ x → x < b → T (raceb (settingOf tr) c x) → ⊥
+    pub none : (c : ℕ) → c < 1025 → (x : ℕ) → getD ends c 0 ≤ x → x < b → T (isWrite (at tr x)) → cell x ≡ c → ⊥
 
   -- from a on to r, past no access of a's cell: a record before b with that cell, or b
   pub record NextAccess (b a r : ℕ) : Type 0 where

@@ -14,7 +14,6 @@ use Rattle.coverage.specs.Race.{before, Race, raceb}
 use Rattle.coverage.specs.Cover.{CoversFrom}
 use Rattle.coverage.specs.Leading.{leads, lastKept}
 use Rattle.races.specs.Traces.{settingOf}
-use Rattle.races.specs.Candidates.{cell}
 use Rattle.races.specs.Pair.{withEntries, raceEntries}
 
 -- the trace that was read in the bytes
@@ -31,28 +30,18 @@ entryAt tr i = (eventOf (at tr i), i + 1)
 unfoldable pub keptBelow : List Record → ℕ → ℕ → List (ℕ × ℕ)
 keptBelow tr b i = map (entryAt tr) (upto i (lastKept (settingOf tr) b))
 
--- record c races with record d, whose event action leads to b
-unfoldable pub racesOn : List Record → ℕ → ℕ → ℕ → Bool
-racesOn tr b c d = leads (settingOf tr) b (eventOf (at tr d)) && raceb (settingOf tr) c d
+-- record c races with record d, and the event action of t happens before that of c
+unfoldable pub racesFrom : List Record → ℕ → ℕ → ℕ → Bool
+racesFrom tr t c d = raceb (settingOf tr) c d && happensBefore tr (eventOf (at tr t)) (eventOf (at tr c))
 
--- there is no such record before d
-abbrev pub NoSecond : List Record → ℕ → ℕ → ℕ → Type 0
-NoSecond tr b c d = (x : ℕ) → x < d → T (racesOn tr b c x) → ⊥
+-- the event action of d leads to b, and from lo on c is the first record that so races with d; where there is none, c is d or above
+pub record First (tr : List Record) (b lo t d c : ℕ) : Type 0 where
+  pub found : c < d → T (leads (settingOf tr) b (eventOf (at tr d))) × T (racesFrom tr t c d)
+  pub none : d ≤ c → (x : ℕ) → lo ≤ x → T (leads (settingOf tr) b (eventOf (at tr d))) → T (racesFrom tr t x d) → ⊥
 
--- nor any before b, for the records before c whose event action that of t happens before
-abbrev pub NoRace : List Record → ℕ → ℕ → ℕ → Type 0
-NoRace tr b t c = (x y : ℕ) → x < c → y < b → T (happensBefore tr (eventOf (at tr t)) (eventOf (at tr x))) → T (racesOn tr b x y) → ⊥
-
--- the search for d along the accesses of c's cell, up to e
-pub record Along (tr : List Record) (b e c d : ℕ) : Type 0 where
-  pub ahead : c < d
-  pub same : d < e → cell tr d ≡ cell tr c
-  pub none : NoSecond tr b c d
-
--- d is such a record before b, where the event action of t happens before that of c; or there is none, and d is b or above
-pub record Second (tr : List Record) (b t c d : ℕ) : Type 0 where
-  pub found : d < b → T (happensBefore tr (eventOf (at tr t)) (eventOf (at tr c))) × T (racesOn tr b c d)
-  pub none : b ≤ d → (x : ℕ) → x < b → T (happensBefore tr (eventOf (at tr t)) (eventOf (at tr c))) → T (racesOn tr b c x) → ⊥
+-- no record before d has such a race
+abbrev pub NoRace : List Record → ℕ → ℕ → ℕ → ℕ → Type 0
+NoRace tr b lo t d = (x y : ℕ) → lo ≤ x → y < d → T (leads (settingOf tr) b (eventOf (at tr y))) → T (racesFrom tr t x y) → ⊥
 
 -- the next race of a cover, from the event action of t on
 pub record Next (tr : List Record) (b t c d : ℕ) : Type 0 where

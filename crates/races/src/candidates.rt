@@ -14,7 +14,7 @@ ghost use Rattle.records.specs.Records.{at};
 ghost use Rattle.trace.specs.Reading.{Acceptable};
 ghost use Rattle.records.specs.Marks.{noMarks};
 ghost use Rattle.races.specs.Filled.{Filled};
-ghost use Rattle.races.specs.Candidates.{isStart, isOrdered, Starts, Lasts, Quiet, isNoted, Ends, RaceEnd, NextAccess, Range, FirstRace};
+ghost use Rattle.races.specs.Candidates.{isStart, isOrdered, Starts, Lasts, Quiet, Ends, NextAccess, Range, FirstRace};
 ghost use Rattle.races.specs.ListPass.{Ranges};
 
 // A record number for each cell, none yet.
@@ -102,8 +102,8 @@ pub(crate) fn note_access(
     writes: &mut [u16],
 )
     requires { ⌜ Acceptable (decode (now recs)) × (b < length (decode (now recs))) × (T quiet → Quiet (decode (now recs)) short b) ⌝ }
-    requires { ⌜ Starts (decode (now recs)) short b (now starts) × Lasts (decode (now recs)) short b (now lasts) × Ends (decode (now recs)) true b (now writes) ⌝ }
-    ensures { λ u. ⌜ Starts (decode (now (recs .entry))) short (b + 1) (now (starts .exit)) × Lasts (decode (now (recs .entry))) short (b + 1) (now (lasts .exit)) × Ends (decode (now (recs .entry))) true (b + 1) (now (writes .exit)) ⌝ }
+    requires { ⌜ Starts (decode (now recs)) short b (now starts) × Lasts (decode (now recs)) short b (now lasts) × Ends (decode (now recs)) b (now writes) ⌝ }
+    ensures { λ u. ⌜ Starts (decode (now (recs .entry))) short (b + 1) (now (starts .exit)) × Lasts (decode (now (recs .entry))) short (b + 1) (now (lasts .exit)) × Ends (decode (now (recs .entry))) (b + 1) (now (writes .exit)) ⌝ }
 {
     let r = access::record_at(recs, b);
     let c = r.second as usize;
@@ -111,28 +111,6 @@ pub(crate) fn note_access(
     put_if(starts, fresh, c, (b + 1) as u16);
     put_if(lasts, is_access(r), c, last_number(fresh, quiet, b));
     put_if(writes, r.kind == 6, c, (b + 1) as u16);
-}
-
-fn is_noted(writes: bool, r: Record) -> bool
-    ensures { λ x. ⌜ x ≡ isNoted writes r ⌝ }
-{
-    if writes {
-        return r.kind == 6;
-    }
-    is_access(r)
-}
-
-// Notes for each cell the number of its last access before b, or only of its last write.
-pub(crate) fn note_ends(recs: &[u8], writes: bool, b: usize, ends: &mut [u16])
-    requires { ⌜ Acceptable (decode (now recs)) × (b < length (decode (now recs))) × (now ends ≡ noMarks) ⌝ }
-    ensures { λ u. ⌜ Ends (decode (now (recs .entry))) writes b (now (ends .exit)) ⌝ }
-{
-    let mut i = 0;
-    while i < b {
-        let r = access::record_at(recs, i);
-        put_if(ends, is_noted(writes, r), r.second as usize, (i + 1) as u16);
-        i += 1;
-    }
 }
 
 // From record a on to the next one that may access its cell, or to b.
@@ -149,22 +127,6 @@ pub(crate) fn next_access(recs: &[u8], a: usize, b: usize) -> usize
         i += 1;
     }
     i
-}
-
-// From there on, before b, no record races with c: past the last access of its cell if c writes, past the last write if c reads.
-pub(crate) fn race_end(recs: &[u8], ends: &[u16], writes: &[u16], b: usize, c: usize) -> usize
-    requires { ⌜ Acceptable (decode (now recs)) × (c < b) × (b < length (decode (now recs))) ⌝ }
-    requires { ⌜ Ends (decode (now recs)) false b (now ends) × Ends (decode (now recs)) true b (now writes) ⌝ }
-    ensures { λ r. ⌜ RaceEnd (decode (now (recs .entry))) b c r ⌝ }
-{
-    let r = access::record_at(recs, c);
-    if r.kind == 6 {
-        return number_at(ends, r.second as usize) as usize;
-    }
-    if r.kind == 5 {
-        return number_at(writes, r.second as usize) as usize;
-    }
-    0
 }
 
 pub(crate) struct Way {
@@ -207,7 +169,7 @@ pub(crate) fn way_to(
     b: usize,
 ) -> Way
     requires { ⌜ Filled (decode (now recs)) (now ranks) (now of) width (now clocks) × (b < length (decode (now recs))) ⌝ }
-    requires { ⌜ Starts (decode (now recs)) short b (now starts) × Lasts (decode (now recs)) short b (now lasts) × Ends (decode (now recs)) true b (now writes) ⌝ }
+    requires { ⌜ Starts (decode (now recs)) short b (now starts) × Lasts (decode (now recs)) short b (now lasts) × Ends (decode (now recs)) b (now writes) ⌝ }
     ensures { λ r. ⌜ Ranges (decode (now (recs .entry))) short b (r .from) (r .to) × (T (r .quiet) → Quiet (decode (now (recs .entry))) short b) ⌝ }
 {
     let r = access::record_at(recs, b);

@@ -1,10 +1,9 @@
-// A cover of a race, found forwards: from an event action that leads to b, the next race whose second record's event action leads to b.
-use crate::candidates;
+// A cover of a race, found forwards and without further memory: from an event action that leads to b, the next race whose second record's event action leads
+// to b.
 use crate::leading;
 use crate::pair;
 use crate::racing;
 ghost use mathlib.Core.Path.{_≡_};
-ghost use mathlib.Core.Bool.{true, false};
 ghost use Prim.Native.Nat.{_*_, _≤_, _<_};
 ghost use lib.ListN.{length};
 ghost use Rattle.records.specs.Bytes.{decode};
@@ -12,10 +11,9 @@ ghost use Rattle.coverage.specs.Race.{Race};
 ghost use Rattle.coverage.specs.Leading.{coveredb};
 ghost use Rattle.races.specs.Traces.{settingOf};
 ghost use Rattle.races.specs.Filled.{Filled};
-ghost use Rattle.races.specs.Candidates.{Ends};
 ghost use Rattle.races.specs.Leading.{rows};
 ghost use Rattle.races.specs.Pair.{GivesCover};
-ghost use Rattle.races.specs.PairSearch.{racesOn, Second, Sought, Next};
+ghost use Rattle.races.specs.PairSearch.{racesFrom, First, Sought, Next};
 ghost use Rattle.races.specs.ListPass.{Marks};
 ghost use lib.Dec.{T};
 
@@ -25,64 +23,58 @@ pub(crate) struct Step {
     pub second: usize,
 }
 
-// Does record c race with record d, whose event action leads to b?
-fn races_on(
+// Does record c race with record d, and does the event action of t happen before that of c?
+fn races_from(
     recs: &[u8],
     ranks: &[u16],
     of: &[u16],
     width: usize,
     clocks: &[u16],
-    work: &[u8],
-    b: usize,
+    t: usize,
     c: usize,
     d: usize,
 ) -> bool
-    requires { ⌜ Filled (decode (now recs)) (now ranks) (now of) width (now clocks) × Marks (decode (now recs)) (now ranks) (now work) b ⌝ }
-    requires { ⌜ (c < d) × (d < b) ⌝ }
-    ensures { λ r. ⌜ r ≡ racesOn (decode (now (recs .entry))) b c d ⌝ }
+    requires { ⌜ Filled (decode (now recs)) (now ranks) (now of) width (now clocks) × (t < length (decode (now recs))) × (c < d) × (d < length (decode (now recs))) ⌝ }
+    ensures { λ r. ⌜ r ≡ racesFrom (decode (now (recs .entry))) t c d ⌝ }
 {
-    if !leading::is_leading(recs, ranks, work, d) {
+    if !racing::is_race(recs, ranks, of, width, clocks, c, d) {
         return false;
     }
-    racing::is_race(recs, ranks, of, width, clocks, c, d)
+    racing::is_before(recs, ranks, of, width, clocks, t, c)
 }
 
-// The first record before b with which c so races, where the event action of t happens before that of c; b where there is none. Looked for along the accesses of the cell of c.
-fn find_second(
+// The first record from lo on, before d, that so races with d, where the event action of d leads to b; d where there is none.
+fn find_first(
     recs: &[u8],
     ranks: &[u16],
     of: &[u16],
     width: usize,
     clocks: &[u16],
     work: &[u8],
-    ends: &[u16],
-    writes: &[u16],
+    lo: usize,
     t: usize,
     b: usize,
-    c: usize,
+    d: usize,
 ) -> usize
-    requires { ⌜ Filled (decode (now recs)) (now ranks) (now of) width (now clocks) × Marks (decode (now recs)) (now ranks) (now work) b × Ends (decode (now recs)) false b (now ends) × Ends (decode (now recs)) true b (now writes) ⌝ }
-    requires { ⌜ (t < b) × (c < b) ⌝ }
-    ensures { λ r. ⌜ Second (decode (now (recs .entry))) b t c r ⌝ }
+    requires { ⌜ Filled (decode (now recs)) (now ranks) (now of) width (now clocks) × Marks (decode (now recs)) (now ranks) (now work) b ⌝ }
+    requires { ⌜ (t < b) × (lo ≤ d) × (d < b) ⌝ }
+    ensures { λ r. ⌜ First (decode (now (recs .entry))) b lo t d r ⌝ }
 {
-    if !racing::is_before(recs, ranks, of, width, clocks, t, c) {
-        return b;
+    if !leading::is_leading(recs, ranks, work, d) {
+        return d;
     }
-    let end = candidates::race_end(recs, ends, writes, b, c);
-    if end <= c {
-        return b;
-    }
-    let mut d = candidates::next_access(recs, c, end);
-    while d < end {
-        if races_on(recs, ranks, of, width, clocks, work, b, c, d) {
-            return d;
+    let mut c = lo;
+    while c < d {
+        if races_from(recs, ranks, of, width, clocks, t, c, d) {
+            return c;
         }
-        d = candidates::next_access(recs, d, end);
+        c += 1;
     }
-    b
+    c
 }
 
-// The next race of a cover, from the event action of t on: no record before that event action can be its first.
+// The next race of a cover, from the event action of t on: the first record that has such a race, with the first record of its own. No record before the event
+// action of t can be the first of it.
 fn find_race(
     recs: &[u8],
     ranks: &[u16],
@@ -90,29 +82,28 @@ fn find_race(
     width: usize,
     clocks: &[u16],
     work: &[u8],
-    ends: &[u16],
-    writes: &[u16],
     t: usize,
     b: usize,
 ) -> Step
-    requires { ⌜ Filled (decode (now recs)) (now ranks) (now of) width (now clocks) × Marks (decode (now recs)) (now ranks) (now work) b × Ends (decode (now recs)) false b (now ends) × Ends (decode (now recs)) true b (now writes) ⌝ }
+    requires { ⌜ Filled (decode (now recs)) (now ranks) (now of) width (now clocks) × Marks (decode (now recs)) (now ranks) (now work) b ⌝ }
     requires { ⌜ Sought (decode (now recs)) b t ⌝ }
     ensures { λ r. ⌜ Next (decode (now (recs .entry))) b t (r .first) (r .second) ⌝ }
 {
-    let mut c = leading::block_start(recs, t);
-    while c < b {
-        let d = find_second(recs, ranks, of, width, clocks, work, ends, writes, t, b, c);
-        if d < b {
+    let lo = leading::block_start(recs, t);
+    let mut d = lo;
+    while d < b {
+        let c = find_first(recs, ranks, of, width, clocks, work, lo, t, b, d);
+        if c < d {
             return Step {
                 first: c,
                 second: d,
             };
         }
-        c += 1;
+        d += 1;
     }
     Step {
-        first: c,
-        second: b,
+        first: d,
+        second: d,
     }
 }
 
@@ -124,20 +115,18 @@ pub(crate) fn put_cover(
     width: usize,
     clocks: &[u16],
     work: &[u8],
-    ends: &[u16],
-    writes: &[u16],
     list: &mut [u16],
     a: usize,
     b: usize,
 ) -> usize
-    requires { ⌜ Filled (decode (now recs)) (now ranks) (now of) width (now clocks) × Marks (decode (now recs)) (now ranks) (now work) b × Ends (decode (now recs)) false b (now ends) × Ends (decode (now recs)) true b (now writes) ⌝ }
+    requires { ⌜ Filled (decode (now recs)) (now ranks) (now of) width (now clocks) × Marks (decode (now recs)) (now ranks) (now work) b ⌝ }
     requires { ⌜ Race (settingOf (decode (now recs))) a b × T (coveredb (settingOf (decode (now recs))) a b) × (2 * rows (decode (now recs)) ≤ length (now list)) ⌝ }
     ensures { λ r. ⌜ GivesCover (decode (now (recs .entry))) a b r (now (list .entry)) (now (list .exit)) ⌝ }
 {
     let mut t = a;
     let mut k = 0;
     while !racing::is_before(recs, ranks, of, width, clocks, t, b) {
-        let step = find_race(recs, ranks, of, width, clocks, work, ends, writes, t, b);
+        let step = find_race(recs, ranks, of, width, clocks, work, t, b);
         pair::put_entry(list, k, (step.first + 1) as u16, (step.second + 1) as u16);
         k += 1;
         t = step.second;

@@ -1,5 +1,4 @@
 // The pair question: for a race, what an arrangement keeps that runs its second access without its first, or a cover.
-use crate::candidates;
 use crate::cover;
 use crate::leading;
 use crate::racing;
@@ -107,10 +106,6 @@ fn put_entries(
     ensures { λ r. ⌜ AnswersRace (decode (now (recs .entry))) a b (now (list .entry)) (now (list .exit)) r ⌝ }
 {
     if leading::is_leading(recs, ranks, work, a) {
-        let mut ends = candidates::no_starts();
-        let mut writes = candidates::no_starts();
-        candidates::note_ends(recs, false, b, &mut ends);
-        candidates::note_ends(recs, true, b, &mut writes);
         return PairAnswer::Covered(cover::put_cover(
             recs,
             ranks,
@@ -118,8 +113,6 @@ fn put_entries(
             width,
             clocks,
             work,
-            &ends,
-            &writes,
             list,
             a,
             b,

@@ -1,4 +1,3 @@
-use mathlib.Core.Bool.{true}
 use Rattle.races.proofs.EntryStores.{Listing, listing-start, listing-size, listing-room, listing-next, listing-end, way-writes}
 use Rattle.races.proofs.CandidateLaws.{starts-none, lasts-none, ends-none}
 use Rattle.races.specs.Candidates.{Starts, Lasts, Ends}
@@ -13,7 +12,7 @@ use Rattle.races.proofs.lists.list_all.Statement.{statement}
 use Rattle.races.proofs.lists.list_all.Tie as tie
 
 abbrev Inv-loop : tie.InvT-loop
-Inv-loop recs ranks of width clocks list₀ short writing n starts₀ lasts₀ writes₀ k₀ b₀ list starts lasts writes k b = Listing writing (decode recs) short list₀ list k b × Starts (decode recs) short b starts × Lasts (decode recs) short b lasts × Ends (decode recs) true b writes
+Inv-loop recs ranks of width clocks list₀ short writing n starts₀ lasts₀ writes₀ k₀ b₀ list starts lasts writes k b = Listing writing (decode recs) short list₀ list k b × Starts (decode recs) short b starts × Lasts (decode recs) short b lasts × Ends (decode recs) b writes
 
 abbrev μ-loop : tie.MeasureT-loop
 μ-loop recs ranks of width clocks list₀ short writing n starts₀ lasts₀ writes₀ k₀ b₀ list starts lasts writes k b = n - b
@@ -31,7 +30,7 @@ no-starts-requires-3 : tie.Need-no-starts-requires-3 Inv-loop μ-loop
 no-starts-requires-3 c κs = search needs
 
 loop-holds : tie.Need-loop-holds Inv-loop μ-loop
-loop-holds c = (listing-start _ _ _ _, rw (c .before .before .no-starts .ensures) (starts-none (decode (now (c .before .before .before .before .before .before .before .before .before .args .recs))) (c .before .before .before .before .before .before .before .before .before .args .short)), rw (c .before .no-starts2 .ensures) (lasts-none (c .before .before .before .before .before .before .before .before .before .pre .0 .acceptable) (c .before .before .before .before .before .before .before .before .before .args .short)), rw (c .no-starts3 .ensures) (ends-none (decode (now (c .before .before .before .before .before .before .before .before .before .args .recs))) true))
+loop-holds c = (listing-start _ _ _ _, rw (c .before .before .no-starts .ensures) (starts-none (decode (now (c .before .before .before .before .before .before .before .before .before .args .recs))) (c .before .before .before .before .before .before .before .before .before .args .short)), rw (c .before .no-starts2 .ensures) (lasts-none (c .before .before .before .before .before .before .before .before .before .pre .0 .acceptable) (c .before .before .before .before .before .before .before .before .before .args .short)), rw (c .no-starts3 .ensures) (ends-none (decode (now (c .before .before .before .before .before .before .before .before .before .args .recs)))))
 
 slice-aggregate-way-to : tie.Need-slice-aggregate-way-to Inv-loop μ-loop
 slice-aggregate-way-to c = sym (c .before .before .loop .inv .1 .size)

@@ -1,6 +1,4 @@
--- `races::pair::put_entries` meets its contract.
--- Assumes nothing.
-use Rattle.races.proofs.PairLaws.{marks-tell}
+use Rattle.races.proofs.PairLaws.{marks-tell, answers-covered, answers-open}
 use denote.Ref.{now}
 use native.Mathlib.Omega.{arith}
 use Prim.Native.Nat.{_<_}
@@ -11,7 +9,6 @@ use mathlib.Core.Path.{_≡_, sym, _∙_, subst}
 use Rattle.records.specs.Bytes.{decode}
 use Rattle.races.specs.Traces.{settingOf}
 use Rattle.coverage.specs.Leading.{coveredb}
-use Rattle.races.proofs.PairLaws.{answers-covered, answers-open}
 use borrow.Author.Needs.{needs}
 use Rattle.races.proofs.pair.put_entries.Statement.{statement}
 use Rattle.races.proofs.pair.put_entries.Tie as tie
@@ -19,44 +16,20 @@ use Rattle.races.proofs.pair.put_entries.Tie as tie
 is-leading-requires : tie.Need-is-leading-requires
 is-leading-requires c κs = search needs
 
-no-starts-requires : tie.Need-no-starts-requires
-no-starts-requires c κs = search needs
-
-no-starts-requires-2 : tie.Need-no-starts-requires-2
-no-starts-requires-2 c κs = search needs
-
-slice-aggregate-note-ends : tie.Need-slice-aggregate-note-ends
-slice-aggregate-note-ends c = search needs
-
-note-ends-requires : tie.Need-note-ends-requires
-note-ends-requires c κs = search needs
-
-slice-aggregate-note-ends-2 : tie.Need-slice-aggregate-note-ends-2
-slice-aggregate-note-ends-2 c = search needs
-
-note-ends-requires-2 : tie.Need-note-ends-requires-2
-note-ends-requires-2 c κs = search needs
-
-slice-aggregate-put-cover : tie.Need-slice-aggregate-put-cover
-slice-aggregate-put-cover c = search needs
-
-slice-aggregate-put-cover-2 : tie.Need-slice-aggregate-put-cover-2
-slice-aggregate-put-cover-2 c = search needs
-
 put-cover-requires : tie.Need-put-cover-requires
 put-cover-requires c κs =
-    let l : c .before .before .before .before .before .before .before .before .before .before .before .before .before .before .before .before .before .before .before .args .a < length (decode (now (c .before .before .before .before .before .before .before .before .before .before .before .before .before .before .before .before .before .before .before .args .recs))) = omega (arith, c .before .before .before .before .before .before .before .before .before .before .before .before .before .before .before .before .before .before .before .pre .1 .0 .first, c .before .before .before .before .before .before .before .before .before .before .before .before .before .before .before .before .before .before .before .pre .1 .0 .inside) in
-    let e : coveredb (settingOf (decode (now (c .before .before .before .before .before .before .before .before .before .before .before .before .before .before .before .before .before .before .before .args .recs)))) (c .before .before .before .before .before .before .before .before .before .before .before .before .before .before .before .before .before .before .before .args .a) (c .before .before .before .before .before .before .before .before .before .before .before .before .before .before .before .before .before .before .before .args .b) ≡ true = sym (marks-tell (c .before .before .before .before .before .before .before .before .before .before .before .before .before .before .before .before .before .before .before .pre .0 .1) (c .before .before .before .before .before .before .before .before .before .before .before .before .before .before .before .before .before .before .before .args .a) l) ∙ (sym (c .before .before .before .before .before .before .before .before .before .before .before .before .is-leading .ensures) ∙ c .before .before .before .before .before .before .before .before .before .before .before .if1 .taken) in
-    ((c .before .before .before .before .before .before .before .before .before .before .before .before .before .before .before .before .before .before .before .pre .0 .0, c .before .before .before .before .before .before .before .before .before .before .before .before .before .before .before .before .before .before .before .pre .0 .1, c .before .before .before .before .before .before .before .note-ends .ensures, c .before .before .before .before .note-ends2 .ensures), (c .before .before .before .before .before .before .before .before .before .before .before .before .before .before .before .before .before .before .before .pre .1 .0, subst T (sym e) tt, c .before .before .before .before .before .before .before .before .before .before .before .before .before .before .before .before .before .before .before .pre .1 .1))
+    let l : c .before .before .before .before .before .before .before .before .before .args .a < length (decode (now (c .before .before .before .before .before .before .before .before .before .args .recs))) = omega (arith, c .before .before .before .before .before .before .before .before .before .pre .1 .0 .first, c .before .before .before .before .before .before .before .before .before .pre .1 .0 .inside) in
+    let e : coveredb (settingOf (decode (now (c .before .before .before .before .before .before .before .before .before .args .recs)))) (c .before .before .before .before .before .before .before .before .before .args .a) (c .before .before .before .before .before .before .before .before .before .args .b) ≡ true = sym (marks-tell (c .before .before .before .before .before .before .before .before .before .pre .0 .1) (c .before .before .before .before .before .before .before .before .before .args .a) l) ∙ (sym (c .before .before .is-leading .ensures) ∙ c .before .if1 .taken) in
+    (c .before .before .before .before .before .before .before .before .before .pre .0, (c .before .before .before .before .before .before .before .before .before .pre .1 .0, subst T (sym e) tt, c .before .before .before .before .before .before .before .before .before .pre .1 .1))
 
 same-length : tie.Need-same-length
 same-length c = search needs
 
 returns : tie.Need-returns
 returns c =
-    let l : c .before .before .before .before .before .before .before .before .before .before .before .before .before .before .before .before .before .before .before .before .before .before .args .a < length (decode (now (c .before .before .before .before .before .before .before .before .before .before .before .before .before .before .before .before .before .before .before .before .before .before .args .recs))) = omega (arith, c .before .before .before .before .before .before .before .before .before .before .before .before .before .before .before .before .before .before .before .before .before .before .pre .1 .0 .first, c .before .before .before .before .before .before .before .before .before .before .before .before .before .before .before .before .before .before .before .before .before .before .pre .1 .0 .inside) in
-    let e : coveredb (settingOf (decode (now (c .before .before .before .before .before .before .before .before .before .before .before .before .before .before .before .before .before .before .before .before .before .before .args .recs)))) (c .before .before .before .before .before .before .before .before .before .before .before .before .before .before .before .before .before .before .before .before .before .before .args .a) (c .before .before .before .before .before .before .before .before .before .before .before .before .before .before .before .before .before .before .before .before .before .before .args .b) ≡ true = sym (marks-tell (c .before .before .before .before .before .before .before .before .before .before .before .before .before .before .before .before .before .before .before .before .before .before .pre .0 .1) (c .before .before .before .before .before .before .before .before .before .before .before .before .before .before .before .before .before .before .before .before .before .before .args .a) l) ∙ (sym (c .before .before .before .before .before .before .before .before .before .before .before .before .before .before .before .is-leading .ensures) ∙ c .before .before .before .before .before .before .before .before .before .before .before .before .before .before .if1 .taken) in
-    answers-covered (decode (now (c .before .before .before .before .before .before .before .before .before .before .before .before .before .before .before .before .before .before .before .before .before .before .args .recs))) (c .before .before .before .before .before .before .before .before .before .before .before .before .before .before .before .before .before .before .before .before .before .before .args .a) (c .before .before .before .before .before .before .before .before .before .before .before .before .before .before .before .before .before .before .before .before .before .before .args .b) (now (c .before .before .before .before .before .before .before .before .before .before .before .before .before .before .before .before .before .before .before .before .before .before .args .list)) _ (c .before .before .put-cover .result) e (c .before .before .put-cover .ensures)
+    let l : c .before .before .before .before .before .before .before .before .before .before .before .before .args .a < length (decode (now (c .before .before .before .before .before .before .before .before .before .before .before .before .args .recs))) = omega (arith, c .before .before .before .before .before .before .before .before .before .before .before .before .pre .1 .0 .first, c .before .before .before .before .before .before .before .before .before .before .before .before .pre .1 .0 .inside) in
+    let e : coveredb (settingOf (decode (now (c .before .before .before .before .before .before .before .before .before .before .before .before .args .recs)))) (c .before .before .before .before .before .before .before .before .before .before .before .before .args .a) (c .before .before .before .before .before .before .before .before .before .before .before .before .args .b) ≡ true = sym (marks-tell (c .before .before .before .before .before .before .before .before .before .before .before .before .pre .0 .1) (c .before .before .before .before .before .before .before .before .before .before .before .before .args .a) l) ∙ (sym (c .before .before .before .before .before .is-leading .ensures) ∙ c .before .before .before .before .if1 .taken) in
+    answers-covered (decode (now (c .before .before .before .before .before .before .before .before .before .before .before .before .args .recs))) (c .before .before .before .before .before .before .before .before .before .before .before .before .args .a) (c .before .before .before .before .before .before .before .before .before .before .before .before .args .b) (now (c .before .before .before .before .before .before .before .before .before .before .before .before .args .list)) _ (c .before .before .put-cover .result) e (c .before .before .put-cover .ensures)
 
 put-kept-requires : tie.Need-put-kept-requires
 put-kept-requires c κs = (c .before .before .before .before .before .before .before .before .before .pre .0 .1, c .before .before .before .before .before .before .before .before .before .pre .1 .1)
@@ -75,14 +48,6 @@ put-entries-spec =
     tie.close
     (tie.spec
     is-leading-requires
-    no-starts-requires
-    no-starts-requires-2
-    slice-aggregate-note-ends
-    note-ends-requires
-    slice-aggregate-note-ends-2
-    note-ends-requires-2
-    slice-aggregate-put-cover
-    slice-aggregate-put-cover-2
     put-cover-requires
     same-length
     returns
