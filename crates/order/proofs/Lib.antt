@@ -26,3 +26,4 @@ pub mod ComparedLaws
 pub mod SpaceLaws
 pub mod FillEnds
 pub mod EntryLaws
+pub mod PrepareLaws

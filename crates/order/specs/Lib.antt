@@ -8,4 +8,5 @@ pub mod Compared
 pub mod Pass
 pub mod Fill
 pub mod PassEnds
+pub mod Prepare
 pub mod Paper
