@@ -110,7 +110,7 @@ fn order_in(clocks: &[u16], width: usize, space: usize, first: u16, second: u16)
         number(space);
         number(first as usize);
         number(second as usize);
-        show::answer(order::happens_before(
+        show::answer(question::happens_before(
             &t,
             width,
             &clocks[..space],

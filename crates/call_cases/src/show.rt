@@ -1,6 +1,6 @@
 // What a call answered and left, as numbers on the line.
-use order::Answer;
 use order::Filling;
+use question::Answer;
 use races::Listing;
 use races::pair::PairAnswer;
 use trace::Refusal;

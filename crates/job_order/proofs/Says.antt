@@ -4,10 +4,10 @@ use mathlib.Core.Path.{_≡_, refl}
 use mathlib.Core.List.{[], _∷_}
 use native.Mathlib.Omega.{arith}
 use denote.Enum.Declared.{tagOf, declared}
-use Rattle.order.specs.declared.Answer.{Answer}
-use Rattle.order.specs.declared.Answer.the-variants.{Yes, No, Refused}
-use Rattle.order.specs.Question.{orderPaper}
-use Rattle.order.proofs.Answer.{enum}
+use Rattle.question.specs.declared.Answer.{Answer}
+use Rattle.question.specs.declared.Answer.the-variants.{Yes, No, Refused}
+use Rattle.question.specs.Question.{orderPaper}
+use Rattle.question.proofs.Answer.{enum}
 use Rattle.job_order.specs.Calls.{orderNumbers}
 
 pub says-yes : (r : Answer) → tagOf (declared enum) r ≡ 0 → 0 ∷ 0 ∷ 1 ∷ [] ≡ orderNumbers (orderPaper r)

@@ -9,8 +9,8 @@ use Rattle.trace.specs.Reading as reading
 use Rattle.trace.specs.Reading.{Reply, readReply}
 use Rattle.order.specs.Fill as filling
 use Rattle.order.specs.Fill.{FillReply, fillReply, clocksAfter}
-use Rattle.order.specs.Question as order
-use Rattle.order.specs.Question.{OrderReply, orderReply}
+use Rattle.question.specs.Question as order
+use Rattle.question.specs.Question.{OrderReply, orderReply}
 use Rattle.races.specs.Lists as lists
 use Rattle.races.specs.Lists.{ListReply, listReply, clocksRead, workRead, listAfterRead}
 use Rattle.races.specs.Pair as pair

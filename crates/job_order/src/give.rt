@@ -1,6 +1,6 @@
 // What each answer holds, as the numbers that a call gives out.
-use order::Answer;
 use order::Filling;
+use question::Answer;
 use races::Listing;
 use races::pair::PairAnswer;
 use trace::Reading;
@@ -8,7 +8,7 @@ ghost use mathlib.Core.Path.{_≡_};
 ghost use mathlib.Core.List.{[], _∷_};
 ghost use Rattle.trace.specs.Paper.{paper};
 ghost use Rattle.order.specs.Paper.{fillPaper};
-ghost use Rattle.order.specs.Question.{orderPaper};
+ghost use Rattle.question.specs.Question.{orderPaper};
 ghost use Rattle.races.specs.Paper.{listPaper};
 ghost use Rattle.races.specs.Pair.{pairPaper, entriesGiven};
 ghost use Rattle.job_order.specs.Calls.{readNumbers, fillNumbers, orderNumbers, listNumbers, pairNumbers};

@@ -49,7 +49,7 @@ pub extern "C" fn jco_happens_before(
 ) -> u16
     ensures { λ r. ⌜ Answers (now (bytes .entry)) width (now (clocks .entry)) t u r (now (place .exit)) (now (yes .exit)) ⌝ }
 {
-    let answer = order::happens_before(bytes, width, clocks, EventId(t), EventId(u));
+    let answer = question::happens_before(bytes, width, clocks, EventId(t), EventId(u));
     give::answer(answer, place, yes)
 }
 

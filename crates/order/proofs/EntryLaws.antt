@@ -14,9 +14,7 @@ use Rattle.trace.proofs.Accepted.{accepts}
 use Rattle.trace.proofs.Upward.{upward}
 use Rattle.trace.proofs.Reading.{enum}
 use denote.Enum.Declared.{tagOf, declared}
-use Rattle.order.specs.declared.Filling.{Filling}
-use Rattle.order.specs.Fill.{eventsIn, fillRead, fillReply, clocksAfterRead, clocksAfter, chainsAfterRead, chainsAfter}
-use Rattle.order.specs.Paper.{FillsTrace, FillsChains}
+use Rattle.order.specs.Fill.{eventsIn}
 
 pub refused-reading : (b : List ℕ) (r : Reading) → paper r ≡ readReply b → tagOf (declared enum) r ≡ 1 → readReply b ≡ refused (refusalIn r .number) (refusalIn r .place .0)
 refused-reading b r e t = sym e ∙ sym (upward r t)
@@ -35,11 +33,3 @@ module _ (b : List ℕ) (s n m : ℕ) (e : accepted s n m ≡ readReply b) (recs
 
   pub read-count : length (decode recs) ≡ n
   read-count = rw records-are (accepts b s n m e .counts)
-
-  -- filling the records is filling the trace
-  pub fills-read : (width : ℕ) (cs cs′ : List ℕ) (r : Filling) (of : List ℕ) → FillsTrace (decode recs) m width cs cs′ r of → FillsChains b width cs cs′ r of
-  unfolding fillReply fillRead clocksAfter clocksAfterRead chainsAfter chainsAfterRead
-  fills-read width cs cs′ r of f = record {
-    fills = record { answer = rw (← e, ← records-are) (f .answer); clocks-after = rw (← e, ← records-are) (f .clocks-after) };
-    chains-after = rw (← e, ← records-are) (f .chains-after);
-  }

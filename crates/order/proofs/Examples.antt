@@ -1,17 +1,16 @@
 -- Trace T: three event actions, of which the first starts the other two; and T where the second also starts the third.
--- The direct definitions, the pass over the records and the marks give the same. Assumes nothing.
+-- The direct definitions and the pass over the records give the same. Assumes nothing.
 use Prim.Native.Nat.{ℕ}
 use mathlib.Core.Path.{_≡_, refl}
 use mathlib.Core.List.{List, [], _∷_}
 use lib.Dec.{lit<, lit≤}
 use lib.ListN.{getD}
 use Rattle.order.specs.Links.{Links, within, along, some, leq}
-use Rattle.order.specs.Chains.{firstFrom, pick, put, lasts, chain, used, needs, bit}
+use Rattle.order.specs.Chains.{firstFrom, pick, put, lasts, chain, used, needs}
 use Rattle.order.specs.Clocks.{largest, table, flat, entry, clocksOf}
 use Rattle.ranks.specs.Said.{Op, link, begin, other}
 use Rattle.order.specs.Schedule.{begins, linked, linksOf, Ordered}
 use Rattle.order.specs.Filling.{start, choose, merge, enter, next, after}
-use Rattle.order.specs.Marking.{markBy, marksDown, marks}
 use Rattle.order.proofs.ScheduleLaws.{ordered-zero, ordered-suc}
 
 -- the direct predecessors of the second and the third
@@ -42,7 +41,7 @@ unfolding used lasts pick put leq some along within
 one-chain = refl
 
 -- the records of T up to the third begin
-abbrev records : ℕ → Op
+abbrev pub records : ℕ → Op
 records i = getD (begin 0 ∷ link 0 1 ∷ link 0 2 ∷ other ∷ begin 1 ∷ other ∷ other ∷ other ∷ begin 2 ∷ []) i other
 
 rows-pass : flat 2 3 (after records 9 .rows) ≡ 1 ∷ 0 ∷ 2 ∷ 0 ∷ 1 ∷ 1 ∷ []
@@ -52,10 +51,6 @@ rows-pass = refl
 rows-links : clocksOf (linksOf records 9) 2 3 ≡ 1 ∷ 0 ∷ 2 ∷ 0 ∷ 1 ∷ 1 ∷ []
 unfolding clocksOf flat table entry largest chain lasts pick put leq some along within linked
 rows-links = refl
-
-marks-third : table 3 (λ t. bit (marks records 8 2 t)) ≡ 1 ∷ 0 ∷ 1 ∷ []
-unfolding table marksDown markBy
-marks-third = refl
 
 -- they stand in order
 stand : Ordered records 9

@@ -13,6 +13,8 @@ use Rattle.records.specs.declared.Record.{Record}
 use Rattle.trace.specs.Reading.{Acceptable}
 use Rattle.ranks.specs.Ranks.{ranksOf}
 use Rattle.order.specs.Fill.{eventsIn, beginPosition, shortRow, chainsUsed, chainTable, traceClocks, noChains, FillReply, refused, filled, demand, spaceFor, fillTrace, clocksAfterTrace, chainsAfterReply}
+use Rattle.order.specs.declared.Filling.{Filling}
+use Rattle.order.specs.Paper.{fillPaper, FillsTrace}
 use Rattle.order.specs.PassEnds.{Ready, Whole, Short, Passes}
 use Rattle.order.proofs.SpaceLaws.{cleared, cleared-drop, cleared-length, has-room}
 
@@ -48,29 +50,36 @@ module _ (tr : List Record) (a : Acceptable tr) (events width : ℕ) (ee : event
       none : shortRow tr width ≢ events
       none e = not-whole h (e ∙ ee)
 
-      pub short-reply : fillTrace tr events width (length cs) ≡ refused 23 (position + 1)
+      short-reply : fillTrace tr events width (length cs) ≡ refused 23 (position + 1)
       unfolding fillTrace demand
       short-reply = rw (space, ne-eqb (shortRow tr width) events none, ← p .short (not-whole h) .place)
 
-      pub short-clocks : (cs₃ : List ℕ) → cs₃ ≡ replicate (events * width) 0 ++ drop (events * width) cs₂ → cs₃ ≡ clocksAfterTrace tr events width cs
+      short-clocks : (cs₃ : List ℕ) → cs₃ ≡ replicate (events * width) 0 ++ drop (events * width) cs₂ → cs₃ ≡ clocksAfterTrace tr events width cs
       unfolding clocksAfterTrace
       short-clocks cs₃ e = rw (space, ne-eqb (shortRow tr width) events none) (e ∙ ap (λ r. replicate (events * width) 0 ++ r) rest-of)
+
+      pub ends-short : (cs₃ of₃ : List ℕ) → cs₃ ≡ replicate (events * width) 0 ++ drop (events * width) cs₂ → of₃ ≡ noChains → (r : Filling) → fillPaper r ≡ refused 23 (position + 1) → FillsTrace tr events width cs cs₃ r of₃
+      unfolding chainsAfterReply
+      ends-short cs₃ of₃ e o r q = record { answer = q ∙ sym short-reply; clocks-after = short-clocks cs₃ e; chains-after = rw short-reply o }
 
     -- the rows are filled
     module _ (h : length tr ≤ position) where
       enough : shortRow tr width ≡ eventsIn tr
       enough = not-short h (ℕ-discrete (shortRow tr width) (eventsIn tr))
 
-      pub whole-reply : fillTrace tr events width (length cs) ≡ filled chains
+      whole-reply : fillTrace tr events width (length cs) ≡ filled chains
       unfolding fillTrace demand
       whole-reply = rw (space, eq-eqb (shortRow tr width) events (enough ∙ sym ee), ← p .whole enough .chains-are)
 
-      pub whole-clocks : cs₂ ≡ clocksAfterTrace tr events width cs
+      whole-clocks : cs₂ ≡ clocksAfterTrace tr events width cs
       unfolding clocksAfterTrace
       whole-clocks =
           rw (space, eq-eqb (shortRow tr width) events (enough ∙ sym ee))
           (p .whole enough .clocks-are ∙ rw (← ee) (ap (λ r. traceClocks tr width ++ r) (cleared-drop (events * width) cs cs₁ fits c₁)))
 
-      pub whole-chains : of ≡ chainsAfterReply tr (fillTrace tr events width (length cs))
+      whole-chains : of ≡ chainsAfterReply tr (fillTrace tr events width (length cs))
       unfolding chainsAfterReply
       whole-chains = rw whole-reply (p .whole enough .of-are)
+
+      pub ends-whole : (r : Filling) → fillPaper r ≡ filled chains → FillsTrace tr events width cs cs₂ r of
+      ends-whole r q = record { answer = q ∙ sym whole-reply; clocks-after = whole-clocks; chains-after = whole-chains }

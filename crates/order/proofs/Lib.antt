@@ -8,14 +8,12 @@ pub mod ChainLaws
 pub mod ClockLaws
 pub mod RowLaws
 pub mod Theorems
--- The records: links and begins; the pass that fills the rows, with functions and with lists; marks, with functions and with lists
+-- The records: links and begins; the pass that fills the rows, with functions and with lists
 pub mod ScheduleLaws
 pub mod FillLaws
 pub mod FlatLaws
 pub mod TrackLaws
 pub mod PartLaws
-pub mod MarkLaws
-pub mod MarkListLaws
 pub mod Examples
 pub mod Cases
 -- Traces: their links, ranks and order
@@ -23,9 +21,9 @@ pub mod TraceOrder
 pub mod TraceLaws
 pub mod RankLaws
 pub mod PassLaws
-pub mod MemberLaws
+pub mod TableLaws
+pub mod ComparedLaws
 pub mod SpaceLaws
 pub mod FillEnds
-pub mod AskLaws
-pub mod OrderTheorem
 pub mod EntryLaws
+pub mod PrepareLaws

@@ -3,15 +3,15 @@
 use Prim.Native.Nat.{ℕ, _+_, _*_, _-_, _/_, _≤_, _<_}
 use mathlib.Core.Path.{_≡_, refl, sym, ap, _∙_}
 use mathlib.Core.Bool.{Bool, true, false, _&&_, and-eq-true-iff}
-use mathlib.Core.List.{List, _++_}
+use mathlib.Core.List.{List, [], _++_, append-nil}
 use native.Mathlib.Omega.{arith}
 use native.Mathlib.Nat.{mul-le-mul-right, le-of-lt, le-div-iff-mul-le}
 use borrow.Author.Tests.{leb-true}
 use lib.Dec.{T, leb, leb→le, le→leb}
 use Rattle.coverage.proofs.Tests.{same as equal-tests}
-use lib.ListN.{length, drop, replicate, length-append, length-replicate, length-drop}
+use lib.ListN.{length, drop, replicate, length-append, length-replicate, length-drop, drop-of-length-le}
 use lib.Seq.{drop-at}
-use Rattle.order.specs.Fill.{spaceFor}
+use Rattle.order.specs.Fill.{spaceFor, noChains}
 
 module _ (k : ℕ) (cs cs′ : List ℕ) (h : k ≤ length cs) (e : cs′ ≡ replicate k 0 ++ drop k cs) where
   pub cleared-drop : drop k cs′ ≡ drop k cs
@@ -22,6 +22,19 @@ module _ (k : ℕ) (cs cs′ : List ℕ) (h : k ≤ length cs) (e : cs′ ≡ re
 
   pub cleared-length : length cs′ ≡ length cs
   cleared-length = omega (arith, ap length e, length-append (replicate {A = ℕ} k 0) (drop k cs), length-replicate {A = ℕ} k 0, length-drop k cs)
+
+cleared-whole : (k : ℕ) (cs cs′ : List ℕ) → length cs ≡ k → cs′ ≡ replicate k 0 ++ drop k cs → cs′ ≡ replicate k 0
+cleared-whole k cs cs′ l e =
+    let h : length cs ≤ k = omega arith in
+    e ∙ ap (λ (r : List ℕ). replicate k 0 ++ r) (drop-of-length-le cs h) ∙ append-nil (replicate {A = ℕ} k 0)
+
+pub no-chains-length : length noChains ≡ 1024
+unfolding noChains
+no-chains-length = length-replicate {A = ℕ} 1024 0
+
+pub cleared-chains : (cs cs′ : List ℕ) → length cs ≡ 1024 → cs′ ≡ replicate 1024 0 ++ drop 1024 cs → cs′ ≡ noChains
+unfolding noChains
+cleared-chains cs cs′ l e = cleared-whole 1024 cs cs′ l e
 
 pub record HasRoom (width events space : ℕ) : Type 0 where
   pub some : 1 ≤ width

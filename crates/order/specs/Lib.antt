@@ -3,11 +3,10 @@ pub mod Chains
 pub mod Clocks
 pub mod Schedule
 pub mod Filling
-pub mod Marking
 pub mod HappensBefore
+pub mod Compared
 pub mod Pass
 pub mod Fill
 pub mod PassEnds
+pub mod Prepare
 pub mod Paper
-pub mod ChainPass
-pub mod Question

@@ -4,9 +4,11 @@ use mathlib.Core.Path.{_≡_}
 use mathlib.Core.List.{List}
 use lib.ListN.{length}
 use Rattle.records.specs.declared.Record.{Record}
+use Rattle.records.specs.declared.Trace.{Trace}
 use Rattle.order.specs.declared.Filling.{Filling}
 use Rattle.order.specs.declared.Filling.the-variants.{Filled, Refused}
 use Rattle.order.specs.Fill.{FillReply, refused, filled, fillTrace, fillReply, clocksAfterTrace, clocksAfter, chainsAfterReply, chainsAfter}
+use Rattle.order.specs.Prepare.{prepareReply, clocksPrepared, chainsPrepared, tracePrepared}
 
 abbrev pub fillPaper : Filling → FillReply
 fillPaper (Filled k) = filled k
@@ -27,3 +29,10 @@ pub record FillsTrace (tr : List Record) (events width : ℕ) (clocks clocks′ 
   pub answer : fillPaper r ≡ fillTrace tr events width (length clocks)
   pub clocks-after : clocks′ ≡ clocksAfterTrace tr events width clocks
   pub chains-after : of ≡ chainsAfterReply tr (fillTrace tr events width (length clocks))
+
+-- filling for a call with work space of that room: the answer, the trace to go on with, the lent clocks, and the chain of each row
+pub record Prepares (b : List ℕ) (width room : ℕ) (clocks clocks′ of′ : List ℕ) (r : Filling) (t : Trace) : Type 0 where
+  pub answer : fillPaper r ≡ prepareReply b width (length clocks) room
+  pub trace-is : t ≡ tracePrepared b width (length clocks) room
+  pub clocks-after : clocks′ ≡ clocksPrepared b width room clocks
+  pub chains-after : of′ ≡ chainsPrepared b width (length clocks) room

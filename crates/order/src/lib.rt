@@ -1,22 +1,62 @@
-// Happens-before, chains, vector clocks and the order question.
-mod chains;
+// Happens-before, chains and vector clocks.
 mod clear;
+pub mod comparison;
 mod merge;
-pub mod question;
 pub mod rows;
 
+use records::Trace;
 use records::access;
-use trace::EventId;
+use trace::Operation;
 use trace::Reading;
 use trace::Refusal;
 ghost use mathlib.Core.Path.{_≡_};
-ghost use Rattle.order.specs.Paper.{Fills, FillsChains};
-ghost use Rattle.order.specs.Question.{orderPaper, orderReply};
+ghost use Rattle.order.specs.Paper.{Fills, FillsChains, Prepares};
 
 // What filling finds: the number of chains used, or why it is refused.
 pub enum Filling {
     Filled(usize),
     Refused(Refusal),
+}
+
+// Filling with the trace to go on with: the one that was read where the call passes 22, else one with no records.
+pub struct Prepared {
+    pub answer: Filling,
+    pub trace: Trace,
+}
+
+// Reads the trace once and fills the lent clocks, for a call that has a work space of `room` bytes: 22 comes between 21 and 23. Gives the chain of each row in `of`.
+pub fn prepare(
+    bytes: &[u8],
+    width: usize,
+    room: usize,
+    clocks: &mut [u16],
+    of: &mut [u16; 1024],
+) -> Prepared
+    ensures { λ r. ⌜ Prepares (now (bytes .entry)) width room (now (clocks .entry)) (now (clocks .exit)) (now (of .exit)) (r .answer) (r .trace) ⌝ }
+{
+    clear::clear(of, 1024);
+    let reading = trace::read(bytes);
+    let Reading::Accepted(t) = reading else {
+        return rows::unfilled(trace::refusal_of(reading));
+    };
+    let events = t.events;
+    if !rows::has_space(width, events, clocks.len()) {
+        return rows::unfilled(Refusal {
+            number: trace::CLOCK_SPACE,
+            place: Operation(0),
+        });
+    }
+    if room < events {
+        return rows::unfilled(Refusal {
+            number: trace::WORK_SPACE,
+            place: Operation(0),
+        });
+    }
+    let answer = rows::fill_rows(access::records(bytes, t), events, width, clocks, of);
+    Prepared {
+        answer: answer,
+        trace: t,
+    }
 }
 
 // Filling with the chain of each row beside the answer.
@@ -25,15 +65,16 @@ pub struct Filled {
     pub of: [u16; 1024],
 }
 
-// Fills the lent clocks with the clock rows of the trace, and gives the chain of each row.
+// Fills the lent clocks with the clock rows of the trace, and gives the chain of each row. No trace has more event actions than 1,024.
 pub fn fill_chains(bytes: &[u8], width: usize, clocks: &mut [u16]) -> Filled
     ensures { λ r. ⌜ FillsChains (now (bytes .entry)) width (now (clocks .entry)) (now (clocks .exit)) (r .answer) (r .of) ⌝ }
 {
-    let reading = trace::read(bytes);
-    let Reading::Accepted(t) = reading else {
-        return rows::refused(trace::refusal_of(reading));
-    };
-    rows::fill_trace(access::records(bytes, t), t.events, width, clocks)
+    let mut of = rows::no_chains();
+    let answer = prepare(bytes, width, 1024, clocks, &mut of).answer;
+    Filled {
+        answer: answer,
+        of: of,
+    }
 }
 
 // Fills the lent clocks with the clock rows of the trace.
@@ -41,29 +82,4 @@ pub fn fill(bytes: &[u8], width: usize, clocks: &mut [u16]) -> Filling
     ensures { λ r. ⌜ Fills (now (bytes .entry)) width (now (clocks .entry)) (now (clocks .exit)) r ⌝ }
 {
     fill_chains(bytes, width, clocks).answer
-}
-
-// What the order question finds: whether the first event's action happens before the second's, as the clocks have it.
-pub enum Answer {
-    Yes,
-    No,
-    Refused(Refusal),
-}
-
-// The order question: t happens before u, over clocks that filling left; over any others, the comparison of their rows.
-pub fn happens_before(bytes: &[u8], width: usize, clocks: &[u16], t: EventId, u: EventId) -> Answer
-    ensures { λ r. ⌜ orderPaper r ≡ orderReply (now (bytes .entry)) width (now (clocks .entry)) (t .0) (u .0) ⌝ }
-{
-    let reading = trace::read(bytes);
-    let Reading::Accepted(read) = reading else {
-        return Answer::Refused(trace::refusal_of(reading));
-    };
-    question::ask(
-        access::records(bytes, read),
-        read.events,
-        width,
-        clocks,
-        t,
-        u,
-    )
 }

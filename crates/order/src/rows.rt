@@ -1,20 +1,23 @@
 // All rows in one pass over the records: at a link the earlier row is merged into the later one, and at a begin the chain is read off the merged row.
-use crate::Filled;
 use crate::Filling;
+use crate::Prepared;
 use crate::clear::clear;
 use crate::merge;
 use ranks::Ordering;
+use records::Trace;
 use records::access;
 use trace::Operation;
 use trace::Refusal;
 ghost use mathlib.Core.Path.{_≡_};
+ghost use mathlib.Core.Bool.{true};
 ghost use Prim.Native.Nat.{_≤_};
-ghost use lib.ListN.{getD};
+ghost use lib.ListN.{length, getD};
 ghost use Rattle.records.specs.Bytes.{decode};
 ghost use Rattle.records.specs.Records.{at};
 ghost use Rattle.ranks.specs.Said.{opOf};
 ghost use Rattle.trace.specs.Reading.{Acceptable};
 ghost use Rattle.order.specs.Fill.{eventsIn, noChains, spaceFor};
+ghost use Rattle.order.specs.Prepare.{noTrace};
 ghost use Rattle.order.specs.Paper.{FillsTrace};
 ghost use Rattle.order.specs.PassEnds.{Ready, Passes};
 ghost use Rattle.order.specs.Pass.{Rows, beginRow, turnRows, RoomToBegin, Room, Are};
@@ -112,12 +115,17 @@ pub(crate) fn no_chains() -> [u16; 1024]
     [0; 1024]
 }
 
-pub(crate) fn refused(why: Refusal) -> Filled
-    ensures { λ r. ⌜ (r .answer ≡ Filling.Refused why) × (r .of ≡ noChains) ⌝ }
+// Refused before the clocks are filled.
+pub(crate) fn unfilled(why: Refusal) -> Prepared
+    ensures { λ r. ⌜ (r .answer ≡ Filling.Refused why) × (r .trace ≡ noTrace) ⌝ }
 {
-    Filled {
+    Prepared {
         answer: Filling::Refused(why),
-        of: no_chains(),
+        trace: Trace {
+            start: 0,
+            records: 0,
+            events: 0,
+        },
     }
 }
 
@@ -134,33 +142,30 @@ pub fn has_space(width: usize, events: usize, space: usize) -> bool
     events <= space / width
 }
 
-// The rows of an accepted trace.
-pub(crate) fn fill_trace(recs: &[u8], events: usize, width: usize, clocks: &mut [u16]) -> Filled
-    requires { ⌜ Acceptable (decode (now recs)) × (events ≡ eventsIn (decode (now recs))) ⌝ }
-    ensures { λ r. ⌜ FillsTrace (decode (now (recs .entry))) events width (now (clocks .entry)) (now (clocks .exit)) (r .answer) (r .of) ⌝ }
+// The rows of an accepted trace that has the space for them, and the chain of each row, all 0 after 23.
+pub(crate) fn fill_rows(
+    recs: &[u8],
+    events: usize,
+    width: usize,
+    clocks: &mut [u16],
+    of: &mut [u16],
+) -> Filling
+    requires { ⌜ Acceptable (decode (now recs)) × (events ≡ eventsIn (decode (now recs))) × (spaceFor width events (length (now clocks)) ≡ true) × (now of ≡ noChains) ⌝ }
+    ensures { λ r. ⌜ FillsTrace (decode (now (recs .entry))) events width (now (clocks .entry)) (now (clocks .exit)) r (now (of .exit)) ⌝ }
 {
-    if !has_space(width, events, clocks.len()) {
-        return refused(Refusal {
-            number: trace::CLOCK_SPACE,
-            place: Operation(0),
-        });
-    }
     let rows = events * width;
     let all = ranks::ranks(recs);
     let mut sizes = no_chains();
-    let mut of = no_chains();
     clear(clocks, rows);
-    let passed = pass(recs, &all, clocks, width, &mut sizes, &mut of);
+    let passed = pass(recs, &all, clocks, width, &mut sizes, of);
     let position = passed.position;
     if position < access::count(recs) {
         clear(clocks, rows);
-        return refused(Refusal {
+        clear(of, 1024);
+        return Filling::Refused(Refusal {
             number: trace::CHAINS,
             place: Operation((position + 1) as u16),
         });
     }
-    Filled {
-        answer: Filling::Filled(passed.chains),
-        of: of,
-    }
+    Filling::Filled(passed.chains)
 }

@@ -14,12 +14,12 @@ use Rattle.records.specs.Records.{at, eventOf}
 use Rattle.order.specs.Clocks.{table, chainOf, compareIn}
 use Rattle.order.specs.HappensBefore.{rank, traceLinks, happensBefore}
 use Rattle.order.specs.Fill.{eventsIn, chainTable}
-use Rattle.order.specs.Question.{compared}
+use Rattle.order.specs.Compared.{compared}
 use Rattle.order.proofs.RankLaws.{ranks-are}
 use Rattle.order.proofs.RowLaws.{table-length}
 use Rattle.order.proofs.TraceOrder.{record-begins, begins-rank}
-use Rattle.order.proofs.AskLaws.{rank-row, events-few, chain-at}
-use Rattle.order.proofs.OrderTheorem.{compared-before}
+use Rattle.order.proofs.TableLaws.{rank-row, events-few, chain-at}
+use Rattle.order.proofs.ComparedLaws.{compared-before}
 use Rattle.coverage.specs.Race.{before, raceb}
 use Rattle.coverage.specs.Neighbours.{conflicts}
 use Rattle.races.specs.Traces.{cellsOf, settingOf, conflict}

@@ -11,18 +11,20 @@ use lib.Dec.{leb, eqb}
 use lib.ListN.{length, drop, replicate}
 use lib.Seq.{sets, sets-eq}
 use Rattle.records.specs.declared.Record.{Record}
+use Rattle.records.specs.declared.Trace.{Trace}
 use Rattle.records.specs.Bytes.{decode, part}
 use Rattle.trace.specs.Reading as reading
 use Rattle.trace.specs.Reading.{Acceptable, recordsIn, readReply}
 use Rattle.ranks.specs.Ranks.{ranksOf}
 use Rattle.order.specs.Fill as fill
-use Rattle.order.specs.Fill.{eventsIn, shortRow, beginPosition, chainsUsed, chainTable, traceClocks, spaceFor, fillTrace, fillRead, fillReply, clocksAfterTrace, clocksAfterRead, clocksAfter, chainsAfterReply, chainsAfterRead, chainsAfter, pickList}
-use Rattle.order.specs.Paper.{FillsChains}
+use Rattle.order.specs.Fill.{FillReply, eventsIn, shortRow, beginPosition, chainsUsed, chainTable, traceClocks, spaceFor, fillTrace, clocksAfterTrace, chainsAfterReply, pickList}
+use Rattle.order.specs.Prepare.{noTrace}
+use Rattle.order.specs.Paper.{fillPaper, FillsTrace, Prepares}
 use Rattle.order.specs.declared.Filling.{Filling}
-use Rattle.order.specs.declared.Filling.the-variants as filling
 use Rattle.order.proofs.SpaceLaws.{has-room, cleared-length}
 use Rattle.order.proofs.SpaceLaws.{cleared as cleared-zeros}
 use Rattle.order.proofs.EntryLaws.{records-are, read-acceptable, read-events}
+use Rattle.order.proofs.PrepareLaws.{Ways, not-read, short-space, short-room, went-on, ways}
 use Rattle.races.specs.declared.Listing.{Listing}
 use Rattle.races.specs.Leading.{rows}
 use Rattle.races.specs.Lists.{pairsOf, numbers, ListReply, refused, listed, demand, workFor, listFor, listFilled, listTrace, listRead, listReply, listAfter, clocksTrace, workTrace, clocksRead, workRead, listAfterRead}
@@ -106,9 +108,9 @@ module _ (b : List ℕ) (s n m : ℕ) (e : reading.accepted s n m ≡ readReply 
   }
 
   -- 21
-  pub no-space : spaceFor w m (length cs) ≡ false → (r : Listing) → listPaper r ≡ refused 21 0 → Lists short b w cs cs work work list list r
+  no-space : spaceFor w m (length cs) ≡ false → (cs′ work′ : List ℕ) → cs′ ≡ cs → work′ ≡ work → (r : Listing) → listPaper r ≡ refused 21 0 → Lists short b w cs cs′ work work′ list list r
   unfolding listTrace clocksTrace workTrace clocksAfterTrace demand listAfter
-  no-space h r p = lists-by cs work list r (rw h p) (rw h (same (workFor m (length work)))) (rw h refl) (rw h refl)
+  no-space h cs′ work′ c k r p = lists-by cs′ work′ list r (rw h p) (c ∙ rw h (same (workFor m (length work)))) (k ∙ rw h refl) (rw h refl)
     where
       same : (t : Bool) → cs ≡ pickList t cs cs
       same true = refl
@@ -116,104 +118,163 @@ module _ (b : List ℕ) (s n m : ℕ) (e : reading.accepted s n m ≡ readReply 
 
   module _ (space : spaceFor w m (length cs) ≡ true) where
     -- 22
-    pub no-work : length work < m → (r : Listing) → listPaper r ≡ refused 22 0 → Lists short b w cs cs work work list list r
+    no-work : length work < m → (cs′ work′ : List ℕ) → cs′ ≡ cs → work′ ≡ work → (r : Listing) → listPaper r ≡ refused 22 0 → Lists short b w cs cs′ work work′ list list r
     unfolding listTrace clocksTrace workTrace demand listAfter
-    no-work h r p =
+    no-work h cs′ work′ c k r p =
         let f = lt-leb m (length work) h in
-        lists-by cs work list r (rw (space, f) p) (rw f refl) (rw (space, f) refl) (rw (space, f) refl)
+        lists-by cs′ work′ list r (rw (space, f) p) (c ∙ rw f refl) (k ∙ rw (space, f) refl) (rw (space, f) refl)
 
-    module _ (room : m ≤ length work) (cs′ work′ of : List ℕ) (cleared : work′ ≡ replicate m 0 ++ drop m work) where
-      after-clocks : cs′ ≡ clocksAfterTrace tr m w cs → cs′ ≡ clocksTrace tr m w (length work) cs
+    module _ (room : m ≤ length work) (cs′ work′ of : List ℕ) (cleared : work′ ≡ replicate m 0 ++ drop m work) (f : Filling) (p : FillsTrace tr m w cs cs′ f of) where
+      after-clocks : cs′ ≡ clocksTrace tr m w (length work) cs
       unfolding clocksTrace
-      after-clocks q = rw (le-leb m (length work) room) q
+      after-clocks = rw (le-leb m (length work) room) (p .clocks-after)
 
       after-work : work′ ≡ workTrace tr m w (length cs) work
       unfolding workTrace
       after-work = rw (space, le-leb m (length work) room) cleared
 
-      -- filling's promise, by the records
-      module _ (f : Filling) (p : FillsChains b w cs cs′ f of) where
-        fill-answer : fillTrace tr m w (length cs) ≡ fillReply b w (length cs)
-        unfolding fillReply fillRead
-        fill-answer = rw (← e) refl
+      -- with space enough, filling is refused only by 23
+      short-reply : (t : Bool) → eqb (shortRow tr w) m ≡ t → (k x : ℕ) → fillTrace tr m w (length cs) ≡ fill.refused k x → listTrace short tr m w (length cs) (length work) (length list) ≡ refused k x
+      unfolding fillTrace listTrace fill.demand demand
+      short-reply true q k x z = let y : fill.filled (chainsUsed tr) ≡ fill.refused k x = rw (space, q) at z in let o : _≡_ {A = ℕ} 0 1 = cc in absurd (omega arith)
+      short-reply false q k x z =
+          let y : fill.refused 23 (beginPosition tr (shortRow tr w) + 1) ≡ fill.refused k x = rw (space, q) at z in
+          let i : 23 ≡ k = cc in
+          let j : beginPosition tr (shortRow tr w) + 1 ≡ x = cc in
+          rw (space, le-leb m (length work) room, q, i, j) refl
 
-        fill-clocks : cs′ ≡ clocksAfterTrace tr m w cs
-        unfolding clocksAfter clocksAfterRead
-        fill-clocks = rw (← e) at (p .fills .clocks-after)
+      -- 23
+      fill-refused : (k x : ℕ) → fillPaper f ≡ fill.refused k x → (r : Listing) → listPaper r ≡ refused k x → Lists short b w cs cs′ work work′ list list r
+      unfolding listAfter
+      fill-refused k x z r q =
+          let s = short-reply (eqb (shortRow tr w) m) refl k x (sym (p .answer) ∙ z) in
+          lists-by cs′ work′ list r (q ∙ sym s) after-clocks after-work (rw s refl)
 
-        fill-chains : of ≡ chainsAfterReply tr (fillTrace tr m w (length cs))
-        unfolding chainsAfter chainsAfterRead
-        fill-chains = rw (← e) at (p .chains-after)
+      -- the clocks are filled
+      module _ (chains : ℕ) (z : fillPaper f ≡ fill.filled chains) where
+        filled-by : fillTrace tr m w (length cs) ≡ fill.filled chains
+        filled-by = sym (p .answer) ∙ z
 
-        -- with space enough, filling is refused only by 23
-        short-reply : (t : Bool) → eqb (shortRow tr w) m ≡ t → (k x : ℕ) → fillTrace tr m w (length cs) ≡ fill.refused k x → listTrace short tr m w (length cs) (length work) (length list) ≡ refused k x
-        unfolding fillTrace listTrace fill.demand demand
-        short-reply true q k x z = let y : fill.filled (chainsUsed tr) ≡ fill.refused k x = rw (space, q) at z in let o : _≡_ {A = ℕ} 0 1 = cc in absurd (omega arith)
-        short-reply false q k x z =
-            let y : fill.refused 23 (beginPosition tr (shortRow tr w) + 1) ≡ fill.refused k x = rw (space, q) at z in
-            let i : 23 ≡ k = cc in
-            let j : beginPosition tr (shortRow tr w) + 1 ≡ x = cc in
-            rw (space, le-leb m (length work) room, q, i, j) refl
+        enough : (t : Bool) → eqb (shortRow tr w) m ≡ t → (t ≡ true) × (chains ≡ chainsUsed tr)
+        unfolding fillTrace fill.demand
+        enough true q = let y : fill.filled (chainsUsed tr) ≡ fill.filled chains = rw (space, q) at filled-by in (refl, cc)
+        enough false q = let y : fill.refused 23 (beginPosition tr (shortRow tr w) + 1) ≡ fill.filled chains = rw (space, q) at filled-by in let o : _≡_ {A = ℕ} 0 1 = cc in absurd (omega arith)
 
-        -- 23
-        pub fill-refused : (k x : ℕ) → fillReply b w (length cs) ≡ fill.refused k x → (r : Listing) → listPaper r ≡ refused k x → Lists short b w cs cs′ work work′ list list r
-        unfolding listAfter
-        fill-refused k x z r q =
-            let s = short-reply (eqb (shortRow tr w) m) refl k x (fill-answer ∙ z) in
-            lists-by cs′ work′ list r (q ∙ sym s) (after-clocks fill-clocks) after-work (rw s refl)
+        chains-taken : eqb (shortRow tr w) m ≡ true
+        chains-taken = enough (eqb (shortRow tr w) m) refl .0
 
-        -- the clocks are filled
-        module _ (chains : ℕ) (z : fillReply b w (length cs) ≡ fill.filled chains) where
-          filled-by : fillTrace tr m w (length cs) ≡ fill.filled chains
-          filled-by = fill-answer ∙ z
+        chains-are : chains ≡ chainsUsed tr
+        chains-are = enough (eqb (shortRow tr w) m) refl .1
 
-          enough : (t : Bool) → eqb (shortRow tr w) m ≡ t → (t ≡ true) × (chains ≡ chainsUsed tr)
-          unfolding fillTrace fill.demand
-          enough true q = let y : fill.filled (chainsUsed tr) ≡ fill.filled chains = rw (space, q) at filled-by in (refl, cc)
-          enough false q = let y : fill.refused 23 (beginPosition tr (shortRow tr w) + 1) ≡ fill.filled chains = rw (space, q) at filled-by in let o : _≡_ {A = ℕ} 0 1 = cc in absurd (omega arith)
+        events-are : m ≡ eventsIn tr
+        events-are = read-events b s n m e (part b s n) refl ∙ ap eventsIn (records-are b s n m e (part b s n) refl)
 
-          chains-taken : eqb (shortRow tr w) m ≡ true
-          chains-taken = enough (eqb (shortRow tr w) m) refl .0
+        acceptable : Acceptable tr
+        acceptable = subst Acceptable (records-are b s n m e (part b s n) refl) (read-acceptable b s n m e (part b s n) refl)
 
-          pub chains-are : chains ≡ chainsUsed tr
-          chains-are = enough (eqb (shortRow tr w) m) refl .1
+        clocks-whole : cs′ ≡ traceClocks tr w ++ drop (m * w) cs
+        unfolding clocksAfterTrace
+        clocks-whole = rw (space, chains-taken) at (p .clocks-after)
 
-          events-are : m ≡ eventsIn tr
-          events-are = read-events b s n m e (part b s n) refl ∙ ap eventsIn (records-are b s n m e (part b s n) refl)
+        chains-whole : of ≡ chainTable tr
+        unfolding chainsAfterReply
+        chains-whole = rw filled-by at (p .chains-after)
 
-          acceptable : Acceptable tr
-          acceptable = subst Acceptable (records-are b s n m e (part b s n) refl) (read-acceptable b s n m e (part b s n) refl)
+        filled-whole : Filled tr (ranksOf tr) of w cs′
+        filled-whole = record {
+          acceptable = acceptable;
+          ranks-are = refl;
+          of-are = chains-whole;
+          narrow = has-room w m (length cs) space .narrow;
+          enough = eqb-true _ _ chains-taken ∙ events-are;
+          rest = drop (m * w) cs;
+          clocks-are = clocks-whole;
+        }
 
-          clocks-whole : cs′ ≡ traceClocks tr w ++ drop (m * w) cs
-          unfolding clocksAfterTrace
-          clocks-whole = rw (space, chains-taken) at fill-clocks
+        work-clear : Clear tr m work′
+        unfolding eventsIn
+        work-clear = record {
+          events-are = events-are;
+          work-room = rw (← events-are) (omega (arith, cleared-length m work work′ room cleared, room));
+          zeros = rw (← events-are) (cleared-zeros m work work′ room cleared);
+        }
 
-          chains-whole : of ≡ chainTable tr
-          unfolding chainsAfterReply
-          chains-whole = rw filled-by at fill-chains
+        list-reply : listTrace short tr m w (length cs) (length work) (length list) ≡ listFilled short tr m (length list)
+        unfolding listTrace demand
+        list-reply = rw (space, le-leb m (length work) room, chains-taken) refl
 
-          pub filled-whole : Filled tr (ranksOf tr) of w cs′
-          filled-whole = record {
-            acceptable = acceptable;
-            ranks-are = refl;
-            of-are = chains-whole;
-            narrow = has-room w m (length cs) space .narrow;
-            enough = eqb-true _ _ chains-taken ∙ events-are;
-            rest = drop (m * w) cs;
-            clocks-are = clocks-whole;
-          }
+        list-done : (work″ list′ : List ℕ) (r : Listing) → ListsFilled short tr m work′ work″ list list′ r → Lists short b w cs cs′ work work″ list list′ r
+        list-done work″ list′ r l = lists-by cs′ work″ list′ r (l .answer ∙ sym list-reply) after-clocks (l .work-after ∙ after-work) (rw list-reply (l .list-after))
 
-          pub work-clear : Clear tr m work′
-          unfolding eventsIn
-          work-clear = record {
-            events-are = events-are;
-            work-room = rw (← events-are) (omega (arith, cleared-length m work work′ room cleared, room));
-            zeros = rw (← events-are) (cleared-zeros m work work′ room cleared);
-          }
+-- 1 to 10
+unread : (b : List ℕ) (n p : ℕ) → reading.refused n p ≡ readReply b → (short : Bool) (w : ℕ) (cs cs′ work work′ list : List ℕ) → cs′ ≡ cs → work′ ≡ work → (r : Listing) → listPaper r ≡ refused n p → Lists short b w cs cs′ work work′ list list r
+unfolding listReply listRead clocksRead workRead listAfterRead
+unread b n p e short w cs cs′ work work′ list c k r q = record { answer = rw (← e) q; clocks-after = rw (← e) c; work-after = rw (← e) k; list-after = rw (← e) refl }
 
-          list-reply : listTrace short tr m w (length cs) (length work) (length list) ≡ listFilled short tr m (length list)
-          unfolding listTrace demand
-          list-reply = rw (space, le-leb m (length work) room, chains-taken) refl
+-- a refusal of filling, as one of a list
+carried : FillReply → ListReply
+carried (fill.refused k x) = refused k x
+carried (fill.filled chains) = refused 0 0
 
-          pub list-done : (work″ list′ : List ℕ) (r : Listing) → ListsFilled short tr m work′ work″ list list′ r → Lists short b w cs cs′ work work″ list list′ r
-          list-done work″ list′ r l = lists-by cs′ work″ list′ r (l .answer ∙ sym list-reply) (after-clocks fill-clocks) (l .work-after ∙ after-work) (rw list-reply (l .list-after))
+-- the trace was prepared, and then the marks of its event actions were taken away
+module _ (b : List ℕ) (short : Bool) (w : ℕ) (cs cs′ work work′ of list : List ℕ) (f : Filling) (t : Trace) (p : Prepares b w (length work) cs cs′ of f t) where
+  pub marks-fit : t .events ≤ length work
+  marks-fit = go (ways p)
+    where
+      none : t ≡ noTrace → t .events ≤ length work
+      none q = let z : t .events ≡ 0 = ap (λ (x : Trace). x .events) q in omega arith
+
+      go : Ways b w (length work) cs cs′ of f t → t .events ≤ length work
+      go (not-read n i e a q c) = none q
+      go (short-space s n m e h a q c) = none q
+      go (short-room s n m e h l a q c) = none q
+      go (went-on s n m e h l q g) = let z : t .events ≡ m = ap (λ (x : Trace). x .events) q in omega arith
+
+  module _ (cleared : work′ ≡ replicate (t .events) 0 ++ drop (t .events) work) where
+    untouched : t ≡ noTrace → work′ ≡ work
+    untouched q = subst (λ (x : Trace). work′ ≡ replicate (x .events) 0 ++ drop (x .events) work) q cleared
+
+    cleared-of : (s n m : ℕ) → t ≡ record { start = s; records = n; events = m } → work′ ≡ replicate m 0 ++ drop m work
+    cleared-of s n m q = subst (λ (x : Trace). work′ ≡ replicate (x .events) 0 ++ drop (x .events) work) q cleared
+
+    pub not-listed : (k x : ℕ) → fillPaper f ≡ fill.refused k x → (r : Listing) → listPaper r ≡ refused k x → Lists short b w cs cs′ work work′ list list r
+    unfolding carried
+    not-listed k x z r y = go (ways p)
+      where
+        said : (n i : ℕ) → fillPaper f ≡ fill.refused n i → listPaper r ≡ refused n i
+        said n i a = y ∙ ap carried (sym z ∙ a)
+
+        go : Ways b w (length work) cs cs′ of f t → Lists short b w cs cs′ work work′ list list r
+        go (not-read n i e a q c) = unread b n i e short w cs cs′ work work′ list c (untouched q) r (said n i a)
+        go (short-space s n m e h a q c) = no-space b s n m e short w cs work list h cs′ work′ c (untouched q) r (said 21 0 a)
+        go (short-room s n m e h l a q c) = no-work b s n m e short w cs work list h l cs′ work′ c (untouched q) r (said 22 0 a)
+        go (went-on s n m e h l q g) = fill-refused b s n m e short w cs work list h l cs′ work′ of (cleared-of s n m q) f g k x z r y
+
+    -- what writing the list asks for, and what it gives
+    module _ (chains : ℕ) (z : fillPaper f ≡ fill.filled chains) (recs : List ℕ) (y : recs ≡ part b (t .start) (t .records)) where
+      pub record Listable : Type 0 where
+        pub filled : Filled (decode recs) (ranksOf (decode recs)) of w cs′
+        pub clear : Clear (decode recs) (t .events) work′
+        pub chains-used : chains ≡ chainsUsed (decode recs)
+        pub done : (work″ list′ : List ℕ) (r : Listing) → ListsFilled short (decode recs) (t .events) work′ work″ list list′ r → Lists short b w cs cs′ work work″ list list′ r
+
+      pub listable : Listable
+      listable = go (ways p)
+        where
+          not-refused : (n i : ℕ) → fillPaper f ≡ fill.refused n i → Listable
+          not-refused n i a = let o : fill.filled chains ≡ fill.refused n i = sym z ∙ a in let v : _≡_ {A = ℕ} 0 1 = cc in absurd (omega arith)
+
+          go : Ways b w (length work) cs cs′ of f t → Listable
+          go (not-read n i e a q c) = not-refused n i a
+          go (short-space s n m e h a q c) = not-refused 21 0 a
+          go (short-room s n m e h l a q c) = not-refused 22 0 a
+          go (went-on s n m e h l q g) =
+              let d : decode recs ≡ recordsIn b s n = records-are b s n m e recs (subst (λ (x : Trace). recs ≡ part b (x .start) (x .records)) q y) in
+              let v : t .events ≡ m = ap (λ (x : Trace). x .events) q in
+              let k = cleared-of s n m q in
+              record {
+                filled = rw d (filled-whole b s n m e short w cs work list h l cs′ work′ of k f g chains z);
+                clear = rw (d, v) (work-clear b s n m e short w cs work list h l cs′ work′ of k f g chains z);
+                chains-used = rw d (chains-are b s n m e short w cs work list h l cs′ work′ of k f g chains z);
+                done = λ work″ list′ r u. list-done b s n m e short w cs work list h l cs′ work′ of k f g chains z work″ list′ r (rw (d, v) at u);
+              }

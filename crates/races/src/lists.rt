@@ -10,29 +10,24 @@ use crate::marking;
 use crate::racing::is_race;
 use crate::workspace;
 use order::Filling;
-use order::rows::has_space;
 use ranks::ranks;
 use records::access;
 use trace::Operation;
-use trace::Reading;
 use trace::Refusal;
 ghost use mathlib.Core.Path.{_≡_};
 ghost use mathlib.Core.Bool.{true};
-ghost use mathlib.Core.List.{[], _∷_, _++_};
 ghost use Prim.Native.Nat.{_+_, _*_, _≤_, _<_};
 ghost use lib.Dec.{T};
-ghost use lib.ListN.{length, drop};
+ghost use lib.ListN.{length};
 ghost use lib.Seq.{sets};
 ghost use Rattle.records.specs.Bytes.{decode};
-ghost use Rattle.records.specs.Records.{at};
 ghost use Rattle.ranks.specs.Ranks.{ranksOf};
-ghost use Rattle.order.specs.Fill.{chainsUsed};
+ghost use Rattle.order.specs.Fill.{chainsUsed, noChains};
 ghost use Rattle.races.specs.Lists.{numbers, shapeOf, ListReply};
 ghost use Rattle.races.specs.Paper.{listPaper, ListsFilled, Lists};
 ghost use Rattle.races.specs.ListPass.{firsts, pairsBelow, raw, OneRoom, OneWrites, Clear, Room, RoomIf, Writes, WritesAll};
 ghost use Rattle.races.specs.Candidates.{Range};
 ghost use Rattle.races.specs.Filled.{Filled};
-ghost use Rattle.races.specs.Traces.{isAccess};
 
 // How many records on the way to b race with b.
 fn count_at(
@@ -294,6 +289,12 @@ fn list_filled(
     })
 }
 
+fn no_chains() -> [u16; 1024]
+    ensures { λ r. ⌜ r ≡ noChains ⌝ }
+{
+    [0; 1024]
+}
+
 // The short list, or the list of all races.
 pub(crate) fn list_races(
     bytes: &[u8],
@@ -305,27 +306,19 @@ pub(crate) fn list_races(
 ) -> Listing
     ensures { λ r. ⌜ Lists short (now (bytes .entry)) width (now (clocks .entry)) (now (clocks .exit)) (now (work .entry)) (now (work .exit)) (now (list .entry)) (now (list .exit)) r ⌝ }
 {
-    let reading = trace::read(bytes);
-    let Reading::Accepted(t) = reading else {
-        return Listing::Refused(trace::refusal_of(reading));
-    };
+    let mut of = no_chains();
+    let prepared = order::prepare(bytes, width, work.len(), clocks, &mut of);
+    let t = prepared.trace;
     let events = t.events;
-    if !has_space(width, events, clocks.len()) {
-        return refused(trace::CLOCK_SPACE);
-    }
-    if work.len() < events {
-        return refused(trace::WORK_SPACE);
-    }
-    let filled = order::fill_chains(bytes, width, clocks);
     workspace::clear_marks(work, events);
-    let answer = filled.answer;
+    let answer = prepared.answer;
     match answer {
         Filling::Filled(chains) => list_filled(
             access::records(bytes, t),
             events,
             width,
             clocks,
-            &filled.of,
+            &of,
             chains,
             work,
             list,

@@ -8,7 +8,7 @@ use crate::slots::plus;
 use crate::slots::wide;
 use crate::tally;
 use crate::tally::Counts;
-use order::Answer;
+use question::Answer;
 use trace::EventId;
 
 // 1 yes, 0 no, 11 where one has no begin in the trace: refusal 11, place 0.
@@ -42,7 +42,7 @@ fn compare_question(
 ) -> Counts {
     let x = event(table, k, t);
     let y = event(table, k, u);
-    let answer = code(order::happens_before(bytes, k.width, clocks, x, y));
+    let answer = code(question::happens_before(bytes, k.width, clocks, x, y));
     let yes = expected(table, k, t, u);
     let tally = tally::note(before, tally::ORDER, answer == yes);
     tally::add(tally, tally::ORDERED, pick(yes == 1, 1, 0))

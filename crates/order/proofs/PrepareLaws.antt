@@ -1,0 +1,149 @@
+-- How preparing ends, from the reading, the spaces and filling; and back from its promise.
+-- Assumes nothing.
+use Prim.Native.Nat.{ℕ, _≤_, _<_}
+use mathlib.Core.Path.{_≡_, refl, sym, ap, _∙_, subst}
+use mathlib.Core.Bool.{Bool, true, false, _&&_}
+use mathlib.Core.List.{List}
+use native.Mathlib.Omega.{arith}
+use borrow.Author.Tests.{le-leb, lt-leb, leb-true, leb-false}
+use lib.Dec.{leb}
+use lib.ListN.{length}
+use Rattle.records.specs.declared.Record.{Record}
+use Rattle.records.specs.declared.Trace.{Trace}
+use Rattle.records.specs.Bytes.{part}
+use Rattle.trace.specs.Reading as reading
+use Rattle.trace.specs.Reading.{Reply, recordsIn, readReply}
+use Rattle.order.specs.declared.Filling.{Filling}
+use Rattle.order.specs.Fill.{eventsIn, FillReply, refused, demand, spaceFor, fillTrace, fillRead, fillReply, pickList, clocksAfterTrace, clocksAfterRead, clocksAfter, noChains, chainsAfterReply, chainsAfterRead, chainsAfter}
+use Rattle.order.specs.Prepare.{prepareTrace, prepareRead, prepareReply, clocksPreparedRead, clocksPrepared, chainsPreparedRead, chainsPrepared, noTrace, pickTrace, tracePreparedRead, tracePrepared}
+use Rattle.order.specs.Paper.{fillPaper, FillsChains, FillsTrace, Prepares}
+use Rattle.order.proofs.EntryLaws.{read-acceptable, read-events}
+use Rattle.order.proofs.TableLaws.{events-few}
+
+-- 1 to 10
+pub unread : (b : List ℕ) (w room : ℕ) (cs of : List ℕ) (n p : ℕ) → readReply b ≡ reading.refused n p → (r : Filling) (t : Trace) → fillPaper r ≡ refused n p → t ≡ noTrace → of ≡ noChains → Prepares b w room cs cs of r t
+unfolding prepareReply prepareRead clocksPrepared clocksPreparedRead chainsPrepared chainsPreparedRead tracePrepared tracePreparedRead
+unread b w room cs of n p e r t a i o = record { answer = rw e a; trace-is = rw e i; clocks-after = rw e refl; chains-after = rw e o }
+
+-- an accepted trace
+module _ (b : List ℕ) (s n m : ℕ) (e : reading.accepted s n m ≡ readReply b) (w room : ℕ) (cs : List ℕ) where
+  abbrev tr : List Record
+  tr = recordsIn b s n
+
+  abbrev whole : Trace
+  whole = record { start = s; records = n; events = m }
+
+  -- the promise, by the records
+  by : (cs′ of : List ℕ) (r : Filling) (t : Trace)
+      → fillPaper r ≡ prepareTrace tr m w (length cs) room
+      → t ≡ pickTrace (spaceFor w m (length cs) && leb m room) whole
+      → cs′ ≡ pickList (leb m room) (clocksAfterTrace tr m w cs) cs
+      → of ≡ chainsAfterReply tr (prepareTrace tr m w (length cs) room)
+      → Prepares b w room cs cs′ of r t
+  unfolding prepareReply prepareRead clocksPrepared clocksPreparedRead chainsPrepared chainsPreparedRead tracePrepared tracePreparedRead
+  by cs′ of r t a i c o = record { answer = rw (← e) a; trace-is = rw (← e) i; clocks-after = rw (← e) c; chains-after = rw (← e) o }
+
+  -- 21
+  pub no-space : spaceFor w m (length cs) ≡ false → (of : List ℕ) (r : Filling) (t : Trace) → fillPaper r ≡ refused 21 0 → t ≡ noTrace → of ≡ noChains → Prepares b w room cs cs of r t
+  unfolding prepareTrace clocksAfterTrace chainsAfterReply demand
+  no-space h of r t a i o = by cs of r t (rw h a) (rw h i) (rw h (same (leb m room))) (rw h o)
+    where
+      same : (x : Bool) → cs ≡ pickList x cs cs
+      same true = refl
+      same false = refl
+
+  module _ (space : spaceFor w m (length cs) ≡ true) where
+    -- 22
+    pub no-room : room < m → (of : List ℕ) (r : Filling) (t : Trace) → fillPaper r ≡ refused 22 0 → t ≡ noTrace → of ≡ noChains → Prepares b w room cs cs of r t
+    unfolding prepareTrace chainsAfterReply demand
+    no-room h of r t a i o =
+        let f = lt-leb m room h in
+        by cs of r t (rw (space, f) a) (rw (space, f) i) (rw f refl) (rw (space, f) o)
+
+    module _ (h : m ≤ room) where
+      filling-on : prepareTrace tr m w (length cs) room ≡ fillTrace tr m w (length cs)
+      unfolding prepareTrace fillTrace demand
+      filling-on = rw (space, le-leb m room h) refl
+
+      -- 23, or the clocks are filled
+      pub passed : (cs′ of : List ℕ) (r : Filling) (t : Trace) (rs : List Record) → rs ≡ tr → FillsTrace rs m w cs cs′ r of → t ≡ whole → Prepares b w room cs cs′ of r t
+      passed cs′ of r t rs q g i =
+          let l = le-leb m room h in
+          let f = subst (λ (x : List Record). FillsTrace x m w cs cs′ r of) q g in
+          by cs′ of r t (f .answer ∙ sym filling-on) (rw (space, l) i) (rw l (f .clocks-after)) (f .chains-after ∙ sym (ap (chainsAfterReply tr) filling-on))
+
+-- With room for 1,024 event actions preparing is filling.
+module _ (b : List ℕ) (w space : ℕ) where
+  few : (s n m : ℕ) → reading.accepted s n m ≡ readReply b → m ≤ 1024
+  few s n m e =
+      let a = read-acceptable b s n m e (part b s n) refl in
+      omega (arith, read-events b s n m e (part b s n) refl, events-few a)
+
+  reply-is : (r : Reply) → r ≡ readReply b → prepareRead b r w space 1024 ≡ fillRead b r w space
+  unfolding prepareRead fillRead prepareTrace fillTrace demand
+  reply-is (reading.refused n p) e = refl
+  reply-is (reading.accepted s n m) e = rw (le-leb m 1024 (few s n m e)) refl
+
+  clocks-are : (cs : List ℕ) (r : Reply) → r ≡ readReply b → clocksPreparedRead b r w 1024 cs ≡ clocksAfterRead b r w cs
+  unfolding clocksPreparedRead clocksAfterRead
+  clocks-are cs (reading.refused n p) e = refl
+  clocks-are cs (reading.accepted s n m) e = rw (le-leb m 1024 (few s n m e)) refl
+
+  chains-are : (r : Reply) → r ≡ readReply b → chainsPreparedRead b r w space 1024 ≡ chainsAfterRead b r w space
+  unfolding chainsPreparedRead chainsAfterRead prepareTrace fillTrace demand
+  chains-are (reading.refused n p) e = refl
+  chains-are (reading.accepted s n m) e = rw (le-leb m 1024 (few s n m e)) refl
+
+pub fills : (b : List ℕ) (w : ℕ) (cs cs′ of : List ℕ) (r : Filling) (t : Trace) → Prepares b w 1024 cs cs′ of r t → FillsChains b w cs cs′ r of
+unfolding prepareReply fillReply clocksPrepared clocksAfter chainsPrepared chainsAfter
+fills b w cs cs′ of r t p = record {
+  fills = record { answer = p .answer ∙ reply-is b w (length cs) (readReply b) refl; clocks-after = p .clocks-after ∙ clocks-are b w (length cs) cs (readReply b) refl };
+  chains-after = p .chains-after ∙ chains-are b w (length cs) (readReply b) refl;
+}
+
+-- The ways in which preparing ends.
+pub data Ways (b : List ℕ) (w room : ℕ) (cs cs′ of : List ℕ) (r : Filling) (t : Trace) : Type 0 where
+  not-read : (n p : ℕ) → reading.refused n p ≡ readReply b → fillPaper r ≡ refused n p → t ≡ noTrace → cs′ ≡ cs → Ways b w room cs cs′ of r t
+  short-space : (s n m : ℕ) → reading.accepted s n m ≡ readReply b → spaceFor w m (length cs) ≡ false → fillPaper r ≡ refused 21 0 → t ≡ noTrace → cs′ ≡ cs → Ways b w room cs cs′ of r t
+  short-room : (s n m : ℕ) → reading.accepted s n m ≡ readReply b → spaceFor w m (length cs) ≡ true → room < m → fillPaper r ≡ refused 22 0 → t ≡ noTrace → cs′ ≡ cs → Ways b w room cs cs′ of r t
+  went-on : (s n m : ℕ) → reading.accepted s n m ≡ readReply b → spaceFor w m (length cs) ≡ true → m ≤ room → t ≡ record { start = s; records = n; events = m } → FillsTrace (recordsIn b s n) m w cs cs′ r of → Ways b w room cs cs′ of r t
+
+module _ {b : List ℕ} {w room : ℕ} {cs cs′ of : List ℕ} {r : Filling} {t : Trace} (p : Prepares b w room cs cs′ of r t) where
+  module _ (s n m : ℕ) (e : reading.accepted s n m ≡ readReply b) where
+    accepted-reply : fillPaper r ≡ prepareTrace (recordsIn b s n) m w (length cs) room
+    unfolding prepareReply prepareRead
+    accepted-reply = rw (← e) at (p .answer)
+
+    accepted-trace : t ≡ pickTrace (spaceFor w m (length cs) && leb m room) (record { start = s; records = n; events = m })
+    unfolding tracePrepared tracePreparedRead
+    accepted-trace = rw (← e) at (p .trace-is)
+
+    accepted-clocks : cs′ ≡ pickList (leb m room) (clocksAfterTrace (recordsIn b s n) m w cs) cs
+    unfolding clocksPrepared clocksPreparedRead
+    accepted-clocks = rw (← e) at (p .clocks-after)
+
+    accepted-chains : of ≡ chainsAfterReply (recordsIn b s n) (prepareTrace (recordsIn b s n) m w (length cs) room)
+    unfolding chainsPrepared chainsPreparedRead
+    accepted-chains = rw (← e) at (p .chains-after)
+
+    accepted-ways : (x y : Bool) → spaceFor w m (length cs) ≡ x → leb m room ≡ y → Ways b w room cs cs′ of r t
+    unfolding prepareTrace clocksAfterTrace demand
+    accepted-ways false true f g = short-space s n m e f (rw f at accepted-reply) (rw f at accepted-trace) (rw (f, g) at accepted-clocks)
+    accepted-ways false false f g = short-space s n m e f (rw f at accepted-reply) (rw f at accepted-trace) (rw (f, g) at accepted-clocks)
+    accepted-ways true false f g = short-room s n m e f (leb-false m room g) (rw (f, g) at accepted-reply) (rw (f, g) at accepted-trace) (rw g at accepted-clocks)
+    accepted-ways true true f g =
+        let h = leb-true m room g in
+        let q = filling-on b s n m e w room cs f h in
+        went-on s n m e f h (rw (f, g) at accepted-trace) (record {
+          answer = accepted-reply ∙ q;
+          clocks-after = rw g at accepted-clocks;
+          chains-after = accepted-chains ∙ ap (chainsAfterReply (recordsIn b s n)) q;
+        })
+
+  ways-of : (x : Reply) → x ≡ readReply b → Ways b w room cs cs′ of r t
+  unfolding prepareReply prepareRead clocksPrepared clocksPreparedRead tracePrepared tracePreparedRead
+  ways-of (reading.refused n i) e = not-read n i e (rw (← e) at (p .answer)) (rw (← e) at (p .trace-is)) (rw (← e) at (p .clocks-after))
+  ways-of (reading.accepted s n m) e = accepted-ways s n m e (spaceFor w m (length cs)) (leb m room) refl refl
+
+  pub ways : Ways b w room cs cs′ of r t
+  ways = ways-of (readReply b) refl

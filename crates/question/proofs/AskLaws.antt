@@ -1,0 +1,48 @@
+-- How the order question on an accepted trace ends.
+-- Assumes nothing.
+use Prim.Native.Nat.{ℕ, zero, suc, _+_, _*_, _-_, _≤_, _<_}
+use mathlib.Core.Path.{_≡_, refl, sym, ap, _∙_}
+use mathlib.Core.Bool.{true, false}
+use mathlib.Core.List.{List, _++_}
+use mathlib.Core.Logic.{_≢_}
+use native.Mathlib.Omega.{arith}
+use native.Mathlib.Decide.{ℕ-discrete}
+use borrow.Author.Tests.{eq-eqb, ne-eqb}
+use lib.ListN.{length, getD, replicate, List·getD-append}
+use Rattle.records.specs.declared.Record.{Record}
+use Rattle.trace.specs.Reading.{Acceptable}
+use Rattle.order.specs.Clocks.{chainOf, compareIn}
+use Rattle.order.specs.HappensBefore.{rank, traceLinks}
+use Rattle.order.specs.Fill.{eventsIn, beginPosition, shortRow, chainTable, spaceFor}
+use Rattle.order.specs.Compared.{compared}
+use Rattle.question.specs.ChainPass.{PassesChains}
+use Rattle.question.specs.Question.{OrderReply, refused, answered, demand, bothBegin, orderTrace}
+use Rattle.order.proofs.TableLaws.{rank-row, chain-at}
+
+module _ {tr : List Record} (a : Acceptable tr) where
+  module _ (events width : ℕ) (ee : events ≡ eventsIn tr) (clocks : List ℕ) (t u x y : ℕ) (ex : x ≡ rank tr t) (ey : y ≡ rank tr u) (nx : x ≢ 0) (ny : y ≢ 0) where
+    begin-both : bothBegin tr t u ≡ true
+    unfolding bothBegin
+    begin-both = rw (ne-eqb (rank tr t) 0 (λ z. nx (ex ∙ z)), ne-eqb (rank tr u) 0 (λ z. ny (ey ∙ z)))
+
+    pub ask-space : spaceFor width events (length clocks) ≡ false → orderTrace tr events width clocks t u ≡ refused 21 0
+    unfolding orderTrace demand
+    ask-space s = rw (begin-both, s)
+
+    module _ (s : spaceFor width events (length clocks) ≡ true) (of : List ℕ) (position : ℕ) (p : PassesChains tr width of position) where
+      pub ask-short : position < length tr → orderTrace tr events width clocks t u ≡ refused 23 (position + 1)
+      unfolding orderTrace demand
+      ask-short h =
+          let n : shortRow tr width ≢ eventsIn tr = λ e. omega (arith, p .whole e .1) in
+          rw (begin-both, s, ne-eqb (shortRow tr width) events (λ e. n (e ∙ ee)), ← p .short n .place)
+
+      whole : length tr ≤ position → Dec (shortRow tr width ≡ eventsIn tr) → shortRow tr width ≡ eventsIn tr
+      whole h (yes e) = e
+      whole h (no n) = absurd (omega (arith, p .short n .inside))
+
+      pub ask-done : length tr ≤ position → orderTrace tr events width clocks t u ≡ answered (compareIn clocks width (getD of (x - 1) 0) (x - 1) (y - 1))
+      unfolding orderTrace demand compared
+      ask-done h =
+          let e = whole h (ℕ-discrete (shortRow tr width) (eventsIn tr)) in
+          let c : getD of (x - 1) 0 ≡ chainOf (traceLinks tr) (rank tr t - 1) = rw (ex, p .whole e .0) (chain-at a (rank tr t - 1) (rank-row a t (λ z. nx (ex ∙ z)))) in
+          rw (begin-both, s, eq-eqb (shortRow tr width) events (e ∙ sym ee), c, ex, ey)

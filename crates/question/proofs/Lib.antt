@@ -1,0 +1,7 @@
+-- Marks, with functions and with lists; the pass that finds the chains; how the question ends, and what it says over clocks that filling left
+pub mod MarkLaws
+pub mod MarkListLaws
+pub mod Examples
+pub mod MemberLaws
+pub mod AskLaws
+pub mod OrderTheorem

@@ -1,0 +1,237 @@
+-- The pass that finds the chains from the trace alone keeps the last member of each chain, and stops at the begin for which the width has no chain left.
+-- Assumes nothing.
+use Prim.Native.Nat.{ℕ, zero, suc, _+_, _-_, _<_, _≤_, max}
+use mathlib.Core.Path.{_≡_, refl, sym, ap, _∙_, subst}
+use mathlib.Core.Bool.{Bool}
+use mathlib.Core.List.{List, [], _∷_, _++_}
+use mathlib.Core.Logic.{_≢_, _⊎_, inl, inr}
+use native.Mathlib.Omega.{arith}
+use native.Mathlib.Numerals.{add-one}
+use native.Mathlib.Decide.{ℕ-discrete}
+use borrow.Author.Tests.{le-leb, lt-leb}
+use lib.Dec.{T, leb, eqb}
+use lib.ListN.{length, getD, set, replicate, length-set, length-append, length-replicate}
+use lib.Seq.{getD-set-same, getD-set-other}
+use Rattle.records.specs.declared.Record.{Record}
+use Rattle.records.specs.Records.{at}
+use Rattle.trace.specs.Reading.{Acceptable}
+use Rattle.records.proofs.Positions.{lt-or-ge}
+use Rattle.order.specs.Links.{Links, leq}
+use Rattle.order.specs.Chains.{lasts, chain, used, needs, first}
+use Rattle.order.specs.Clocks.{table, chainOf}
+use Rattle.order.specs.Schedule.{begins}
+use Rattle.question.specs.Marking.{marked, marksIn, marksDownIn, markIn}
+use Rattle.ranks.specs.Said.{opOf, Op, link, begin, other}
+use Rattle.order.specs.HappensBefore.{opAt, traceLinks}
+use Rattle.ranks.specs.Ranks.{ranksOf}
+use Rattle.order.specs.Fill.{eventsIn, beginPosition, shortRow, chainTable, noChains}
+use Rattle.order.specs.PassEnds.{Short}
+use Rattle.question.specs.ChainPass.{Members, markedChain, enterChain, saidBy, turnMembers, RoomFor, AreMembers, ReadyChains, PassesChains}
+use Rattle.order.proofs.CountLaws.{firstFrom-local}
+use Rattle.order.proofs.ChainLaws.{chain-search, chain-le-used, used-zero, used-suc, used-le-self, last-own, last-other, needs-at, needs-none}
+use Rattle.order.proofs.ScheduleLaws.{begins-zero, begins-suc, begins-mono, begin-next, links-made}
+use Rattle.question.proofs.MarkListLaws.{marks-list}
+use Rattle.order.proofs.RowLaws.{table-length}
+use Rattle.order.proofs.RankLaws.{ops-are}
+use Rattle.order.proofs.TraceOrder.{ops-ordered, forward-links}
+use Rattle.order.proofs.PassLaws.{events-are, few, chains-of, chains-more, begun-below, begin-position}
+
+-- the marks go by what the records say, and so by whatever says the same
+down-same : (f g : ℕ → Op) → ((i : ℕ) → f i ≡ g i) → (i : ℕ) (ms : List ℕ) → marksDownIn f i ms ≡ marksDownIn g i ms
+unfolding marksDownIn
+down-same f g h zero ms = refl
+down-same f g h (suc i) ms = rw (h i) (down-same f g h i (markIn (g i) ms))
+
+enter-room : (w u : ℕ) (s : Members) (c : ℕ) → c < w → enterChain w u s c ≡ record { lasts = set (s .lasts) c u; of = set (s .of) u c; chains = max (s .chains) (suc c) }
+unfolding enterChain
+enter-room w u s c h = rw (lt-leb w c h)
+
+enter-full : (w u : ℕ) (s : Members) (c : ℕ) → w ≤ c → enterChain w u s c ≡ record { lasts = s .lasts; of = s .of; chains = suc w }
+unfolding enterChain
+enter-full w u s c h = rw (le-leb w c h)
+
+module _ {tr : List Record} (a : Acceptable tr) (w : ℕ) (narrow : w ≤ 1024) where
+  abbrev op : ℕ → Op
+  op = opAt tr
+
+  abbrev n : ℕ
+  n = length tr
+
+  abbrev le : ℕ → ℕ → Bool
+  le = leq (traceLinks tr)
+
+  -- after the first i records
+  pub record Keeping (i : ℕ) (s : Members) : Type 0 where
+    pub lasts-are : (c : ℕ) → c < used le (begins op i) → getD (s .lasts) c 0 ≡ getD (lasts le (begins op i)) c 0
+    pub lasts-size : length (s .lasts) ≡ 1024
+    pub of-are : s .of ≡ chains-of a w [] (begins op i)
+    pub chains-are : s .chains ≡ used le (begins op i)
+    pub chains-fit : s .chains ≤ w
+
+  pub keeping-start : (ls : List ℕ) → length ls ≡ 1024 → Keeping 0 (record { lasts = ls; of = noChains; chains = 0 })
+  unfolding noChains table
+  keeping-start ls h = record {
+    lasts-are = λ c l. absurd (omega (arith, l, none));
+    lasts-size = h;
+    of-are = rw (begins-zero op) refl;
+    chains-are = sym none;
+    chains-fit = omega arith;
+  }
+    where
+      none : used le (begins op 0) ≡ 0
+      none = ap (used le) (begins-zero op) ∙ used-zero le
+
+  module _ (i : ℕ) (s : Members) (h : i < n) (k : Keeping i s) where
+    -- the chain found is the chain
+    found : (u : ℕ) → op i ≡ begin u → markedChain (marksIn op i u 1024) (s .lasts) (s .chains) ≡ chain le u
+    unfolding markedChain
+    found u e =
+        let b = begun-below a w [] i u h e in
+        rw (k .chains-are)
+        (firstFrom-local (λ c. marked (marksIn op i u 1024) (getD (s .lasts) c 0)) (λ c. le (getD (lasts le u) c 0) u) 0 (used le (begins op i)) (each u e (b .0) (b .1))
+        ∙ rw (← b .0) (sym (chain-search le u)))
+      where
+        each : (u : ℕ) → op i ≡ begin u → u ≡ begins op i → u < begins op n → (c : ℕ) → 0 ≤ c → c < 0 + used le (begins op i) → marked (marksIn op i u 1024) (getD (s .lasts) c 0) ≡ le (getD (lasts le u) c 0) u
+        each u e b l c x y =
+            marks-list (traceLinks tr) (forward-links a) op n (ops-ordered a) (links-made op n) 1024 u i (few a w []) l h e (getD (s .lasts) c 0)
+            ∙ ap (λ t. le t u) (k .lasts-are c (omega arith) ∙ ap (λ v. getD (lasts le v) c 0) (sym b))
+
+    pub keeping-room : RoomFor (op i) s
+    keeping-room = go (op i) refl
+      where
+        go : (o : Op) → op i ≡ o → RoomFor o s
+        go (link p u) e = tt
+        go (begin u) e =
+            let b = begun-below a w [] i u h e in
+            let f = few a w [] in
+            (omega (arith, b .1, f), omega (arith, k .chains-fit), k .lasts-size, of-size)
+          where
+            of-size : length (s .of) ≡ 1024
+            of-size = omega (arith, ap length (k .of-are), length-append (table (begins op i) (chainOf (traceLinks tr))) (replicate (1024 - begins op i) 0), table-length (begins op i) (chainOf (traceLinks tr)), length-replicate {A = ℕ} (1024 - begins op i) 0, few a w [], begins-mono op i n (omega arith))
+        go other e = tt
+
+    -- row u enters its chain
+    entered : (u : ℕ) → op i ≡ begin u → chain le u < w → Keeping (suc i) (record { lasts = set (s .lasts) (chain le u) u; of = set (s .of) u (chain le u); chains = max (s .chains) (suc (chain le u)) })
+    entered u e t =
+        let b = begun-below a w [] i u h e in
+        let next = begins-suc op i (begin u) e in
+        record {
+          lasts-are = λ c l. last c l (ℕ-discrete c (chain le u));
+          lasts-size = length-set (s .lasts) (chain le u) u ∙ k .lasts-size;
+          of-are = rw (next, k .of-are, b .0) (chains-more a w [] (begins op i) (omega (arith, few a w [], b .0, b .1)));
+          chains-are = rw (next, k .chains-are) (ap (λ v. max (used le (begins op i)) (suc (chain le v))) (b .0) ∙ sym (used-suc le (begins op i)));
+          chains-fit = omega (arith, k .chains-fit);
+        }
+      where
+        after : begins op (suc i) ≡ suc u
+        after = begins-suc op i (begin u) e ∙ ap suc (sym (begun-below a w [] i u h e .0))
+
+        last : (c : ℕ) → c < used le (begins op (suc i)) → Dec (c ≡ chain le u) → getD (set (s .lasts) (chain le u) u) c 0 ≡ getD (lasts le (begins op (suc i))) c 0
+        last c l (yes d) = rw (after, d, getD-set-same (s .lasts) (chain le u) u 0 (omega (arith, k .lasts-size))) (sym (last-own le u))
+        last c l (no d) =
+            let b = begun-below a w [] i u h e .0 in
+            rw (after, getD-set-other (s .lasts) (chain le u) c u 0 d)
+            (k .lasts-are c (omega (arith, l, ap (used le) after, used-suc le u, ap (used le) b, chain-le-used le u, d)) ∙ (ap (λ v. getD (lasts le v) c 0) (sym b) ∙ sym (last-other le u c d)))
+
+    module _ (ranks : List ℕ) (r : ranks ≡ ranksOf tr) where
+      said : (j : ℕ) → saidBy ranks tr j ≡ op j
+      said j = rw r (ops-are a j)
+
+      turned : (u : ℕ) → op i ≡ begin u → markedChain (marksIn (saidBy ranks tr) i u 1024) (s .lasts) (s .chains) ≡ chain le u
+      turned u e = ap (λ m. markedChain m (s .lasts) (s .chains)) (down-same (saidBy ranks tr) op said i _) ∙ found u e
+
+      abbrev turnedBy : Members
+      turnedBy = turnMembers ranks tr w i (saidBy ranks tr i) s
+
+      pub keeping-next : turnedBy .chains ≤ w → Keeping (suc i) turnedBy
+      unfolding turnMembers
+      keeping-next l = rw (said i) (go (op i) refl (rw (said i) at l))
+        where
+          begun : (u : ℕ) → op i ≡ begin u → (chain le u < w) ⊎ (w ≤ chain le u) → enterChain w u s (chain le u) .chains ≤ w → Keeping (suc i) (enterChain w u s (chain le u))
+          begun u e (inl t) l = rw (enter-room w u s (chain le u) t) (entered u e t)
+          begun u e (inr t) l = absurd (omega (arith, l, ap (λ m. m .chains) (enter-full w u s (chain le u) t)))
+
+          stays : (o : Op) → op i ≡ o → begins op (suc i) ≡ begins op i → Keeping (suc i) s
+          stays o e q = record {
+            lasts-are = rw q (k .lasts-are);
+            lasts-size = k .lasts-size;
+            of-are = rw q (k .of-are);
+            chains-are = rw q (k .chains-are);
+            chains-fit = k .chains-fit;
+          }
+
+          go : (o : Op) → op i ≡ o → turnMembers ranks tr w i o s .chains ≤ w → Keeping (suc i) (turnMembers ranks tr w i o s)
+          go (link p u) e l = stays (link p u) e (begins-suc op i (link p u) e)
+          go (begin u) e l = rw (turned u e) (begun u e (lt-or-ge (chain le u) w) (rw (turned u e) at l))
+          go other e l = stays other e (begins-suc op i other e)
+
+      pub keeping-stop : w < turnedBy .chains → (shortRow tr w ≢ eventsIn tr) × Short tr w i
+      unfolding turnMembers shortRow
+      keeping-stop l = go (op i) refl (rw (said i) at l)
+        where
+          stops : (u : ℕ) → op i ≡ begin u → (chain le u < w) ⊎ (w ≤ chain le u) → w < enterChain w u s (chain le u) .chains → (needs le w (eventsIn tr) ≢ eventsIn tr) × Short tr w i
+          stops u e (inl t) l = absurd (omega (arith, l, ap (λ m. m .chains) (enter-room w u s (chain le u) t), k .chains-fit))
+          stops u e (inr t) l =
+              let b = begun-below a w [] i u h e in
+              let v = events-are a w [] in
+              let q : needs le w (eventsIn tr) ≡ u = needs-at le w (eventsIn tr) u (omega (arith, b .1, v)) (omega (arith, k .chains-are, k .chains-fit, ap (used le) (b .0))) t in
+              (λ z. omega (arith, q, z, b .1, v), record { place = rw q (sym (begin-position a w [] i u h e)); inside = h })
+
+          go : (o : Op) → op i ≡ o → w < turnMembers ranks tr w i o s .chains → (needs le w (eventsIn tr) ≢ eventsIn tr) × Short tr w i
+          go (link p u) e l = absurd (omega (arith, l, k .chains-fit))
+          go (begin u) e l = stops u e (lt-or-ge (chain le u) w) (rw (turned u e) at l)
+          go other e l = absurd (omega (arith, l, k .chains-fit))
+
+  pub keeping-end : (s : Members) → Keeping n s → (shortRow tr w ≡ eventsIn tr) × (s .of ≡ chainTable tr)
+  unfolding shortRow chainTable
+  keeping-end s k =
+      let v = events-are a w [] in
+      (needs-none le w (eventsIn tr) .1 (omega (arith, k .chains-are, k .chains-fit, ap (used le) v)), rw (← v) (k .of-are))
+
+-- The loop of the pass, turn by turn.
+are-members : (s : Members) (ls of : List ℕ) (chains : ℕ) → AreMembers s ls of chains → record { lasts = ls; of = of; chains = chains } ≡ s
+are-members s ls of chains e = rw (e .lasts-are, e .of-are, e .chains-are)
+
+module _ (tr : List Record) (w : ℕ) (ranks : List ℕ) where
+  pub record Going (ls of : List ℕ) (chains i : ℕ) : Type 0 where
+    pub within : i ≤ length tr
+    pub acceptable : Acceptable tr
+    pub narrow : w ≤ 1024
+    pub ranks-are : ranks ≡ ranksOf tr
+    pub keeping : Keeping acceptable w narrow i (record { lasts = ls; of = of; chains = chains })
+
+  pub going-start : (ls of : List ℕ) → ReadyChains tr w ranks ls of → Going ls of 0 0
+  going-start ls of r = record {
+    within = omega arith;
+    acceptable = r .acceptable;
+    narrow = r .narrow;
+    ranks-are = r .ranks-are;
+    keeping = rw (r .of-clear) (keeping-start (r .acceptable) w (r .narrow) ls (r .lasts-size));
+  }
+
+  module _ {ls of : List ℕ} {chains i : ℕ} (g : Going ls of chains i) where
+    pub going-room : i < length tr → RoomFor (saidBy ranks tr i) (record { lasts = ls; of = of; chains = chains })
+    going-room h = rw (g .ranks-are, ops-are (g .acceptable) i) (keeping-room (g .acceptable) w (g .narrow) i _ h (g .keeping))
+
+    module _ (h : i < length tr) (ls′ of′ : List ℕ) (next : ℕ)
+        (t : AreMembers (turnMembers ranks tr w i (saidBy ranks tr i) (record { lasts = ls; of = of; chains = chains })) ls′ of′ next) where
+      pub going-next : next ≤ w → Going ls′ of′ next (i + 1)
+      going-next l = record {
+        within = omega arith;
+        acceptable = g .acceptable;
+        narrow = g .narrow;
+        ranks-are = g .ranks-are;
+        keeping = rw (add-one i, are-members _ ls′ of′ next t) (keeping-next (g .acceptable) w (g .narrow) i _ h (g .keeping) ranks (g .ranks-are) (rw (← t .chains-are) l));
+      }
+
+      pub going-stop : w < next → PassesChains tr w of′ i
+      going-stop l =
+          let s = keeping-stop (g .acceptable) w (g .narrow) i _ h (g .keeping) ranks (g .ranks-are) (rw (t .chains-are) at l) in
+          record { whole = λ e. absurd (s .0 e); short = λ n. s .1 }
+
+    pub going-end : length tr ≤ i → PassesChains tr w of i
+    going-end h =
+        let l = g .within in
+        let e : i ≡ length tr = omega arith in
+        let k = keeping-end (g .acceptable) w (g .narrow) _ (rw e at (g .keeping)) in
+        record { whole = λ z. (k .1, e); short = λ n. absurd (n (k .0)) }

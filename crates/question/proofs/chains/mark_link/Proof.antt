@@ -1,0 +1,74 @@
+-- `question::chains::mark_link` meets its contract.
+-- Assumes nothing.
+use Rattle.ranks.proofs.SaidLaws.{nothing-said, begin-said}
+use Rattle.question.specs.Marking.{markIn}
+use Rattle.ranks.specs.Ranks.{says}
+use mathlib.Core.Path.{refl, sym, ap, _∙_}
+use borrow.Author.Needs.{needs}
+use Rattle.question.proofs.chains.mark_link.Statement.{statement}
+use Rattle.question.proofs.chains.mark_link.Tie as tie
+
+ordering-at-requires : tie.Need-ordering-at-requires
+ordering-at-requires c κs = search needs
+
+enum-known-said : tie.Need-enum-known-said
+enum-known-said c = search needs
+
+cast-is-marked : tie.Need-cast-is-marked
+cast-is-marked c = search needs
+
+is-marked-requires : tie.Need-is-marked-requires
+is-marked-requires c κs = search needs
+
+cast-set-mark : tie.Need-cast-set-mark
+cast-set-mark c = search needs
+
+set-mark-requires : tie.Need-set-mark-requires
+set-mark-requires c κs = search needs
+
+enum-told : tie.Need-enum-told
+enum-told c = search needs
+
+enum-told-2 : tie.Need-enum-told-2
+enum-told-2 c = search needs
+
+same-length : tie.Need-same-length
+same-length c = search needs
+
+returns : tie.Need-returns
+unfolding markIn
+returns c = rw (sym (c .before .before .before .before .before .before .before .before .before .before .ordering-at .ensures) ∙ ap says (c .before .before .before .before .before .before .before .before .said .given .1)) (c .before .before .set-mark .ensures ∙ simp (← c .before .before .before .before .before .is-marked .ensures, c .before .before .before .before .if1 .taken))
+
+same-length-2 : tie.Need-same-length-2
+same-length-2 c = search needs
+
+returns-2 : tie.Need-returns-2
+unfolding markIn
+returns-2 c = rw (sym (c .before .before .before .before .before .before .ordering-at .ensures) ∙ ap says (c .before .before .before .before .said .given .1)) (simp (← c .before .is-marked .ensures, c .if1 .left))
+
+returns-3 : tie.Need-returns-3
+unfolding markIn
+returns-3 c = rw (sym (c .before .before .ordering-at .ensures) ∙ begin-said (c .before .before .ordering-at .result) (c .before .match .keys2) .1) refl
+
+returns-4 : tie.Need-returns-4
+unfolding markIn
+returns-4 c = rw (sym (c .before .before .ordering-at .ensures) ∙ nothing-said (c .before .before .ordering-at .result) (c .before .match .keys3)) refl
+
+pub mark-link-spec : {M : Type 1} → statement M
+mark-link-spec =
+    tie.close
+    (tie.spec
+    ordering-at-requires
+    enum-known-said
+    cast-is-marked
+    is-marked-requires
+    cast-set-mark
+    set-mark-requires
+    enum-told
+    enum-told-2
+    same-length
+    returns
+    same-length-2
+    returns-2
+    returns-3
+    returns-4)

@@ -1,0 +1,23 @@
+-- `question::chains::set_mark` meets its contract.
+-- Assumes nothing.
+use lib.Seq.{set-out}
+use mathlib.Core.Path.{sym}
+use denote.Ref.{now}
+use borrow.Author.Needs.{needs}
+use Rattle.question.proofs.chains.set_mark.Statement.{statement}
+use Rattle.question.proofs.chains.set_mark.Tie as tie
+
+slice-write-marks : tie.Need-slice-write-marks
+slice-write-marks c = search needs
+
+same-length : tie.Need-same-length
+same-length c = search needs
+
+returns : tie.Need-returns
+returns c = search needs
+
+returns-2 : tie.Need-returns-2
+returns-2 c = sym (set-out (now (c .before .args .marks)) (c .before .args .row) 1 (c .if1 .left))
+
+pub set-mark-spec : {M : Type 1} → statement M
+set-mark-spec = tie.close (tie.spec slice-write-marks same-length returns returns-2)

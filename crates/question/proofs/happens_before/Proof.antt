@@ -1,0 +1,55 @@
+-- `question::happens_before` meets its contract.
+-- Assumes nothing.
+use Rattle.order.proofs.EntryLaws.{refused-reading, records-are, read-acceptable, read-events}
+use Rattle.question.specs.Question.{orderRead, orderReply}
+use Rattle.trace.specs.Paper.{paper}
+use mathlib.Core.Path.{sym, ap, _∙_}
+use denote.Ref.{now}
+use borrow.Author.Needs.{needs}
+use Rattle.question.proofs.happens_before.Statement.{statement}
+use Rattle.question.proofs.happens_before.Tie as tie
+
+read-requires : tie.Need-read-requires
+read-requires c κs = search needs
+
+enum-known-reading : tie.Need-enum-known-reading
+enum-known-reading c = search needs
+
+enum-told : tie.Need-enum-told
+enum-told c = search needs
+
+refusal-of-requires : tie.Need-refusal-of-requires
+refusal-of-requires c κs = search needs
+
+returns : tie.Need-returns
+unfolding orderReply orderRead
+returns c = simp (c .refusal-of .ensures, refused-reading (now (c .before .before .before .before .before .before .args .bytes)) (c .before .before .before .read .result) (c .before .before .before .read .ensures) (c .before .before .match .keys2))
+
+records-requires : tie.Need-records-requires
+records-requires c κs = search needs
+
+ask-requires : tie.Need-ask-requires
+ask-requires c κs =
+    let t = c .before .before .reading .given .0 .0 in
+    let e = sym (ap paper (c .before .before .reading .given .1)) ∙ c .before .before .before .before .read .ensures in
+    (read-acceptable (now (c .before .before .before .before .before .before .before .args .bytes)) (t .start) (t .records) (t .events) e _ (c .records .ensures), read-events (now (c .before .before .before .before .before .before .before .args .bytes)) (t .start) (t .records) (t .events) e _ (c .records .ensures))
+
+returns-2 : tie.Need-returns-2
+unfolding orderReply orderRead
+returns-2 c =
+    let t = c .before .before .before .reading .given .0 .0 in
+    let e = sym (ap paper (c .before .before .before .reading .given .1)) ∙ c .before .before .before .before .before .read .ensures in
+    rw (← e, ← records-are (now (c .before .before .before .before .before .before .before .before .args .bytes)) (t .start) (t .records) (t .events) e _ (c .before .records .ensures)) (c .ask .ensures)
+
+pub happens-before-spec : {M : Type 1} → statement M
+happens-before-spec =
+    tie.close
+    (tie.spec
+    read-requires
+    enum-known-reading
+    enum-told
+    refusal-of-requires
+    returns
+    records-requires
+    ask-requires
+    returns-2)

@@ -1,0 +1,72 @@
+// The order question on an accepted trace.
+use crate::Answer;
+use crate::chains::chain_pass;
+use order::comparison::compare;
+use order::rows::has_space;
+use records::access;
+use trace::EventId;
+use trace::Operation;
+use trace::Refusal;
+ghost use mathlib.Core.Path.{_≡_};
+ghost use Rattle.records.specs.Bytes.{decode};
+ghost use Rattle.trace.specs.Reading.{Acceptable};
+ghost use Rattle.order.specs.Fill.{eventsIn, noChains};
+ghost use Rattle.question.specs.Question.{orderPaper, orderTrace, OrderReply, answered};
+
+fn no_chains() -> [u16; 1024]
+    ensures { λ r. ⌜ r ≡ noChains ⌝ }
+{
+    [0; 1024]
+}
+
+fn answer(yes: bool) -> Answer
+    ensures { λ r. ⌜ orderPaper r ≡ answered yes ⌝ }
+{
+    if yes {
+        return Answer::Yes;
+    }
+    Answer::No
+}
+
+fn refused(number: u16, place: Operation) -> Answer
+    ensures { λ r. ⌜ orderPaper r ≡ OrderReply.refused number (place .0) ⌝ }
+{
+    Answer::Refused(Refusal {
+        number: number,
+        place: place,
+    })
+}
+
+// Events t and u of an accepted trace.
+pub(crate) fn ask(
+    recs: &[u8],
+    events: usize,
+    width: usize,
+    clocks: &[u16],
+    t: EventId,
+    u: EventId,
+) -> Answer
+    requires { ⌜ Acceptable (decode (now recs)) × (events ≡ eventsIn (decode (now recs))) ⌝ }
+    ensures { λ r. ⌜ orderPaper r ≡ orderTrace (decode (now (recs .entry))) events width (now (clocks .entry)) (t .0) (u .0) ⌝ }
+{
+    let all = ranks::ranks(recs);
+    let first = ranks::rank_of(&all, t.0);
+    let second = ranks::rank_of(&all, u.0);
+    if first == 0 {
+        return refused(trace::NOT_IN_TRACE, Operation(0));
+    }
+    if second == 0 {
+        return refused(trace::NOT_IN_TRACE, Operation(0));
+    }
+    if !has_space(width, events, clocks.len()) {
+        return refused(trace::CLOCK_SPACE, Operation(0));
+    }
+    let mut lasts = no_chains();
+    let mut of = no_chains();
+    let position = chain_pass(recs, &all, &mut lasts, &mut of, width);
+    if position < access::count(recs) {
+        return refused(trace::CHAINS, Operation((position + 1) as u16));
+    }
+    let row = (first - 1) as usize;
+    answer(compare(clocks, width as u16, of[row], first - 1, second - 1))
+}
