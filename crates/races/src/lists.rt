@@ -289,7 +289,7 @@ fn list_filled(
     })
 }
 
-fn no_chains() -> [u16; 1024]
+pub(crate) fn no_chains() -> [u16; 1024]
     ensures { λ r. ⌜ r ≡ noChains ⌝ }
 {
     [0; 1024]
