@@ -10,7 +10,6 @@ use crate::marking;
 use crate::racing::is_race;
 use crate::workspace;
 use order::Filling;
-use ranks::ranks;
 use records::access;
 use trace::Operation;
 use trace::Refusal;
@@ -21,7 +20,7 @@ ghost use lib.Dec.{T};
 ghost use lib.ListN.{length};
 ghost use lib.Seq.{sets};
 ghost use Rattle.records.specs.Bytes.{decode};
-ghost use Rattle.ranks.specs.Ranks.{ranksOf};
+ghost use Rattle.ranks.specs.Ranks.{noRanks, ranksOf};
 ghost use Rattle.order.specs.Fill.{chainsUsed, noChains};
 ghost use Rattle.races.specs.Lists.{numbers, shapeOf, ListReply};
 ghost use Rattle.races.specs.Paper.{listPaper, ListsFilled, Lists};
@@ -264,7 +263,8 @@ fn list_filled(
     requires { ⌜ Filled (decode (now recs)) (ranksOf (decode (now recs))) (now of) width (now clocks) × Clear (decode (now recs)) events (now work) × (chains ≡ chainsUsed (decode (now recs))) ⌝ }
     ensures { λ r. ⌜ ListsFilled short (decode (now (recs .entry))) events (now (work .entry)) (now (work .exit)) (now (list .entry)) (now (list .exit)) r ⌝ }
 {
-    let all = ranks(recs);
+    let mut all = no_ranks();
+    ranks::fill_ranks(recs, &mut all);
     let found = list_all(recs, &all, of, width, clocks, list, short, false);
     if list.len() / 5 < found {
         return refused(trace::LIST_SPACE);
@@ -287,6 +287,12 @@ fn list_filled(
         chains: chains,
         count: found,
     })
+}
+
+pub(crate) fn no_ranks() -> [u16; 1025]
+    ensures { λ r. ⌜ r ≡ noRanks ⌝ }
+{
+    [0; 1025]
 }
 
 pub(crate) fn no_chains() -> [u16; 1024]

@@ -2,6 +2,7 @@
 use crate::cover;
 use crate::leading;
 use crate::lists::no_chains;
+use crate::lists::no_ranks;
 use crate::racing;
 use crate::workspace;
 use order::Filling;
@@ -165,7 +166,8 @@ fn ask_filled(
     requires { ⌜ Clear (decode (now recs)) events (now work) ⌝ }
     ensures { λ r. ⌜ AnswersFilled (decode (now (recs .entry))) events a b (now (list .entry)) (now (list .exit)) r × (now (work .exit) ≡ now (work .entry)) ⌝ }
 {
-    let all = ranks::ranks(recs);
+    let mut all = no_ranks();
+    ranks::fill_ranks(recs, &mut all);
     if !is_race_in_order(recs, &all, of, width, clocks, a, b) {
         return refused(trace::NO_RACE);
     }

@@ -8,7 +8,7 @@ use native.Mathlib.Numerals.{add-one}
 use lib.ListN.{length, length-set, length-replicate}
 use Rattle.records.specs.declared.Record.{Record}
 use Rattle.records.specs.Records.{at, past, isBegin, begins}
-use Rattle.ranks.specs.Ranks.{noRanks, withRank, rankIf, ranksUpto}
+use Rattle.ranks.specs.Ranks.{noRanks, withRank, rankIf, ranksUpto, ranksOf}
 
 rank-if-length : (b : Bool) (m : List ℕ) (e k : ℕ) → length (rankIf b m e k) ≡ length m
 unfolding withRank
@@ -23,3 +23,7 @@ ranks-length tr (suc i) = rank-if-length (isBegin (at tr i)) (ranksUpto tr i) (a
 pub ranks-more : (tr : List Record) (i : ℕ) → ranksUpto tr (i + 1) ≡ rankIf (isBegin (at tr i)) (ranksUpto tr i) (at tr i .first) (begins (past tr i) + 1)
 unfolding ranksUpto
 ranks-more tr i = rw add-one
+
+pub ranks-many : (tr : List Record) → length (ranksOf tr) ≡ 1025
+unfolding ranksOf
+ranks-many tr = ranks-length tr (length tr)

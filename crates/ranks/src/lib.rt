@@ -1,7 +1,7 @@
 // The rank of an event: the place of its begin among the begins, counted from 1, and 0 where it has none. An event action's row is its rank less 1.
 use records::access;
 ghost use mathlib.Core.Path.{_≡_};
-ghost use lib.ListN.{getD};
+ghost use lib.ListN.{length, getD, replicate};
 ghost use Rattle.records.specs.Bytes.{decode};
 ghost use Rattle.records.specs.Records.{at};
 ghost use Rattle.ranks.specs.Said.{linkOf, opOf, begin};
@@ -44,20 +44,39 @@ fn note_rank(ranks: &mut [u16], kind: u8, e: u16, found: usize) -> usize
     found + 1
 }
 
-// The ranks of all events, by event number.
-pub fn ranks(recs: &[u8]) -> [u16; 1025]
-    ensures { λ r. ⌜ r ≡ ranksOf (decode (now (recs .entry))) ⌝ }
+fn clear(ranks: &mut [u16])
+    ensures { λ u. ⌜ now (ranks .exit) ≡ replicate (length (now (ranks .entry))) 0 ⌝ }
+{
+    let n = ranks.len();
+    let mut i = 0;
+    while i < n {
+        ranks[i] = 0;
+        i += 1;
+    }
+}
+
+// The ranks of all events, by event number, in the lent table.
+pub fn fill_ranks(recs: &[u8], all: &mut [u16; 1025])
+    ensures { λ u. ⌜ now (all .exit) ≡ ranksOf (decode (now (recs .entry))) ⌝ }
 {
     let n = access::count(recs);
-    let mut all = none();
+    clear(all);
     let mut found = 0;
     let mut i = 0;
     while i < n {
         let kind = access::kind_at(recs, i);
         let e = access::first_at(recs, i);
-        found = note_rank(&mut all, kind, e, found);
+        found = note_rank(all, kind, e, found);
         i += 1;
     }
+}
+
+// The ranks of all events, by event number.
+pub fn ranks(recs: &[u8]) -> [u16; 1025]
+    ensures { λ r. ⌜ r ≡ ranksOf (decode (now (recs .entry))) ⌝ }
+{
+    let mut all = none();
+    fill_ranks(recs, &mut all);
     all
 }
 
