@@ -5,7 +5,7 @@ use mathlib.Core.Path.{_≡_, refl, sym, ap, _∙_, subst}
 use mathlib.Core.Bool.{Bool, true, false, _&&_}
 use mathlib.Core.List.{List}
 use native.Mathlib.Omega.{arith}
-use borrow.Author.Tests.{le-leb, lt-leb, leb-true, leb-false}
+use borrow.Author.Tests.{le-leb, lt-leb}
 use lib.Dec.{leb}
 use lib.ListN.{length}
 use Rattle.records.specs.declared.Record.{Record}
@@ -14,9 +14,9 @@ use Rattle.records.specs.Bytes.{part}
 use Rattle.trace.specs.Reading as reading
 use Rattle.trace.specs.Reading.{Reply, recordsIn, readReply}
 use Rattle.order.specs.declared.Filling.{Filling}
-use Rattle.order.specs.Fill.{eventsIn, FillReply, refused, demand, spaceFor, fillTrace, fillRead, fillReply, pickList, clocksAfterTrace, clocksAfterRead, clocksAfter, noChains, chainsAfterReply, chainsAfterRead, chainsAfter}
+use Rattle.order.specs.Fill.{refused, demand, spaceFor, fillTrace, fillRead, fillReply, pickList, clocksAfterTrace, clocksAfterRead, clocksAfter, noChains, chainsAfterReply}
 use Rattle.order.specs.Prepare.{prepareTrace, prepareRead, prepareReply, clocksPreparedRead, clocksPrepared, chainsPreparedRead, chainsPrepared, noTrace, pickTrace, tracePreparedRead, tracePrepared}
-use Rattle.order.specs.Paper.{fillPaper, FillsChains, FillsTrace, Prepares}
+use Rattle.order.specs.Paper.{fillPaper, Fills, FillsTrace, Prepares}
 use Rattle.order.proofs.EntryLaws.{read-acceptable, read-events}
 use Rattle.order.proofs.TableLaws.{events-few}
 
@@ -73,77 +73,57 @@ module _ (b : List ℕ) (s n m : ℕ) (e : reading.accepted s n m ≡ readReply 
           by cs′ of r t (f .answer ∙ sym filling-on) (rw (space, l) i) (rw l (f .clocks-after)) (f .chains-after ∙ sym (ap (chainsAfterReply tr) filling-on))
 
 -- With room for 1,024 event actions preparing is filling.
-module _ (b : List ℕ) (w space : ℕ) where
+module _ (b : List ℕ) (w : ℕ) where
   few : (s n m : ℕ) → reading.accepted s n m ≡ readReply b → m ≤ 1024
   few s n m e =
       let a = read-acceptable b s n m e (part b s n) refl in
       omega (arith, read-events b s n m e (part b s n) refl, events-few a)
 
-  reply-is : (r : Reply) → r ≡ readReply b → prepareRead b r w space 1024 ≡ fillRead b r w space
+  reply-is : (space : ℕ) (r : Reply) → r ≡ readReply b → prepareRead b r w space 1024 ≡ fillRead b r w space
   unfolding prepareRead fillRead prepareTrace fillTrace demand
-  reply-is (reading.refused n p) e = refl
-  reply-is (reading.accepted s n m) e = rw (le-leb m 1024 (few s n m e)) refl
+  reply-is space (reading.refused n p) e = refl
+  reply-is space (reading.accepted s n m) e = rw (le-leb m 1024 (few s n m e)) refl
 
   clocks-are : (cs : List ℕ) (r : Reply) → r ≡ readReply b → clocksPreparedRead b r w 1024 cs ≡ clocksAfterRead b r w cs
   unfolding clocksPreparedRead clocksAfterRead
   clocks-are cs (reading.refused n p) e = refl
   clocks-are cs (reading.accepted s n m) e = rw (le-leb m 1024 (few s n m e)) refl
 
-  chains-are : (r : Reply) → r ≡ readReply b → chainsPreparedRead b r w space 1024 ≡ chainsAfterRead b r w space
-  unfolding chainsPreparedRead chainsAfterRead prepareTrace fillTrace demand
-  chains-are (reading.refused n p) e = refl
-  chains-are (reading.accepted s n m) e = rw (le-leb m 1024 (few s n m e)) refl
-
-pub fills : (b : List ℕ) (w : ℕ) (cs cs′ of : List ℕ) (r : Filling) (t : Trace) → Prepares b w 1024 cs cs′ of r t → FillsChains b w cs cs′ r of
-unfolding prepareReply fillReply clocksPrepared clocksAfter chainsPrepared chainsAfter
+pub fills : (b : List ℕ) (w : ℕ) (cs cs′ of : List ℕ) (r : Filling) (t : Trace) → Prepares b w 1024 cs cs′ of r t → Fills b w cs cs′ r
+unfolding prepareReply fillReply clocksPrepared clocksAfter
 fills b w cs cs′ of r t p = record {
-  fills = record { answer = p .answer ∙ reply-is b w (length cs) (readReply b) refl; clocks-after = p .clocks-after ∙ clocks-are b w (length cs) cs (readReply b) refl };
-  chains-after = p .chains-after ∙ chains-are b w (length cs) (readReply b) refl;
+  answer = p .answer ∙ reply-is b w (length cs) (readReply b) refl;
+  clocks-after = p .clocks-after ∙ clocks-are b w cs (readReply b) refl;
 }
 
--- The ways in which preparing ends.
-pub data Ways (b : List ℕ) (w room : ℕ) (cs cs′ of : List ℕ) (r : Filling) (t : Trace) : Type 0 where
-  not-read : (n p : ℕ) → reading.refused n p ≡ readReply b → fillPaper r ≡ refused n p → t ≡ noTrace → cs′ ≡ cs → Ways b w room cs cs′ of r t
-  short-space : (s n m : ℕ) → reading.accepted s n m ≡ readReply b → spaceFor w m (length cs) ≡ false → fillPaper r ≡ refused 21 0 → t ≡ noTrace → cs′ ≡ cs → Ways b w room cs cs′ of r t
-  short-room : (s n m : ℕ) → reading.accepted s n m ≡ readReply b → spaceFor w m (length cs) ≡ true → room < m → fillPaper r ≡ refused 22 0 → t ≡ noTrace → cs′ ≡ cs → Ways b w room cs cs′ of r t
-  went-on : (s n m : ℕ) → reading.accepted s n m ≡ readReply b → spaceFor w m (length cs) ≡ true → m ≤ room → t ≡ record { start = s; records = n; events = m } → FillsTrace (recordsIn b s n) m w cs cs′ r of → Ways b w room cs cs′ of r t
-
+-- what preparing says of a trace that is refused, and of one that is accepted
 module _ {b : List ℕ} {w room : ℕ} {cs cs′ of : List ℕ} {r : Filling} {t : Trace} (p : Prepares b w room cs cs′ of r t) where
+  module _ (n i : ℕ) (e : reading.refused n i ≡ readReply b) where
+    pub refused-reply : fillPaper r ≡ refused n i
+    unfolding prepareReply prepareRead
+    refused-reply = rw (← e) at (p .answer)
+
+    pub refused-trace : t ≡ noTrace
+    unfolding tracePrepared tracePreparedRead
+    refused-trace = rw (← e) at (p .trace-is)
+
+    pub refused-clocks : cs′ ≡ cs
+    unfolding clocksPrepared clocksPreparedRead
+    refused-clocks = rw (← e) at (p .clocks-after)
+
   module _ (s n m : ℕ) (e : reading.accepted s n m ≡ readReply b) where
-    accepted-reply : fillPaper r ≡ prepareTrace (recordsIn b s n) m w (length cs) room
+    pub accepted-reply : fillPaper r ≡ prepareTrace (recordsIn b s n) m w (length cs) room
     unfolding prepareReply prepareRead
     accepted-reply = rw (← e) at (p .answer)
 
-    accepted-trace : t ≡ pickTrace (spaceFor w m (length cs) && leb m room) (record { start = s; records = n; events = m })
+    pub accepted-trace : t ≡ pickTrace (spaceFor w m (length cs) && leb m room) (record { start = s; records = n; events = m })
     unfolding tracePrepared tracePreparedRead
     accepted-trace = rw (← e) at (p .trace-is)
 
-    accepted-clocks : cs′ ≡ pickList (leb m room) (clocksAfterTrace (recordsIn b s n) m w cs) cs
+    pub accepted-clocks : cs′ ≡ pickList (leb m room) (clocksAfterTrace (recordsIn b s n) m w cs) cs
     unfolding clocksPrepared clocksPreparedRead
     accepted-clocks = rw (← e) at (p .clocks-after)
 
-    accepted-chains : of ≡ chainsAfterReply (recordsIn b s n) (prepareTrace (recordsIn b s n) m w (length cs) room)
+    pub accepted-chains : of ≡ chainsAfterReply (recordsIn b s n) (prepareTrace (recordsIn b s n) m w (length cs) room)
     unfolding chainsPrepared chainsPreparedRead
     accepted-chains = rw (← e) at (p .chains-after)
-
-    accepted-ways : (x y : Bool) → spaceFor w m (length cs) ≡ x → leb m room ≡ y → Ways b w room cs cs′ of r t
-    unfolding prepareTrace clocksAfterTrace demand
-    accepted-ways false true f g = short-space s n m e f (rw f at accepted-reply) (rw f at accepted-trace) (rw (f, g) at accepted-clocks)
-    accepted-ways false false f g = short-space s n m e f (rw f at accepted-reply) (rw f at accepted-trace) (rw (f, g) at accepted-clocks)
-    accepted-ways true false f g = short-room s n m e f (leb-false m room g) (rw (f, g) at accepted-reply) (rw (f, g) at accepted-trace) (rw g at accepted-clocks)
-    accepted-ways true true f g =
-        let h = leb-true m room g in
-        let q = filling-on b s n m e w room cs f h in
-        went-on s n m e f h (rw (f, g) at accepted-trace) (record {
-          answer = accepted-reply ∙ q;
-          clocks-after = rw g at accepted-clocks;
-          chains-after = accepted-chains ∙ ap (chainsAfterReply (recordsIn b s n)) q;
-        })
-
-  ways-of : (x : Reply) → x ≡ readReply b → Ways b w room cs cs′ of r t
-  unfolding prepareReply prepareRead clocksPrepared clocksPreparedRead tracePrepared tracePreparedRead
-  ways-of (reading.refused n i) e = not-read n i e (rw (← e) at (p .answer)) (rw (← e) at (p .trace-is)) (rw (← e) at (p .clocks-after))
-  ways-of (reading.accepted s n m) e = accepted-ways s n m e (spaceFor w m (length cs)) (leb m room) refl refl
-
-  pub ways : Ways b w room cs cs′ of r t
-  ways = ways-of (readReply b) refl

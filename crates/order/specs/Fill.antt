@@ -90,10 +90,3 @@ noChains = replicate 1024 0
 unfoldable pub chainsAfterReply : List Record → FillReply → List ℕ
 chainsAfterReply tr (refused n p) = noChains
 chainsAfterReply tr (filled k) = chainTable tr
-
-unfoldable pub chainsAfterRead : List ℕ → Reply → ℕ → ℕ → List ℕ
-chainsAfterRead b (reading.refused n p) width space = noChains
-chainsAfterRead b (reading.accepted start n m) width space = chainsAfterReply (recordsIn b start n) (fillTrace (recordsIn b start n) m width space)
-
-unfoldable pub chainsAfter : List ℕ → ℕ → ℕ → List ℕ
-chainsAfter b width space = chainsAfterRead b (readReply b) width space

@@ -7,7 +7,7 @@ use Rattle.records.specs.declared.Record.{Record}
 use Rattle.records.specs.declared.Trace.{Trace}
 use Rattle.order.specs.declared.Filling.{Filling}
 use Rattle.order.specs.declared.Filling.the-variants.{Filled, Refused}
-use Rattle.order.specs.Fill.{FillReply, refused, filled, fillTrace, fillReply, clocksAfterTrace, clocksAfter, chainsAfterReply, chainsAfter}
+use Rattle.order.specs.Fill.{FillReply, refused, filled, fillTrace, fillReply, clocksAfterTrace, clocksAfter, chainsAfterReply}
 use Rattle.order.specs.Prepare.{prepareReply, clocksPrepared, chainsPrepared, tracePrepared}
 
 abbrev pub fillPaper : Filling → FillReply
@@ -19,12 +19,7 @@ pub record Fills (b : List ℕ) (width : ℕ) (clocks clocks′ : List ℕ) (r :
   pub answer : fillPaper r ≡ fillReply b width (length clocks)
   pub clocks-after : clocks′ ≡ clocksAfter b width clocks
 
--- and with them the chain of each row
-pub record FillsChains (b : List ℕ) (width : ℕ) (clocks clocks′ : List ℕ) (r : Filling) (of : List ℕ) : Type 0 where
-  pub fills : Fills b width clocks clocks′ r
-  pub chains-after : of ≡ chainsAfter b width (length clocks)
-
--- the same of an accepted trace's records
+-- the same of an accepted trace's records, and the chain of each row
 pub record FillsTrace (tr : List Record) (events width : ℕ) (clocks clocks′ : List ℕ) (r : Filling) (of : List ℕ) : Type 0 where
   pub answer : fillPaper r ≡ fillTrace tr events width (length clocks)
   pub clocks-after : clocks′ ≡ clocksAfterTrace tr events width clocks

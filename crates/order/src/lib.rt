@@ -10,7 +10,7 @@ use trace::Operation;
 use trace::Reading;
 use trace::Refusal;
 ghost use mathlib.Core.Path.{_≡_};
-ghost use Rattle.order.specs.Paper.{Fills, FillsChains, Prepares};
+ghost use Rattle.order.specs.Paper.{Fills, Prepares};
 
 // What filling finds: the number of chains used, or why it is refused.
 pub enum Filling {
@@ -59,27 +59,10 @@ pub fn prepare(
     }
 }
 
-// Filling with the chain of each row beside the answer.
-pub struct Filled {
-    pub answer: Filling,
-    pub of: [u16; 1024],
-}
-
-// Fills the lent clocks with the clock rows of the trace, and gives the chain of each row. No trace has more event actions than 1,024.
-pub fn fill_chains(bytes: &[u8], width: usize, clocks: &mut [u16]) -> Filled
-    ensures { λ r. ⌜ FillsChains (now (bytes .entry)) width (now (clocks .entry)) (now (clocks .exit)) (r .answer) (r .of) ⌝ }
-{
-    let mut of = rows::no_chains();
-    let answer = prepare(bytes, width, 1024, clocks, &mut of).answer;
-    Filled {
-        answer: answer,
-        of: of,
-    }
-}
-
-// Fills the lent clocks with the clock rows of the trace.
+// Fills the lent clocks with the clock rows of the trace. No trace has more event actions than 1,024.
 pub fn fill(bytes: &[u8], width: usize, clocks: &mut [u16]) -> Filling
     ensures { λ r. ⌜ Fills (now (bytes .entry)) width (now (clocks .entry)) (now (clocks .exit)) r ⌝ }
 {
-    fill_chains(bytes, width, clocks).answer
+    let mut of = rows::no_chains();
+    prepare(bytes, width, 1024, clocks, &mut of).answer
 }

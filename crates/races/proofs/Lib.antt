@@ -19,5 +19,6 @@ pub mod PairEntries
 pub mod CoverLaws
 pub mod PairLaws
 pub mod PairEnds
+pub mod PreparedLaws
 pub mod ThirdDemand
 pub mod PairCases

@@ -317,7 +317,7 @@ fn list_filled(
     listed(events, records, chains, found)
 }
 
-fn no_chains() -> [u16; 1024]
+pub(crate) fn no_chains() -> [u16; 1024]
     ensures { λ r. ⌜ r ≡ noChains ⌝ }
 {
     [0; 1024]

@@ -1,10 +1,10 @@
 // The pair question: for a race, what an arrangement keeps that runs its second access without its first, or a cover.
 use crate::cover;
 use crate::leading;
+use crate::lists::no_chains;
 use crate::racing;
 use crate::workspace;
 use order::Filling;
-use order::rows::has_space;
 use records::access;
 use trace::Operation;
 use trace::Reading;
@@ -214,30 +214,15 @@ fn ask_trace(
     if !are_records(recs, a, b) {
         return refused(trace::NOT_IN_TRACE);
     }
-    if !has_space(width, events, clocks.len()) {
-        return refused(trace::CLOCK_SPACE);
-    }
-    if work.len() < events {
-        return refused(trace::WORK_SPACE);
-    }
-    workspace::clear_marks(work, events);
-    let filled = order::fill_chains(bytes, width, clocks);
-    let answer = filled.answer;
-    let first = (a - 1) as usize;
-    let second = (b - 1) as usize;
+    let i = (a - 1) as usize;
+    let j = (b - 1) as usize;
+    let mut of = no_chains();
+    let prepared = order::prepare(bytes, width, work.len(), clocks, &mut of);
+    workspace::clear_marks(work, prepared.trace.events);
+    let answer = prepared.answer;
     match answer {
-        Filling::Refused(f) => PairAnswer::Refused(f),
-        Filling::Filled(_) => ask_filled(
-            recs,
-            &filled.of,
-            events,
-            width,
-            clocks,
-            work,
-            list,
-            first,
-            second,
-        ),
+        Filling::Filled(_) => ask_filled(recs, &of, events, width, clocks, work, list, i, j),
+        Filling::Refused(why) => PairAnswer::Refused(why),
     }
 }
 

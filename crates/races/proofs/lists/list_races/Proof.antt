@@ -1,6 +1,7 @@
 -- `races::lists::list_races` meets its contract.
 -- Assumes nothing.
-use Rattle.races.proofs.ListEnds.{marks-fit, not-listed, listable}
+use Rattle.races.proofs.ListEnds.{not-listed, listable}
+use Rattle.races.proofs.PreparedLaws.{marks-fit}
 use Rattle.races.proofs.FilledLaws.{of-length}
 use Rattle.order.specs.Paper.{fillPaper}
 use mathlib.Core.Path.{refl, sym, ap}
@@ -16,7 +17,7 @@ prepare-requires : tie.Need-prepare-requires
 prepare-requires c κs = search needs
 
 clear-marks-requires : tie.Need-clear-marks-requires
-clear-marks-requires c κs = marks-fit (now (c .before .before .before .before .before .before .before .before .before .before .before .before .args .bytes)) (c .before .before .before .before .before .before .before .before .before .before .before .before .args .short) (c .before .before .before .before .before .before .before .before .before .before .before .before .args .width) (now (c .before .before .before .before .before .before .before .before .before .before .before .before .args .clocks)) _ (now (c .before .before .before .before .before .before .before .before .before .before .before .before .args .work)) (now (c .before .before .before .before .before .before .before .before .before .before .before .before .args .work)) _ (now (c .before .before .before .before .before .before .before .before .before .before .before .before .args .list)) _ _ (c .before .before .before .before .prepare .ensures)
+clear-marks-requires c κs = marks-fit (now (c .before .before .before .before .before .before .before .before .before .before .before .before .args .work)) (c .before .before .before .before .prepare .ensures)
 
 enum-known-answer : tie.Need-enum-known-answer
 enum-known-answer c = search needs

@@ -1,17 +1,13 @@
 -- `races::pair::ask_trace` meets its contract.
 -- Assumes nothing.
 use denote.Ref.{now}
-use native.Mathlib.Omega.{arith}
-use Prim.Native.Nat.{_-_, _<_}
-use lib.ListN.{length}
-use mathlib.Core.Bool.{true}
-use mathlib.Core.Path.{_≡_, refl, sym, ap, _∙_}
+use mathlib.Core.Path.{refl, sym, ap, _∙_}
 use borrow.Author.Tests.{not-true, not-false}
 use Rattle.records.specs.Bytes.{decode}
 use Rattle.order.specs.Paper.{fillPaper}
-use Rattle.order.specs.Fill.{spaceFor}
-use Rattle.races.specs.Pair.{areRecords}
-use Rattle.races.proofs.PairEnds.{in-trace, is-filled, read-acceptable, read-events, fills-trace, no-records, no-clocks, no-work, too-few, at-hand, clear-work, answers-trace}
+use Rattle.races.proofs.FilledLaws.{of-length}
+use Rattle.races.proofs.PreparedLaws.{marks-fit}
+use Rattle.races.proofs.PairEnds.{in-trace, is-filled, no-records, not-asked, askable}
 use borrow.Author.Needs.{needs}
 use Rattle.races.proofs.pair.ask_trace.Statement.{statement}
 use Rattle.races.proofs.pair.ask_trace.Tie as tie
@@ -23,58 +19,45 @@ refused-requires : tie.Need-refused-requires
 refused-requires c κs = search needs
 
 returns : tie.Need-returns
-returns c = no-records (decode (now (c .before .before .before .before .before .before .before .before .args .recs))) (c .before .before .before .before .before .before .before .before .args .events) (c .before .before .before .before .before .before .before .before .args .width) (now (c .before .before .before .before .before .before .before .before .args .clocks)) (now (c .before .before .before .before .before .before .before .before .args .work)) (now (c .before .before .before .before .before .before .before .before .args .list)) (c .before .before .before .before .before .before .before .before .args .a) (c .before .before .before .before .before .before .before .before .args .b) (c .refused .result) (sym (c .before .before .are-records .ensures) ∙ not-true (c .before .before .are-records .result) (c .before .if1 .taken)) (c .refused .ensures)
+returns c = no-records (decode (now (c .before .before .before .before .before .before .before .before .args .recs))) (c .before .before .before .before .before .before .before .before .args .events) (c .before .before .before .before .before .before .before .before .args .width) (now (c .before .before .before .before .before .before .before .before .args .clocks)) (now (c .before .before .before .before .before .before .before .before .args .work)) (now (c .before .before .before .before .before .before .before .before .args .list)) (c .before .before .before .before .before .before .before .before .args .a) (c .before .before .before .before .before .before .before .before .args .b) _ (sym (c .before .before .are-records .ensures) ∙ not-true (c .before .before .are-records .result) (c .before .if1 .taken)) (c .refused .ensures)
 
-has-space-requires : tie.Need-has-space-requires
-has-space-requires c κs = search needs
+sub-i : tie.Need-sub-i
+sub-i c = in-trace (decode (now (c .before .before .before .before .before .before .before .args .recs))) (c .before .before .before .before .before .before .before .args .a) (c .before .before .before .before .before .before .before .args .b) (sym (c .before .are-records .ensures) ∙ not-false (c .before .are-records .result) (c .if1 .left)) .first
 
-refused-requires-2 : tie.Need-refused-requires-2
-refused-requires-2 c κs = search needs
+cast-i : tie.Need-cast-i
+cast-i c = search needs
 
-returns-2 : tie.Need-returns-2
-returns-2 c = no-clocks (decode (now (c .before .before .before .before .before .before .before .before .before .before .args .recs))) (c .before .before .before .before .before .before .before .before .before .before .args .events) (c .before .before .before .before .before .before .before .before .before .before .args .width) (now (c .before .before .before .before .before .before .before .before .before .before .args .clocks)) (now (c .before .before .before .before .before .before .before .before .before .before .args .work)) (now (c .before .before .before .before .before .before .before .before .before .before .args .list)) (c .before .before .before .before .before .before .before .before .before .before .args .a) (c .before .before .before .before .before .before .before .before .before .before .args .b) (c .refused2 .result) (sym (c .before .before .before .before .are-records .ensures) ∙ not-false (c .before .before .before .before .are-records .result) (c .before .before .before .if1 .left)) (sym (c .before .before .has-space .ensures) ∙ not-true (c .before .before .has-space .result) (c .before .if2 .taken)) (c .refused2 .ensures)
+sub-j : tie.Need-sub-j
+sub-j c = in-trace (decode (now (c .before .before .before .before .before .before .before .args .recs))) (c .before .before .before .before .before .before .before .args .a) (c .before .before .before .before .before .before .before .args .b) (sym (c .before .are-records .ensures) ∙ not-false (c .before .are-records .result) (c .if1 .left)) .second
 
-refused-requires-3 : tie.Need-refused-requires-3
-refused-requires-3 c κs = search needs
+cast-j : tie.Need-cast-j
+cast-j c = search needs
 
-returns-3 : tie.Need-returns-3
-returns-3 c = no-work (decode (now (c .before .before .before .before .before .before .before .before .before .before .before .args .recs))) (c .before .before .before .before .before .before .before .before .before .before .before .args .events) (c .before .before .before .before .before .before .before .before .before .before .before .args .width) (now (c .before .before .before .before .before .before .before .before .before .before .before .args .clocks)) (now (c .before .before .before .before .before .before .before .before .before .before .before .args .work)) (now (c .before .before .before .before .before .before .before .before .before .before .before .args .list)) (c .before .before .before .before .before .before .before .before .before .before .before .args .a) (c .before .before .before .before .before .before .before .before .before .before .before .args .b) (c .refused3 .result) (sym (c .before .before .before .before .before .are-records .ensures) ∙ not-false (c .before .before .before .before .before .are-records .result) (c .before .before .before .before .if1 .left)) (sym (c .before .before .before .has-space .ensures) ∙ not-false (c .before .before .before .has-space .result) (c .before .before .if2 .left)) (c .before .if3 .taken) (c .refused3 .ensures)
+no-chains-requires : tie.Need-no-chains-requires
+no-chains-requires c κs = search needs
+
+prepare-requires : tie.Need-prepare-requires
+prepare-requires c κs = search needs
 
 clear-marks-requires : tie.Need-clear-marks-requires
-clear-marks-requires c κs = search needs
-
-fill-chains-requires : tie.Need-fill-chains-requires
-fill-chains-requires c κs = search needs
-
-sub-first : tie.Need-sub-first
-sub-first c = in-trace (decode (now (c .before .before .before .before .before .before .before .before .before .before .before .before .before .before .before .before .before .before .args .recs))) (c .before .before .before .before .before .before .before .before .before .before .before .before .before .before .before .before .before .before .args .a) (c .before .before .before .before .before .before .before .before .before .before .before .before .before .before .before .before .before .before .args .b) (sym (c .before .before .before .before .before .before .before .before .before .before .before .before .are-records .ensures) ∙ not-false (c .before .before .before .before .before .before .before .before .before .before .before .before .are-records .result) (c .before .before .before .before .before .before .before .before .before .before .before .if1 .left)) .first
-
-cast-first : tie.Need-cast-first
-cast-first c = search needs
-
-sub-second : tie.Need-sub-second
-sub-second c = in-trace (decode (now (c .before .before .before .before .before .before .before .before .before .before .before .before .before .before .before .before .before .before .args .recs))) (c .before .before .before .before .before .before .before .before .before .before .before .before .before .before .before .before .before .before .args .a) (c .before .before .before .before .before .before .before .before .before .before .before .before .before .before .before .before .before .before .args .b) (sym (c .before .before .before .before .before .before .before .before .before .before .before .before .are-records .ensures) ∙ not-false (c .before .before .before .before .before .before .before .before .before .before .before .before .are-records .result) (c .before .before .before .before .before .before .before .before .before .before .before .if1 .left)) .second
-
-cast-second : tie.Need-cast-second
-cast-second c = search needs
-
-enum-known-answer : tie.Need-enum-known-answer
-enum-known-answer c = search needs
+clear-marks-requires c κs = marks-fit (now (c .before .before .before .before .before .before .before .before .before .before .before .before .before .before .args .work)) (c .before .before .before .prepare .ensures)
 
 enum-told : tie.Need-enum-told
 enum-told c = search needs
 
+slice-aggregate-ask-filled : tie.Need-slice-aggregate-ask-filled
+slice-aggregate-ask-filled c =
+    let k = is-filled (c .before .before .before .before .before .before .before .before .before .prepare .result .answer) (c .before .before .match .keys1) in
+    sym (of-length (askable (c .before .before .before .before .before .before .before .before .before .before .before .before .before .before .before .before .before .before .before .before .pre) (c .before .before .before .before .before .before .before .before .before .before .before .before .before .before .before .before .before .before .before .before .args .a) (c .before .before .before .before .before .before .before .before .before .before .before .before .before .before .before .before .before .before .before .before .args .b) (sym (c .before .before .before .before .before .before .before .before .before .before .before .before .before .before .are-records .ensures) ∙ not-false (c .before .before .before .before .before .before .before .before .before .before .before .before .before .before .are-records .result) (c .before .before .before .before .before .before .before .before .before .before .before .before .before .if1 .left)) (c .before .before .before .before .before .before .before .before .before .before .before .before .before .before .before .before .before .before .before .before .args .width) (now (c .before .before .before .before .before .before .before .before .before .before .before .before .before .before .before .before .before .before .before .before .args .clocks)) _ (now (c .before .before .before .before .before .before .before .before .before .before .before .before .before .before .before .before .before .before .before .before .args .work)) _ _ (now (c .before .before .before .before .before .before .before .before .before .before .before .before .before .before .before .before .before .before .before .before .args .list)) _ _ (c .before .before .before .before .before .before .before .before .before .prepare .ensures) (c .before .before .before .before .before .clear-marks .ensures) (k .0) (k .1) .filled))
+
 ask-filled-requires : tie.Need-ask-filled-requires
 ask-filled-requires c κs =
-    let tr = decode (now (c .before .before .before .before .before .before .before .before .before .before .before .before .before .before .before .before .before .before .before .before .before .before .before .before .before .before .args .recs)) in
-    let t = c .before .before .before .before .before .before .before .before .before .before .before .before .before .before .before .before .before .before .before .before .before .before .before .before .before .before .pre in
-    let e : areRecords tr (c .before .before .before .before .before .before .before .before .before .before .before .before .before .before .before .before .before .before .before .before .before .before .before .before .before .before .args .a) (c .before .before .before .before .before .before .before .before .before .before .before .before .before .before .before .before .before .before .before .before .before .before .before .before .before .before .args .b) ≡ true = sym (c .before .before .before .before .before .before .before .before .before .before .before .before .before .before .before .before .before .before .before .before .are-records .ensures) ∙ not-false (c .before .before .before .before .before .before .before .before .before .before .before .before .before .before .before .before .before .before .before .before .are-records .result) (c .before .before .before .before .before .before .before .before .before .before .before .before .before .before .before .before .before .before .before .if1 .left) in
-    let f : spaceFor (c .before .before .before .before .before .before .before .before .before .before .before .before .before .before .before .before .before .before .before .before .before .before .before .before .before .before .args .width) (c .before .before .before .before .before .before .before .before .before .before .before .before .before .before .before .before .before .before .before .before .before .before .before .before .before .before .args .events) (length (now (c .before .before .before .before .before .before .before .before .before .before .before .before .before .before .before .before .before .before .before .before .before .before .before .before .before .before .args .clocks))) ≡ true = sym (c .before .before .before .before .before .before .before .before .before .before .before .before .before .before .before .before .before .before .has-space .ensures) ∙ not-false (c .before .before .before .before .before .before .before .before .before .before .before .before .before .before .before .before .before .before .has-space .result) (c .before .before .before .before .before .before .before .before .before .before .before .before .before .before .before .before .before .if2 .left) in
-    let fills = fills-trace t (c .before .before .before .before .before .before .before .before .before .before .before .before .before .before .before .before .before .before .before .before .before .before .before .before .before .before .args .width) (now (c .before .before .before .before .before .before .before .before .before .before .before .before .before .before .before .before .before .before .before .before .before .before .before .before .before .before .args .clocks)) _ (c .before .before .before .before .before .before .before .before .before .before .fill-chains .result .answer) (c .before .before .before .before .before .before .before .before .before .before .fill-chains .result .of) (c .before .before .before .before .before .before .before .before .before .before .fill-chains .ensures) in
-    let k = is-filled (c .before .before .before .before .before .before .before .before .before .before .fill-chains .result .answer) (c .before .before .before .before .before .before .before .match .keys2) in
-    let i = in-trace tr (c .before .before .before .before .before .before .before .before .before .before .before .before .before .before .before .before .before .before .before .before .before .before .before .before .before .before .args .a) (c .before .before .before .before .before .before .before .before .before .before .before .before .before .before .before .before .before .before .before .before .before .before .before .before .before .before .args .b) e in
-    let l : c .before .before .before .before .before .before .before .before .before .before .before .before .before .before .before .before .before .before .before .before .before .before .before .before .before .before .args .b - 1 < length tr = omega (arith, i .second, i .second-inside) in
-    ((at-hand f fills (k .0) (k .1) (read-acceptable t) (read-events t), l), clear-work tr _ _ _ (read-events t) (c .before .before .before .before .before .before .before .before .before .before .before .before .before .before .before .before .if3 .left) (c .before .before .before .before .before .before .before .before .before .before .before .before .before .before .clear-marks .ensures))
+    let k = is-filled (c .before .before .before .before .before .before .before .before .before .before .before .before .prepare .result .answer) (c .before .before .before .before .before .match .keys1) in
+    let l = askable (c .before .before .before .before .before .before .before .before .before .before .before .before .before .before .before .before .before .before .before .before .before .before .before .pre) (c .before .before .before .before .before .before .before .before .before .before .before .before .before .before .before .before .before .before .before .before .before .before .before .args .a) (c .before .before .before .before .before .before .before .before .before .before .before .before .before .before .before .before .before .before .before .before .before .before .before .args .b) (sym (c .before .before .before .before .before .before .before .before .before .before .before .before .before .before .before .before .before .are-records .ensures) ∙ not-false (c .before .before .before .before .before .before .before .before .before .before .before .before .before .before .before .before .before .are-records .result) (c .before .before .before .before .before .before .before .before .before .before .before .before .before .before .before .before .if1 .left)) (c .before .before .before .before .before .before .before .before .before .before .before .before .before .before .before .before .before .before .before .before .before .before .before .args .width) (now (c .before .before .before .before .before .before .before .before .before .before .before .before .before .before .before .before .before .before .before .before .before .before .before .args .clocks)) _ (now (c .before .before .before .before .before .before .before .before .before .before .before .before .before .before .before .before .before .before .before .before .before .before .before .args .work)) _ _ (now (c .before .before .before .before .before .before .before .before .before .before .before .before .before .before .before .before .before .before .before .before .before .before .before .args .list)) _ _ (c .before .before .before .before .before .before .before .before .before .before .before .before .prepare .ensures) (c .before .before .before .before .before .before .before .before .clear-marks .ensures) (k .0) (k .1) in
+    ((l .filled, l .inside), l .clear)
+
+enum-known-answer : tie.Need-enum-known-answer
+enum-known-answer c = search needs
 
 same-length : tie.Need-same-length
 same-length c = search needs
@@ -82,17 +65,13 @@ same-length c = search needs
 same-length-2 : tie.Need-same-length-2
 same-length-2 c = search needs
 
-returns-4 : tie.Need-returns-4
-returns-4 c =
-    let tr = decode (now (c .before .before .before .before .before .before .before .before .before .before .before .before .before .before .before .before .before .before .before .before .before .args .recs)) in
-    let t = c .before .before .before .before .before .before .before .before .before .before .before .before .before .before .before .before .before .before .before .before .before .pre in
-    let e : areRecords tr (c .before .before .before .before .before .before .before .before .before .before .before .before .before .before .before .before .before .before .before .before .before .args .a) (c .before .before .before .before .before .before .before .before .before .before .before .before .before .before .before .before .before .before .before .before .before .args .b) ≡ true = sym (c .before .before .before .before .before .before .before .before .before .before .before .before .before .before .before .are-records .ensures) ∙ not-false (c .before .before .before .before .before .before .before .before .before .before .before .before .before .before .before .are-records .result) (c .before .before .before .before .before .before .before .before .before .before .before .before .before .before .if1 .left) in
-    let f : spaceFor (c .before .before .before .before .before .before .before .before .before .before .before .before .before .before .before .before .before .before .before .before .before .args .width) (c .before .before .before .before .before .before .before .before .before .before .before .before .before .before .before .before .before .before .before .before .before .args .events) (length (now (c .before .before .before .before .before .before .before .before .before .before .before .before .before .before .before .before .before .before .before .before .before .args .clocks))) ≡ true = sym (c .before .before .before .before .before .before .before .before .before .before .before .before .before .has-space .ensures) ∙ not-false (c .before .before .before .before .before .before .before .before .before .before .before .before .before .has-space .result) (c .before .before .before .before .before .before .before .before .before .before .before .before .if2 .left) in
-    let fills = fills-trace t (c .before .before .before .before .before .before .before .before .before .before .before .before .before .before .before .before .before .before .before .before .before .args .width) (now (c .before .before .before .before .before .before .before .before .before .before .before .before .before .before .before .before .before .before .before .before .before .args .clocks)) _ (c .before .before .before .before .before .fill-chains .result .answer) (c .before .before .before .before .before .fill-chains .result .of) (c .before .before .before .before .before .fill-chains .ensures) in
-    too-few tr (c .before .before .before .before .before .before .before .before .before .before .before .before .before .before .before .before .before .before .before .before .before .args .events) (c .before .before .before .before .before .before .before .before .before .before .before .before .before .before .before .before .before .before .before .before .before .args .width) (now (c .before .before .before .before .before .before .before .before .before .before .before .before .before .before .before .before .before .before .before .before .before .args .clocks)) (now (c .before .before .before .before .before .before .before .before .before .before .before .before .before .before .before .before .before .before .before .before .before .args .work)) (now (c .before .before .before .before .before .before .before .before .before .before .before .before .before .before .before .before .before .before .before .before .before .args .list)) (c .before .before .before .before .before .before .before .before .before .before .before .before .before .before .before .before .before .before .before .before .before .args .a) (c .before .before .before .before .before .before .before .before .before .before .before .before .before .before .before .before .before .before .before .before .before .args .b) _ e f (c .before .before .before .before .before .before .before .before .before .before .before .if3 .left) _ (c .before .before .before .before .before .before .before .before .before .clear-marks .ensures) _ _ _ fills _ _ (ap fillPaper (c .before .answer .given .1)) refl
-
 same-length-3 : tie.Need-same-length-3
 same-length-3 c = search needs
+
+returns-2 : tie.Need-returns-2
+returns-2 c =
+    let k = is-filled (c .before .before .before .before .before .before .before .before .before .before .before .before .before .before .before .before .before .prepare .result .answer) (c .before .before .before .before .before .before .before .before .before .before .match .keys1) in
+    askable (c .before .before .before .before .before .before .before .before .before .before .before .before .before .before .before .before .before .before .before .before .before .before .before .before .before .before .before .before .pre) (c .before .before .before .before .before .before .before .before .before .before .before .before .before .before .before .before .before .before .before .before .before .before .before .before .before .before .before .before .args .a) (c .before .before .before .before .before .before .before .before .before .before .before .before .before .before .before .before .before .before .before .before .before .before .before .before .before .before .before .before .args .b) (sym (c .before .before .before .before .before .before .before .before .before .before .before .before .before .before .before .before .before .before .before .before .before .before .are-records .ensures) ∙ not-false (c .before .before .before .before .before .before .before .before .before .before .before .before .before .before .before .before .before .before .before .before .before .before .are-records .result) (c .before .before .before .before .before .before .before .before .before .before .before .before .before .before .before .before .before .before .before .before .before .if1 .left)) (c .before .before .before .before .before .before .before .before .before .before .before .before .before .before .before .before .before .before .before .before .before .before .before .before .before .before .before .before .args .width) (now (c .before .before .before .before .before .before .before .before .before .before .before .before .before .before .before .before .before .before .before .before .before .before .before .before .before .before .before .before .args .clocks)) _ (now (c .before .before .before .before .before .before .before .before .before .before .before .before .before .before .before .before .before .before .before .before .before .before .before .before .before .before .before .before .args .work)) _ _ (now (c .before .before .before .before .before .before .before .before .before .before .before .before .before .before .before .before .before .before .before .before .before .before .before .before .before .before .before .before .args .list)) _ _ (c .before .before .before .before .before .before .before .before .before .before .before .before .before .before .before .before .before .prepare .ensures) (c .before .before .before .before .before .before .before .before .before .before .before .before .before .clear-marks .ensures) (k .0) (k .1) .done _ _ _ (c .before .before .before .before .ask-filled .ensures .0) (c .before .before .before .before .ask-filled .ensures .1)
 
 same-length-4 : tie.Need-same-length-4
 same-length-4 c = search needs
@@ -100,15 +79,8 @@ same-length-4 c = search needs
 same-length-5 : tie.Need-same-length-5
 same-length-5 c = search needs
 
-returns-5 : tie.Need-returns-5
-returns-5 c =
-    let tr = decode (now (c .before .before .before .before .before .before .before .before .before .before .before .before .before .before .before .before .before .before .before .before .before .before .before .before .before .before .before .before .before .before .before .args .recs)) in
-    let t = c .before .before .before .before .before .before .before .before .before .before .before .before .before .before .before .before .before .before .before .before .before .before .before .before .before .before .before .before .before .before .before .pre in
-    let e : areRecords tr (c .before .before .before .before .before .before .before .before .before .before .before .before .before .before .before .before .before .before .before .before .before .before .before .before .before .before .before .before .before .before .before .args .a) (c .before .before .before .before .before .before .before .before .before .before .before .before .before .before .before .before .before .before .before .before .before .before .before .before .before .before .before .before .before .before .before .args .b) ≡ true = sym (c .before .before .before .before .before .before .before .before .before .before .before .before .before .before .before .before .before .before .before .before .before .before .before .before .before .are-records .ensures) ∙ not-false (c .before .before .before .before .before .before .before .before .before .before .before .before .before .before .before .before .before .before .before .before .before .before .before .before .before .are-records .result) (c .before .before .before .before .before .before .before .before .before .before .before .before .before .before .before .before .before .before .before .before .before .before .before .before .if1 .left) in
-    let f : spaceFor (c .before .before .before .before .before .before .before .before .before .before .before .before .before .before .before .before .before .before .before .before .before .before .before .before .before .before .before .before .before .before .before .args .width) (c .before .before .before .before .before .before .before .before .before .before .before .before .before .before .before .before .before .before .before .before .before .before .before .before .before .before .before .before .before .before .before .args .events) (length (now (c .before .before .before .before .before .before .before .before .before .before .before .before .before .before .before .before .before .before .before .before .before .before .before .before .before .before .before .before .before .before .before .args .clocks))) ≡ true = sym (c .before .before .before .before .before .before .before .before .before .before .before .before .before .before .before .before .before .before .before .before .before .before .before .has-space .ensures) ∙ not-false (c .before .before .before .before .before .before .before .before .before .before .before .before .before .before .before .before .before .before .before .before .before .before .before .has-space .result) (c .before .before .before .before .before .before .before .before .before .before .before .before .before .before .before .before .before .before .before .before .before .before .if2 .left) in
-    let fills = fills-trace t (c .before .before .before .before .before .before .before .before .before .before .before .before .before .before .before .before .before .before .before .before .before .before .before .before .before .before .before .before .before .before .before .args .width) (now (c .before .before .before .before .before .before .before .before .before .before .before .before .before .before .before .before .before .before .before .before .before .before .before .before .before .before .before .before .before .before .before .args .clocks)) _ (c .before .before .before .before .before .before .before .before .before .before .before .before .before .before .before .fill-chains .result .answer) (c .before .before .before .before .before .before .before .before .before .before .before .before .before .before .before .fill-chains .result .of) (c .before .before .before .before .before .before .before .before .before .before .before .before .before .before .before .fill-chains .ensures) in
-    let k = is-filled (c .before .before .before .before .before .before .before .before .before .before .before .before .before .before .before .fill-chains .result .answer) (c .before .before .before .before .before .before .before .before .before .before .before .before .match .keys2) in
-    answers-trace tr (c .before .before .before .before .before .before .before .before .before .before .before .before .before .before .before .before .before .before .before .before .before .before .before .before .before .before .before .before .before .before .before .args .events) (c .before .before .before .before .before .before .before .before .before .before .before .before .before .before .before .before .before .before .before .before .before .before .before .before .before .before .before .before .before .before .before .args .width) (now (c .before .before .before .before .before .before .before .before .before .before .before .before .before .before .before .before .before .before .before .before .before .before .before .before .before .before .before .before .before .before .before .args .clocks)) (now (c .before .before .before .before .before .before .before .before .before .before .before .before .before .before .before .before .before .before .before .before .before .before .before .before .before .before .before .before .before .before .before .args .work)) (now (c .before .before .before .before .before .before .before .before .before .before .before .before .before .before .before .before .before .before .before .before .before .before .before .before .before .before .before .before .before .before .before .args .list)) (c .before .before .before .before .before .before .before .before .before .before .before .before .before .before .before .before .before .before .before .before .before .before .before .before .before .before .before .before .before .before .before .args .a) (c .before .before .before .before .before .before .before .before .before .before .before .before .before .before .before .before .before .before .before .before .before .before .before .before .before .before .before .before .before .before .before .args .b) (c .before .before .before .before .ask-filled .result) e f (c .before .before .before .before .before .before .before .before .before .before .before .before .before .before .before .before .before .before .before .before .before .if3 .left) _ (c .before .before .before .before .ask-filled .ensures .1 ∙ c .before .before .before .before .before .before .before .before .before .before .before .before .before .before .before .before .before .before .before .clear-marks .ensures) _ _ _ fills (k .0) (k .1) _ (c .before .before .before .before .ask-filled .ensures .0)
+returns-3 : tie.Need-returns-3
+returns-3 c = not-asked (c .before .before .before .before .before .before .before .before .before .before .before .before .before .before .before .before .before .before .before .before .pre) (c .before .before .before .before .before .before .before .before .before .before .before .before .before .before .before .before .before .before .before .before .args .a) (c .before .before .before .before .before .before .before .before .before .before .before .before .before .before .before .before .before .before .before .before .args .b) (sym (c .before .before .before .before .before .before .before .before .before .before .before .before .before .before .are-records .ensures) ∙ not-false (c .before .before .before .before .before .before .before .before .before .before .before .before .before .before .are-records .result) (c .before .before .before .before .before .before .before .before .before .before .before .before .before .if1 .left)) (c .before .before .before .before .before .before .before .before .before .before .before .before .before .before .before .before .before .before .before .before .args .width) (now (c .before .before .before .before .before .before .before .before .before .before .before .before .before .before .before .before .before .before .before .before .args .clocks)) _ (now (c .before .before .before .before .before .before .before .before .before .before .before .before .before .before .before .before .before .before .before .before .args .work)) _ _ (now (c .before .before .before .before .before .before .before .before .before .before .before .before .before .before .before .before .before .before .before .before .args .list)) _ _ (c .before .before .before .before .before .before .before .before .before .prepare .ensures) (c .before .before .before .before .before .clear-marks .ensures) _ _ (ap fillPaper (c .before .answer .given .1)) _ refl
 
 pub ask-trace-spec : {M : Type 1} → statement M
 ask-trace-spec =
@@ -117,24 +89,21 @@ ask-trace-spec =
     are-records-requires
     refused-requires
     returns
-    has-space-requires
-    refused-requires-2
-    returns-2
-    refused-requires-3
-    returns-3
+    sub-i
+    cast-i
+    sub-j
+    cast-j
+    no-chains-requires
+    prepare-requires
     clear-marks-requires
-    fill-chains-requires
-    sub-first
-    cast-first
-    sub-second
-    cast-second
-    enum-known-answer
     enum-told
+    slice-aggregate-ask-filled
     ask-filled-requires
+    enum-known-answer
     same-length
     same-length-2
-    returns-4
     same-length-3
+    returns-2
     same-length-4
     same-length-5
-    returns-5)
+    returns-3)

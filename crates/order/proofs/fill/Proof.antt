@@ -1,9 +1,9 @@
--- `order::fill_chains` meets its contract.
+-- `order::fill` meets its contract.
 -- Assumes nothing.
 use Rattle.order.proofs.PrepareLaws.{fills}
 use borrow.Author.Needs.{needs}
-use Rattle.order.proofs.fill_chains.Statement.{statement}
-use Rattle.order.proofs.fill_chains.Tie as tie
+use Rattle.order.proofs.fill.Statement.{statement}
+use Rattle.order.proofs.fill.Tie as tie
 
 no-chains-requires : tie.Need-no-chains-requires
 no-chains-requires c κs = search needs
@@ -17,5 +17,5 @@ same-length c = search needs
 returns : tie.Need-returns
 returns c = fills _ _ _ _ _ _ _ (c .before .before .prepare .ensures)
 
-pub fill-chains-spec : {M : Type 1} → statement M
-fill-chains-spec = tie.close (tie.spec no-chains-requires prepare-requires same-length returns)
+pub fill-spec : {M : Type 1} → statement M
+fill-spec = tie.close (tie.spec no-chains-requires prepare-requires same-length returns)
