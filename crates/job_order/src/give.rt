@@ -1,4 +1,4 @@
-// What each answer holds, as the numbers that a call gives out.
+// What each answer holds, as the numbers that a call gives out: its result, then those it stores.
 use order::Filling;
 use question::Answer;
 use races::Listing;
@@ -13,120 +13,147 @@ ghost use Rattle.races.specs.Paper.{listPaper};
 ghost use Rattle.races.specs.Pair.{pairPaper, entriesGiven};
 ghost use Rattle.job_order.specs.Calls.{readNumbers, fillNumbers, orderNumbers, listNumbers, pairNumbers};
 
-pub(crate) fn reading(
-    r: Reading,
-    place: &mut u16,
-    start: &mut usize,
-    records: &mut usize,
-    events: &mut usize,
-) -> u16
-    ensures { λ n. ⌜ n ∷ now (place .exit) ∷ now (start .exit) ∷ now (records .exit) ∷ now (events .exit) ∷ [] ≡ readNumbers (paper r) ⌝ }
+pub(crate) struct Read {
+    pub(crate) number: u16,
+    pub(crate) place: u16,
+    pub(crate) start: usize,
+    pub(crate) records: usize,
+    pub(crate) events: usize,
+}
+
+pub(crate) fn reading(r: Reading) -> Read
+    ensures { λ n. ⌜ n .number ∷ n .place ∷ n .start ∷ n .records ∷ n .events ∷ [] ≡ readNumbers (paper r) ⌝ }
 {
     let Reading::Accepted(t) = r else {
-        let f = trace::refusal_of(r);
-        *place = f.place.0;
-        *start = 0;
-        *records = 0;
-        *events = 0;
-        return f.number;
+        let refusal = trace::refusal_of(r);
+        return Read {
+            number: refusal.number,
+            place: refusal.place.0,
+            start: 0,
+            records: 0,
+            events: 0,
+        };
     };
-    *place = 0;
-    *start = t.start;
-    *records = t.records;
-    *events = t.events;
-    0
-}
-
-pub(crate) fn filling(r: Filling, place: &mut u16, chains: &mut usize) -> u16
-    ensures { λ n. ⌜ n ∷ now (place .exit) ∷ now (chains .exit) ∷ [] ≡ fillNumbers (fillPaper r) ⌝ }
-{
-    match r {
-        Filling::Filled(k) => {
-            *place = 0;
-            *chains = k;
-            0
-        }
-        Filling::Refused(f) => {
-            *place = f.place.0;
-            *chains = 0;
-            f.number
-        }
+    Read {
+        number: 0,
+        place: 0,
+        start: t.start,
+        records: t.records,
+        events: t.events,
     }
 }
 
-pub(crate) fn answer(r: Answer, place: &mut u16, yes: &mut u8) -> u16
-    ensures { λ n. ⌜ n ∷ now (place .exit) ∷ now (yes .exit) ∷ [] ≡ orderNumbers (orderPaper r) ⌝ }
+pub(crate) struct Filled {
+    pub(crate) number: u16,
+    pub(crate) place: u16,
+    pub(crate) chains: usize,
+}
+
+pub(crate) fn filling(r: Filling) -> Filled
+    ensures { λ n. ⌜ n .number ∷ n .place ∷ n .chains ∷ [] ≡ fillNumbers (fillPaper r) ⌝ }
 {
     match r {
-        Answer::Yes => {
-            *place = 0;
-            *yes = 1;
-            0
-        }
-        Answer::No => {
-            *place = 0;
-            *yes = 0;
-            0
-        }
-        Answer::Refused(f) => {
-            *place = f.place.0;
-            *yes = 0;
-            f.number
-        }
+        Filling::Filled(k) => Filled {
+            number: 0,
+            place: 0,
+            chains: k,
+        },
+        Filling::Refused(f) => Filled {
+            number: f.number,
+            place: f.place.0,
+            chains: 0,
+        },
     }
 }
 
-pub(crate) fn listing(
-    r: Listing,
-    place: &mut u16,
-    events: &mut usize,
-    records: &mut usize,
-    chains: &mut usize,
-    count: &mut usize,
-) -> u16
-    ensures { λ n. ⌜ n ∷ now (place .exit) ∷ now (events .exit) ∷ now (records .exit) ∷ now (chains .exit) ∷ now (count .exit) ∷ [] ≡ listNumbers (listPaper r) ⌝ }
+pub(crate) struct Told {
+    pub(crate) number: u16,
+    pub(crate) place: u16,
+    pub(crate) yes: u8,
+}
+
+pub(crate) fn answer(r: Answer) -> Told
+    ensures { λ n. ⌜ n .number ∷ n .place ∷ n .yes ∷ [] ≡ orderNumbers (orderPaper r) ⌝ }
 {
     match r {
-        Listing::Listed(s) => {
-            *place = 0;
-            *events = s.events;
-            *records = s.records;
-            *chains = s.chains;
-            *count = s.count;
-            0
-        }
-        Listing::Refused(f) => {
-            *place = f.place.0;
-            *events = 0;
-            *records = 0;
-            *chains = 0;
-            *count = 0;
-            f.number
-        }
+        Answer::Yes => Told {
+            number: 0,
+            place: 0,
+            yes: 1,
+        },
+        Answer::No => Told {
+            number: 0,
+            place: 0,
+            yes: 0,
+        },
+        Answer::Refused(f) => Told {
+            number: f.number,
+            place: f.place.0,
+            yes: 0,
+        },
     }
 }
 
-pub(crate) fn pair(r: PairAnswer, place: &mut u16, covered: &mut u8, count: &mut usize) -> u16
-    ensures { λ n. ⌜ (n ∷ now (place .exit) ∷ now (covered .exit) ∷ now (count .exit) ∷ [] ≡ pairNumbers (pairPaper r) (now (count .exit))) × (now (count .exit) ≡ entriesGiven r) ⌝ }
+pub(crate) struct Listed {
+    pub(crate) number: u16,
+    pub(crate) place: u16,
+    pub(crate) events: usize,
+    pub(crate) records: usize,
+    pub(crate) chains: usize,
+    pub(crate) count: usize,
+}
+
+pub(crate) fn listing(r: Listing) -> Listed
+    ensures { λ n. ⌜ n .number ∷ n .place ∷ n .events ∷ n .records ∷ n .chains ∷ n .count ∷ [] ≡ listNumbers (listPaper r) ⌝ }
 {
     match r {
-        PairAnswer::Open(k) => {
-            *place = 0;
-            *covered = 0;
-            *count = k;
-            0
-        }
-        PairAnswer::Covered(k) => {
-            *place = 0;
-            *covered = 1;
-            *count = k;
-            0
-        }
-        PairAnswer::Refused(f) => {
-            *place = f.place.0;
-            *covered = 0;
-            *count = 0;
-            f.number
-        }
+        Listing::Listed(s) => Listed {
+            number: 0,
+            place: 0,
+            events: s.events,
+            records: s.records,
+            chains: s.chains,
+            count: s.count,
+        },
+        Listing::Refused(f) => Listed {
+            number: f.number,
+            place: f.place.0,
+            events: 0,
+            records: 0,
+            chains: 0,
+            count: 0,
+        },
+    }
+}
+
+pub(crate) struct Asked {
+    pub(crate) number: u16,
+    pub(crate) place: u16,
+    pub(crate) covered: u8,
+    pub(crate) count: usize,
+}
+
+pub(crate) fn pair(r: PairAnswer) -> Asked
+    ensures { λ n. ⌜ (n .number ∷ n .place ∷ n .covered ∷ n .count ∷ [] ≡ pairNumbers (pairPaper r) (n .count)) × (n .count ≡ entriesGiven r) ⌝ }
+{
+    match r {
+        PairAnswer::Open(k) => Asked {
+            number: 0,
+            place: 0,
+            covered: 0,
+            count: k,
+        },
+        PairAnswer::Covered(k) => Asked {
+            number: 0,
+            place: 0,
+            covered: 1,
+            count: k,
+        },
+        PairAnswer::Refused(f) => Asked {
+            number: f.number,
+            place: f.place.0,
+            covered: 0,
+            count: 0,
+        },
     }
 }

@@ -19,7 +19,12 @@ pub extern "C" fn jco_read(
 ) -> u16
     ensures { λ r. ⌜ Reads (now (bytes .entry)) r (now (place .exit)) (now (start .exit)) (now (records .exit)) (now (events .exit)) ⌝ }
 {
-    give::reading(trace::read(bytes), place, start, records, events)
+    let given = give::reading(trace::read(bytes));
+    *place = given.place;
+    *start = given.start;
+    *records = given.records;
+    *events = given.events;
+    given.number
 }
 
 // Fills the lent clocks with the clock rows of the trace.
@@ -33,7 +38,10 @@ pub extern "C" fn jco_fill(
 ) -> u16
     ensures { λ r. ⌜ FillsOut (now (bytes .entry)) width (now (clocks .entry)) (now (clocks .exit)) r (now (place .exit)) (now (chains .exit)) ⌝ }
 {
-    give::filling(order::fill(bytes, width, clocks), place, chains)
+    let given = give::filling(order::fill(bytes, width, clocks));
+    *place = given.place;
+    *chains = given.chains;
+    given.number
 }
 
 // The order question: does event t's action happen before u's?
@@ -50,7 +58,10 @@ pub extern "C" fn jco_happens_before(
     ensures { λ r. ⌜ Answers (now (bytes .entry)) width (now (clocks .entry)) t u r (now (place .exit)) (now (yes .exit)) ⌝ }
 {
     let answer = question::happens_before(bytes, width, clocks, EventId(t), EventId(u));
-    give::answer(answer, place, yes)
+    let given = give::answer(answer);
+    *place = given.place;
+    *yes = given.yes;
+    given.number
 }
 
 // The list of all races of the trace.
@@ -70,7 +81,13 @@ pub extern "C" fn jco_all_races(
     ensures { λ r. ⌜ ListsOut false (now (bytes .entry)) width (now (clocks .entry)) (now (clocks .exit)) (now (work .entry)) (now (work .exit)) (now (list .entry)) (now (list .exit)) r (now (place .exit)) (now (events .exit)) (now (records .exit)) (now (chains .exit)) (now (count .exit)) ⌝ }
 {
     let listing = races::all_races(bytes, width, clocks, work, list);
-    give::listing(listing, place, events, records, chains, count)
+    let given = give::listing(listing);
+    *place = given.place;
+    *events = given.events;
+    *records = given.records;
+    *chains = given.chains;
+    *count = given.count;
+    given.number
 }
 
 // The short list of the trace.
@@ -90,7 +107,13 @@ pub extern "C" fn jco_short_list(
     ensures { λ r. ⌜ ListsOut true (now (bytes .entry)) width (now (clocks .entry)) (now (clocks .exit)) (now (work .entry)) (now (work .exit)) (now (list .entry)) (now (list .exit)) r (now (place .exit)) (now (events .exit)) (now (records .exit)) (now (chains .exit)) (now (count .exit)) ⌝ }
 {
     let listing = races::short_list(bytes, width, clocks, work, list);
-    give::listing(listing, place, events, records, chains, count)
+    let given = give::listing(listing);
+    *place = given.place;
+    *events = given.events;
+    *records = given.records;
+    *chains = given.chains;
+    *count = given.count;
+    given.number
 }
 
 // The pair question: records a and b.
@@ -118,5 +141,9 @@ pub extern "C" fn jco_ask_pair(
         Operation(a),
         Operation(b),
     );
-    give::pair(answer, place, covered, count)
+    let given = give::pair(answer);
+    *place = given.place;
+    *covered = given.covered;
+    *count = given.count;
+    given.number
 }

@@ -33,13 +33,22 @@ fn closed_after(before: u8, now: bool) -> u8
     0
 }
 
-fn put_state(r: Recorder, count: &mut u16, situation: &mut u8, owner: &mut u16, closed: &mut u8)
-    ensures { λ _. ⌜ state (now (count .exit)) (now (situation .exit)) (now (owner .exit)) (now (closed .exit)) ≡ stateAfter (now (closed .entry)) r ⌝ }
+struct Numbers {
+    count: u16,
+    situation: u8,
+    owner: u16,
+    closed: u8,
+}
+
+fn numbers_after(before: u8, r: Recorder) -> Numbers
+    ensures { λ n. ⌜ state (n .count) (n .situation) (n .owner) (n .closed) ≡ stateAfter before r ⌝ }
 {
-    *count = r.count;
-    *situation = r.situation;
-    *owner = r.owner.0;
-    *closed = closed_after(*closed, r.closed);
+    Numbers {
+        count: r.count,
+        situation: r.situation,
+        owner: r.owner.0,
+        closed: closed_after(before, r.closed),
+    }
 }
 
 fn opening(r: Opening) -> u16
@@ -51,35 +60,46 @@ fn opening(r: Opening) -> u16
     }
 }
 
-fn stepped(r: Stepped, place: &mut u16) -> u16
-    ensures { λ n. ⌜ (n ≡ numberOf (steppedPaper r)) × (now (place .exit) ≡ placeOf (steppedPaper r)) ⌝ }
+struct Told {
+    number: u16,
+    place: u16,
+}
+
+fn stepped(r: Stepped) -> Told
+    ensures { λ n. ⌜ (n .number ≡ numberOf (steppedPaper r)) × (n .place ≡ placeOf (steppedPaper r)) ⌝ }
 {
     match r {
-        Stepped::Taken => {
-            *place = 0;
-            0
-        }
-        Stepped::Refused(f) => {
-            *place = f.place.0;
-            f.number
-        }
+        Stepped::Taken => Told {
+            number: 0,
+            place: 0,
+        },
+        Stepped::Refused(f) => Told {
+            number: f.number,
+            place: f.place.0,
+        },
     }
 }
 
-fn closing(r: Closing, place: &mut u16, length: &mut usize) -> u16
-    ensures { λ n. ⌜ (n ≡ numberOf (closingPaper r)) × (now (place .exit) ≡ placeOf (closingPaper r)) × (now (length .exit) ≡ lengthOf (closingPaper r)) ⌝ }
+struct Closed {
+    number: u16,
+    place: u16,
+    length: usize,
+}
+
+fn closing(r: Closing) -> Closed
+    ensures { λ n. ⌜ (n .number ≡ numberOf (closingPaper r)) × (n .place ≡ placeOf (closingPaper r)) × (n .length ≡ lengthOf (closingPaper r)) ⌝ }
 {
     match r {
-        Closing::Closed(n) => {
-            *place = 0;
-            *length = n;
-            0
-        }
-        Closing::Refused(f) => {
-            *place = f.place.0;
-            *length = 0;
-            f.number
-        }
+        Closing::Closed(n) => Closed {
+            number: 0,
+            place: 0,
+            length: n,
+        },
+        Closing::Refused(f) => Closed {
+            number: f.number,
+            place: f.place.0,
+            length: 0,
+        },
     }
 }
 
@@ -95,8 +115,11 @@ pub extern "C" fn jco_recorder_open(
     ensures { λ r. ⌜ Opens (now (space .entry)) (state (now (count .exit)) (now (situation .exit)) (now (owner .exit)) (now (closed .exit))) r ⌝ }
 {
     let opened = recorder::open_on(space);
-    *closed = 0;
-    put_state(opened.recorder, count, situation, owner, closed);
+    let after = numbers_after(0, opened.recorder);
+    *count = after.count;
+    *situation = after.situation;
+    *owner = after.owner;
+    *closed = after.closed;
     let answer = opened.answer;
     opening(answer)
 }
@@ -123,9 +146,15 @@ pub extern "C" fn jco_recorder_step(
         second: second,
     };
     let next = recorder::step_on(space, r, record);
-    put_state(next.recorder, count, situation, owner, closed);
+    let after = numbers_after(*closed, next.recorder);
+    *count = after.count;
+    *situation = after.situation;
+    *owner = after.owner;
+    *closed = after.closed;
     let answer = next.answer;
-    stepped(answer, place)
+    let told = stepped(answer);
+    *place = told.place;
+    told.number
 }
 
 // Closes the trace; its length is counted from the first byte of the space.
@@ -143,7 +172,14 @@ pub extern "C" fn jco_recorder_close(
 {
     let r = recorder_of(*count, *situation, *owner, *closed);
     let ended = recorder::close_on(space, r);
-    put_state(ended.recorder, count, situation, owner, closed);
+    let after = numbers_after(*closed, ended.recorder);
+    *count = after.count;
+    *situation = after.situation;
+    *owner = after.owner;
+    *closed = after.closed;
     let answer = ended.answer;
-    closing(answer, place, length)
+    let told = closing(answer);
+    *place = told.place;
+    *length = told.length;
+    told.number
 }

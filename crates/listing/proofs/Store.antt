@@ -9,9 +9,10 @@ use native.Mathlib.Numerals.{add-one}
 use borrow.Author.Tests.{le-leb, lt-leb}
 use lib.ListN.{length, getD, take, drop, set, length-append}
 use lib.Seq.{sets, length-sets, sets-eq, set-comm, drop-cons, drop-length, take-at, length-take-le}
-use Rattle.listing.specs.Lines.{decimal, putAt, afterLine, Printed}
+use Rattle.listing.specs.Lines.{decimal, shapeWord, putAt, afterLine, Printed}
 use Rattle.listing.specs.Pieces.{Written}
 use Rattle.listing.proofs.Decimal.{decimal-one, decimal-more, length-one, length-more}
+use Rattle.listing.proofs.Text.{shape-length}
 
 pub sets-append : (l : List ℕ) (i : ℕ) (xs ys : List ℕ) → sets l i (xs ++ ys) ≡ sets (sets l i xs) (i + length xs) ys
 sets-append l i [] ys = rw add-zero
@@ -40,6 +41,12 @@ both {s = s} {xs = xs} {ys = ys} {at = at} w v =
       size = omega (arith, v .size, length-append xs ys);
       next = omega (arith, v .next);
     }
+
+-- a shape's word, with a space, is three bytes
+pub shape-written : {s s′ : List ℕ} {at r : ℕ} (shape : ℕ) (word : List ℕ) → word ≡ shapeWord shape ++ 32 ∷ [] → Written s at word (length word) s′ r → Written s at (shapeWord shape ++ 32 ∷ []) 3 s′ r
+shape-written shape word e w =
+    let three : length (shapeWord shape ++ 32 ∷ []) ≡ 3 = omega (arith, length-append (shapeWord shape) (32 ∷ []), shape-length shape) in
+    rw three at (rw e at w)
 
 -- a line whose pieces are written is printed, and where it doesn't fit nothing is
 pub printed : {s bytes s′ : List ℕ} {at n r : ℕ} (text : List ℕ) → text ≡ bytes → Written s at bytes n s′ r → at + n ≤ length s → Printed s at text s′ r

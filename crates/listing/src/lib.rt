@@ -78,18 +78,25 @@ fn put_named(out: &mut [u8], at: usize, name: &[u8], n: usize, end: u8) -> usize
     put_number(out, at_number, n, end)
 }
 
+// The shape of a pair, and a space.
+fn shape_word(shape: u16) -> [u8; 3]
+    ensures { λ r. ⌜ r ≡ shapeWord shape ++ 32 ∷ [] ⌝ }
+{
+    if shape == 1 {
+        return [b'w', b'w', b' '];
+    }
+    if shape == 2 {
+        return [b'w', b'r', b' '];
+    }
+    [b'r', b'w', b' ']
+}
+
 // Writes the shape of a pair, and a space.
 fn put_shape(out: &mut [u8], at: usize, shape: u16) -> usize
     requires { ⌜ at + 3 ≤ length (now out) ⌝ }
     ensures { λ r. ⌜ Written (now (out .entry)) at (shapeWord shape ++ 32 ∷ []) 3 (now (out .exit)) r ⌝ }
 {
-    if shape == 1 {
-        return put_word(out, at, b"ww ");
-    }
-    if shape == 2 {
-        return put_word(out, at, b"wr ");
-    }
-    put_word(out, at, b"rw ")
+    put_word(out, at, &shape_word(shape))
 }
 
 // The length of a mark's word.
@@ -110,6 +117,13 @@ fn put_mark(out: &mut [u8], at: usize, mark: u16) -> usize
     put_word(out, at, b"covered\n")
 }
 
+// The length of a header line.
+fn header_width(events: usize, records: usize, chains: usize, pairs: usize) -> usize
+    ensures { λ r. ⌜ r ≡ 32 + length (decimal events) + length (decimal records) + length (decimal chains) + length (decimal pairs) ⌝ }
+{
+    32 + width(events) + width(records) + width(chains) + width(pairs)
+}
+
 // Prints the header line at at, where it fits. Gives the position after it, or at where it doesn't fit.
 pub fn put_header(
     out: &mut [u8],
@@ -121,14 +135,20 @@ pub fn put_header(
 ) -> usize
     ensures { λ r. ⌜ Printed (now (out .entry)) at (headerLine events records chains pairs) (now (out .exit)) r ⌝ }
 {
-    let len = 32 + width(events) + width(records) + width(chains) + width(pairs);
-    if room(out.len(), at) < len {
+    if room(out.len(), at) < header_width(events, records, chains, pairs) {
         return at;
     }
     let at_records = put_named(out, at, b"events ", events, b' ');
     let at_chains = put_named(out, at_records, b"records ", records, b' ');
     let at_pairs = put_named(out, at_chains, b"chains ", chains, b' ');
     put_named(out, at_pairs, b"pairs ", pairs, b'\n')
+}
+
+// The length of a pair's line.
+fn pair_width(first: usize, second: usize, cell: usize, mark: u16) -> usize
+    ensures { λ r. ⌜ r ≡ 7 + length (decimal first) + length (decimal second) + length (decimal cell) + length (markWord mark) ⌝ }
+{
+    7 + width(first) + width(second) + width(cell) + mark_width(mark)
 }
 
 // Prints a pair's line at at, where it fits. Gives the position after it, or at where it doesn't fit.
@@ -146,8 +166,7 @@ pub fn put_pair(
     let a = first as usize;
     let b = second as usize;
     let c = cell as usize;
-    let len = 7 + width(a) + width(b) + width(c) + mark_width(mark);
-    if room(out.len(), at) < len {
+    if room(out.len(), at) < pair_width(a, b, c, mark) {
         return at;
     }
     let at_second = put_number(out, at, a, b' ');

@@ -1,9 +1,10 @@
 -- How the lists end, from the reading, the spaces and filling.
 -- Assumes nothing.
-use Prim.Native.Nat.{ℕ, _+_, _*_, _/_, _≤_, _<_}
+use Prim.Native.Nat.{ℕ, zero, suc, _+_, _*_, _/_, _≤_, _<_}
 use mathlib.Core.Path.{_≡_, refl, sym, ap, _∙_, subst}
+use mathlib.Core.Logic.{_≢_}
 use mathlib.Core.Bool.{Bool, true, false}
-use mathlib.Core.List.{List, _++_}
+use mathlib.Core.List.{List, [], _∷_, _++_}
 use native.Mathlib.Omega.{arith}
 use borrow.Author.Tests.{le-leb, lt-leb}
 use lib.Dec.{leb, eqb}
@@ -25,8 +26,10 @@ use Rattle.order.proofs.PrepareLaws.{refused-reply, refused-trace, refused-cloc
 use Rattle.races.specs.declared.Listing.{Listing}
 use Rattle.races.specs.Lists.{pairsOf, numbers, ListReply, refused, listed, demand, listFilled, listTrace, listRead, listReply, listAfter, clocksRead, workRead, listAfterRead}
 use Rattle.races.specs.Paper.{listPaper, Lists, ListsFilled}
-use Rattle.races.specs.ListPass.{pairsBelow, WritesAll, Clear}
+use Rattle.races.specs.ListPass.{pairsBelow, WritesAll, Counts, ListsAll, Clear}
 use Rattle.races.specs.Filled.{Filled}
+use Rattle.races.specs.Traces.{cellsOf, settingOf}
+use Rattle.coverage.proofs.Total.{short-total}
 use Rattle.races.proofs.ListLaws.{pairs-below}
 use Rattle.races.proofs.DemandLaws.{numbers-length}
 use Rattle.races.proofs.PreparedLaws.{after-clocks, after-work, passed, filled-whole, work-clear}
@@ -59,30 +62,68 @@ module _ (tr : List Record) (short : Bool) (events : ℕ) (list : List ℕ) (cou
         let d : 0 + length (numbers tr ps) ≡ 5 * length ps = omega (arith, l) in
         rw (fits, pairs-below tr short) (sets-eq (numbers tr ps) list 0 q ∙ rw d refl)
 
--- counted, and then written
-module _ (tr : List Record) (short : Bool) (events : ℕ) {list list₁ : List ℕ} {count : ℕ} (w : WritesAll false tr short list list₁ count) where
-  kept : list₁ ≡ list
-  kept = w .list-is
+pub nonzero : (n : ℕ) → n ≢ 0 → 0 < n
+nonzero zero h = absurd (h refl)
+nonzero (suc n) h = omega arith
 
-  pub all-refused : (work : List ℕ) → length list₁ / 5 < count → (r : Listing) → listPaper r ≡ refused 24 0 → ListsFilled short tr events work work list list₁ r
+-- counted, or known to be few
+module _ (tr : List Record) (short : Bool) (space : ℕ) where
+  pub counts-all : {list list′ : List ℕ} {r : ℕ} → WritesAll false tr short list list′ r → Counts tr short space r
+  counts-all w = let c = w .count in record { fits = λ l. omega arith; long = λ l. omega arith; none = λ z. omega arith }
+
+  pub counts-few : short ≡ true → 0 < length tr → 2 * length tr ≤ space / 5 → Counts tr short space 1
+  unfolding pairsOf
+  counts-few e n l = record {
+    fits = λ k. few;
+    long = λ k. absurd (omega arith);
+    none = λ z. absurd (omega arith);
+  }
+    where
+      few : length (pairsBelow tr short (length tr)) ≤ space / 5
+      few = rw (e, pairs-below tr true) (omega (arith, short-total (settingOf tr) (cellsOf tr)))
+
+-- counted, and then written: the count leaves the list space as it is
+module _ (tr : List Record) (short : Bool) (events : ℕ) (list list₁ : List ℕ) (counted : ℕ) (w : Counts tr short (length list) counted) (k : list₁ ≡ list) where
+  total : ℕ
+  total = length (pairsBelow tr short (length tr))
+
+  total-is : total ≡ length (pairsBelow tr short (length tr))
+  unfolding total
+  total-is = refl
+
+  pub all-refused : (work : List ℕ) → length list₁ / 5 < counted → (r : Listing) → listPaper r ≡ refused 24 0 → ListsFilled short tr events work work list list₁ r
+  unfolding total
   all-refused work h r p =
-      let q = subst (λ (xs : List ℕ). length xs / 5 < count) kept h in
+      let q = w .long (subst (λ (xs : List ℕ). length xs / 5 < counted) k h) in
       record {
-        answer = p ∙ sym (too-long tr short events list count (w .count) q);
+        answer = p ∙ sym (too-long tr short events list total total-is q);
         work-after = refl;
-        list-after = kept ∙ too-long-list tr short events list count (w .count) q;
+        list-after = k ∙ too-long-list tr short events list total total-is q;
       }
 
-  module _ (h : count ≤ length list₁ / 5) where
-    fit : count ≤ length list / 5
-    fit = subst (λ (xs : List ℕ). count ≤ length xs / 5) kept h
+  module _ (h : counted ≤ length list₁ / 5) where
+    fit : total ≤ length list / 5
+    unfolding total
+    fit = w .fits (subst (λ (xs : List ℕ). counted ≤ length xs / 5) k h)
 
-    pub all-listed : {work work₂ list₂ : List ℕ} → list₂ ≡ sets list₁ 0 (numbers tr (pairsBelow tr short (length tr))) → work₂ ≡ work → (n chains : ℕ) → n ≡ length tr → chains ≡ chainsUsed tr → (r : Listing) → listPaper r ≡ listed events n chains count → ListsFilled short tr events work work₂ list list₂ r
+    pub all-room : 5 * length (pairsBelow tr short (length tr)) ≤ length list₁
+    all-room = omega (arith, fit, total-is, ap length k)
+
+    pub all-listed : {work work₂ list₂ : List ℕ} {found : ℕ} → ListsAll tr short list₁ list₂ found → work₂ ≡ work → (n chains : ℕ) → n ≡ length tr → chains ≡ chainsUsed tr → (r : Listing) → listPaper r ≡ listed events n chains found → ListsFilled short tr events work work₂ list list₂ r
     all-listed v e n chains m c r p = record {
-      answer = p ∙ sym (fits tr short events list count (w .count) fit ∙ rw (← c, ← m) refl);
+      answer = p ∙ sym (fits tr short events list total total-is fit ∙ rw (← c, ← m, total-is, ← v .count) refl);
       work-after = e;
-      list-after = v ∙ (ap (λ (xs : List ℕ). sets xs 0 (numbers tr (pairsBelow tr short (length tr)))) kept ∙ fits-list tr short events list count (w .count) fit);
+      list-after = v .list-is ∙ (ap (λ (xs : List ℕ). sets xs 0 (numbers tr (pairsBelow tr short (length tr)))) k ∙ fits-list tr short events list total total-is fit);
     }
+
+    -- none at all
+    pub none-listed : counted ≡ 0 → (work : List ℕ) (n chains : ℕ) → n ≡ length tr → chains ≡ chainsUsed tr → (r : Listing) → listPaper r ≡ listed events n chains 0 → ListsFilled short tr events work work list list₁ r
+    unfolding numbers
+    none-listed z work n chains m c r p = all-listed (record { count = sym (w .none z); list-is = go (pairsBelow tr short (length tr)) (w .none z) }) refl n chains m c r p
+      where
+        go : (ps : List (ℕ × ℕ)) → length ps ≡ 0 → list₁ ≡ sets list₁ 0 (numbers tr ps)
+        go [] e = refl
+        go (q ∷ ps) e = absurd (omega arith)
 
 -- a refusal of filling is one of the list
 refusal : (x y z : Bool) (place chains k i : ℕ) (next : ListReply) → fill.refused k i ≡ fill.demand x 21 0 (fill.demand y 22 0 (fill.demand z 23 place (fill.filled chains))) → demand x 21 0 (demand y 22 0 (demand z 23 place next)) ≡ refused k i

@@ -25,7 +25,7 @@ use Rattle.races.specs.Leading.{rows}
 use Rattle.races.specs.Slots.{slot}
 use Rattle.races.specs.LeadingPass.{markedEvent, Rest, Group, LeadingGroup}
 use Rattle.races.specs.Lists.{pairsOf, shapeOf, markOf, entry, numbers}
-use Rattle.races.specs.ListPass.{fromOf, firsts, withSecond, pairsBelow, raw, raws, WritesAll, Clear}
+use Rattle.races.specs.ListPass.{fromOf, firsts, withSecond, pairsBelow, raw, raws, WritesAll, ListsAll, Clear}
 use Rattle.races.specs.Marking.{first, second, Numbered, Entries, TakesSecond, Placed, Asked, Gathers, Finds, MarksFor, markTo, Remarked}
 use Rattle.races.proofs.CandidateLaws.{racing}
 use Rattle.races.proofs.ListLaws.{pairs-below}
@@ -418,21 +418,10 @@ module _ {tr : List Record} {events : ℕ} {work work′ : List ℕ} (c : Clear 
   cleared-again work″ e = e ∙ (rw (c .events-are, r .beyond) (sym (c .zeros)))
 
 -- All entries: written, then marked.
-module _ (tr : List Record) (short : Bool) (list : List ℕ) (found : ℕ) (f : found ≡ length (pairsBelow tr short (length tr))) (room : 5 * found ≤ length list) where
-  fits : 5 * length (pairsBelow tr short (length tr)) ≤ length list
-  fits = subst (λ (n : ℕ). 5 * n ≤ length list) f room
+module _ (tr : List Record) (short : Bool) (list : List ℕ) (room : 5 * length (pairsBelow tr short (length tr)) ≤ length list) {list₁ : List ℕ} {found : ℕ} (w : WritesAll true tr short list list₁ found) where
+  pub written-entries : Entries tr list₁ found
+  written-entries = rw (w .count, w .list-is) (raw-entries tr short list room)
 
-  pub none-found : found ≡ 0 → list ≡ sets list 0 (numbers tr (pairsBelow tr short (length tr)))
-  unfolding numbers
-  none-found z = go (pairsBelow tr short (length tr)) (sym f ∙ z)
-    where
-      go : (ps : List (ℕ × ℕ)) → length ps ≡ 0 → list ≡ sets list 0 (numbers tr ps)
-      go [] e = refl
-      go (p ∷ ps) e = absurd (omega arith)
-
-  pub written-entries : {list₁ : List ℕ} {again : ℕ} → WritesAll true tr short list list₁ again → Entries tr list₁ found
-  written-entries w = rw (f, w .list-is) (raw-entries tr short list fits)
-
-  pub all-written : {list₁ list₂ : List ℕ} {again : ℕ} → WritesAll true tr short list list₁ again → Remarked tr 0 found list₁ list₂ → list₂ ≡ sets list 0 (numbers tr (pairsBelow tr short (length tr)))
+  pub all-written : {list₂ : List ℕ} → Remarked tr 0 found list₁ list₂ → ListsAll tr short list list₂ found
   unfolding markTo
-  all-written {list₁} w r = r .marks list₁ refl ∙ (ap₂ (markTo tr) f (w .list-is) ∙ marked-all tr (pairsBelow tr short (length tr)) list fits)
+  all-written r = record { count = w .count; list-is = r .marks list₁ refl ∙ (ap₂ (markTo tr) (w .count) (w .list-is) ∙ marked-all tr (pairsBelow tr short (length tr)) list room) }

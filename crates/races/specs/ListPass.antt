@@ -1,6 +1,6 @@
 -- How the lists are made: for each second access, the first accesses from some place on. `ListLaws` proves that this gives the lists. Definitions alone. Assumes
 -- nothing.
-use Prim.Native.Nat.{ℕ, zero, suc, _+_, _*_, _-_, _≤_, _<_}
+use Prim.Native.Nat.{ℕ, zero, suc, _+_, _*_, _-_, _/_, _≤_, _<_}
 use mathlib.Core.Path.{_≡_}
 use mathlib.Core.Bool.{Bool, true, false, cond, _&&_}
 use mathlib.Core.List.{List, [], _∷_, _++_, map}
@@ -15,7 +15,7 @@ use Rattle.coverage.specs.Below.{upto}
 use Rattle.coverage.specs.Race.{raceb}
 use Rattle.races.specs.Traces.{settingOf}
 use Rattle.races.specs.Leading.{rows, leadingMarks}
-use Rattle.races.specs.Lists.{shapeOf}
+use Rattle.races.specs.Lists.{shapeOf, numbers}
 use Rattle.races.specs.Candidates.{cell, startOf, Range}
 use Rattle.races.specs.Filled.{Filled}
 
@@ -91,6 +91,17 @@ pub record Writes (writing : Bool) (tr : List Record) (b from k : ℕ) (list lis
 pub record WritesAll (writing : Bool) (tr : List Record) (short : Bool) (list list′ : List ℕ) (r : ℕ) : Type 0 where
   pub count : r ≡ length (pairsBelow tr short (length tr))
   pub list-is : list′ ≡ cond writing (sets list 0 (raws tr (pairsBelow tr short (length tr)))) list
+
+-- r tells whether a list space holds the entries, and whether there are any
+pub record Counts (tr : List Record) (short : Bool) (space r : ℕ) : Type 0 where
+  pub fits : r ≤ space / 5 → length (pairsBelow tr short (length tr)) ≤ space / 5
+  pub long : space / 5 < r → space / 5 < length (pairsBelow tr short (length tr))
+  pub none : r ≡ 0 → length (pairsBelow tr short (length tr)) ≡ 0
+
+-- all entries are written, with their marks
+pub record ListsAll (tr : List Record) (short : Bool) (list list′ : List ℕ) (r : ℕ) : Type 0 where
+  pub count : r ≡ length (pairsBelow tr short (length tr))
+  pub list-is : list′ ≡ sets list 0 (numbers tr (pairsBelow tr short (length tr)))
 
 -- the work space is 0 over one byte for each event action
 pub record Clear (tr : List Record) (events : ℕ) (work : List ℕ) : Type 0 where

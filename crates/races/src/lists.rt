@@ -15,16 +15,16 @@ use trace::Operation;
 use trace::Refusal;
 ghost use mathlib.Core.Path.{_≡_};
 ghost use mathlib.Core.Bool.{true};
-ghost use Prim.Native.Nat.{_+_, _*_, _≤_, _<_};
+ghost use Prim.Native.Nat.{_+_, _*_, _/_, _≤_, _<_};
 ghost use lib.Dec.{T};
 ghost use lib.ListN.{length};
 ghost use lib.Seq.{sets};
 ghost use Rattle.records.specs.Bytes.{decode};
 ghost use Rattle.ranks.specs.Ranks.{noRanks, ranksOf};
 ghost use Rattle.order.specs.Fill.{chainsUsed, noChains};
-ghost use Rattle.races.specs.Lists.{numbers, shapeOf, ListReply};
+ghost use Rattle.races.specs.Lists.{shapeOf, ListReply};
 ghost use Rattle.races.specs.Paper.{listPaper, ListsFilled, Lists};
-ghost use Rattle.races.specs.ListPass.{firsts, pairsBelow, raw, OneRoom, OneWrites, Clear, Room, RoomIf, Writes, WritesAll};
+ghost use Rattle.races.specs.ListPass.{firsts, pairsBelow, raw, OneRoom, OneWrites, Clear, Room, RoomIf, Writes, WritesAll, Counts, ListsAll};
 ghost use Rattle.races.specs.Candidates.{Range};
 ghost use Rattle.races.specs.Filled.{Filled};
 
@@ -216,7 +216,39 @@ fn list_all(
     k
 }
 
-// Writes the entries found, and marks them.
+// Does the list space hold the short list, however many entries it has? It has at most two for a record.
+fn is_ample(short: bool, records: usize, space: usize) -> bool
+    ensures { λ r. ⌜ (T r → (short ≡ true) × (0 < records) × (2 * records ≤ space / 5)) ⌝ }
+{
+    if !short {
+        return false;
+    }
+    if records == 0 {
+        return false;
+    }
+    records <= space / 10
+}
+
+// How many entries there are, or 1 where there is space for them in any case.
+fn count_all(
+    recs: &[u8],
+    ranks: &[u16],
+    of: &[u16],
+    width: usize,
+    clocks: &[u16],
+    list: &mut [u16],
+    short: bool,
+) -> usize
+    requires { ⌜ Filled (decode (now recs)) (now ranks) (now of) width (now clocks) ⌝ }
+    ensures { λ r. ⌜ Counts (decode (now (recs .entry))) short (length (now (list .entry))) r × (now (list .exit) ≡ now (list .entry)) ⌝ }
+{
+    if is_ample(short, access::count(recs), list.len()) {
+        return 1;
+    }
+    list_all(recs, ranks, of, width, clocks, list, short, false)
+}
+
+// Writes all entries and marks them; their number.
 fn write_all(
     recs: &[u8],
     ranks: &[u16],
@@ -227,16 +259,13 @@ fn write_all(
     events: usize,
     list: &mut [u16],
     short: bool,
-    found: usize,
-)
-    requires { ⌜ Filled (decode (now recs)) (now ranks) (now of) width (now clocks) × Clear (decode (now recs)) events (now work) × (found ≡ length (pairsBelow (decode (now recs)) short (length (decode (now recs))))) × (5 * found ≤ length (now list)) ⌝ }
-    ensures { λ u. ⌜ (now (list .exit) ≡ sets (now (list .entry)) 0 (numbers (decode (now (recs .entry))) (pairsBelow (decode (now (recs .entry))) short (length (decode (now (recs .entry))))))) × (now (work .exit) ≡ now (work .entry)) ⌝ }
+) -> usize
+    requires { ⌜ Filled (decode (now recs)) (now ranks) (now of) width (now clocks) × Clear (decode (now recs)) events (now work) × (5 * length (pairsBelow (decode (now recs)) short (length (decode (now recs)))) ≤ length (now list)) ⌝ }
+    ensures { λ r. ⌜ ListsAll (decode (now (recs .entry))) short (now (list .entry)) (now (list .exit)) r × (now (work .exit) ≡ now (work .entry)) ⌝ }
 {
-    if found == 0 {
-        return;
-    }
-    list_all(recs, ranks, of, width, clocks, list, short, true);
+    let found = list_all(recs, ranks, of, width, clocks, list, short, true);
     marking::mark_all(recs, ranks, work, events, list, found);
+    found
 }
 
 fn refused(number: u16) -> Listing
@@ -245,6 +274,17 @@ fn refused(number: u16) -> Listing
     Listing::Refused(Refusal {
         number: number,
         place: Operation(0),
+    })
+}
+
+fn listed(events: usize, records: usize, chains: usize, count: usize) -> Listing
+    ensures { λ r. ⌜ listPaper r ≡ ListReply.listed events records chains count ⌝ }
+{
+    Listing::Listed(Summary {
+        events: events,
+        records: records,
+        chains: chains,
+        count: count,
     })
 }
 
@@ -265,28 +305,16 @@ fn list_filled(
 {
     let mut all = no_ranks();
     ranks::fill_ranks(recs, &mut all);
-    let found = list_all(recs, &all, of, width, clocks, list, short, false);
-    if list.len() / 5 < found {
+    let counted = count_all(recs, &all, of, width, clocks, list, short);
+    if list.len() / 5 < counted {
         return refused(trace::LIST_SPACE);
     }
-    write_all(
-        recs,
-        &all,
-        of,
-        width,
-        clocks,
-        work,
-        events,
-        list,
-        short,
-        found,
-    );
-    Listing::Listed(Summary {
-        events: events,
-        records: access::count(recs),
-        chains: chains,
-        count: found,
-    })
+    let records = access::count(recs);
+    if counted == 0 {
+        return listed(events, records, chains, 0);
+    }
+    let found = write_all(recs, &all, of, width, clocks, work, events, list, short);
+    listed(events, records, chains, found)
 }
 
 pub(crate) fn no_ranks() -> [u16; 1025]

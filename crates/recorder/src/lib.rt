@@ -61,33 +61,29 @@ fn stored_records(r: Recorder) -> usize
     4096
 }
 
-// A refusal that concerns no record.
-fn refusal(number: u16) -> Refusal
-    ensures { λ f. ⌜ (f .number ≡ number) × (f .place .0 ≡ 0) ⌝ }
-{
-    Refusal {
-        number: number,
-        place: Operation(0),
-    }
-}
-
 // A refused step leaves the recorder as it was.
-fn not_taken(kept: Recorder, f: Refusal) -> Next
-    ensures { λ n. ⌜ (n .recorder ≡ kept) × (n .answer ≡ Stepped.Refused f) ⌝ }
+fn not_taken(kept: Recorder, number: u16, place: u16) -> Next
+    ensures { λ n. ⌜ (n .recorder ≡ kept) × (n .answer ≡ Stepped.Refused (record { number = number; place = record { 0 = place } })) ⌝ }
 {
     Next {
         recorder: kept,
-        answer: Stepped::Refused(f),
+        answer: Stepped::Refused(Refusal {
+            number: number,
+            place: Operation(place),
+        }),
     }
 }
 
 // So does a refused closing.
-fn not_closed(r: Recorder, f: Refusal) -> Ended
-    ensures { λ e. ⌜ (e .recorder ≡ r) × (e .answer ≡ Closing.Refused f) ⌝ }
+fn not_closed(r: Recorder, number: u16, place: u16) -> Ended
+    ensures { λ e. ⌜ (e .recorder ≡ r) × (e .answer ≡ Closing.Refused (record { number = number; place = record { 0 = place } })) ⌝ }
 {
     Ended {
         recorder: r,
-        answer: Closing::Refused(f),
+        answer: Closing::Refused(Refusal {
+            number: number,
+            place: Operation(place),
+        }),
     }
 }
 
@@ -105,7 +101,10 @@ pub fn open_on(bytes: &[u8]) -> Opened
     if short {
         return Opened {
             recorder: recorder,
-            answer: Opening::Refused(refusal(trace::NO_SPACE)),
+            answer: Opening::Refused(Refusal {
+                number: trace::NO_SPACE,
+                place: Operation(0),
+            }),
         };
     }
     Opened {
@@ -119,15 +118,15 @@ pub fn step_on(bytes: &mut [u8], r: Recorder, rec: Record) -> Next
     ensures { λ n. ⌜ ofStep n (now (bytes .exit)) ≡ stepLeft (now (bytes .entry)) r rec ⌝ }
 {
     if r.closed {
-        return not_taken(r, refusal(trace::CLOSED));
+        return not_taken(r, trace::CLOSED, 0);
     }
     let n = stored_records(r);
     let checked = look::check(bytes, n, r, rec);
     match checked {
-        Checked::Refused(f) => not_taken(r, f),
+        Checked::Refused(f) => not_taken(r, f.number, f.place.0),
         Checked::Next(situation) => {
             if !store::has_space(bytes, n) {
-                return not_taken(r, refusal(trace::NO_SPACE));
+                return not_taken(r, trace::NO_SPACE, 0);
             }
             store::put_record(bytes, 5 * n, rec);
             let count = (n + 1) as u16;
@@ -149,19 +148,15 @@ pub fn close_on(bytes: &mut [u8], r: Recorder) -> Ended
     ensures { λ e. ⌜ ofClosing e (now (bytes .exit)) ≡ closeLeft (now (bytes .entry)) r ⌝ }
 {
     if r.closed {
-        return not_closed(r, refusal(trace::CLOSED));
+        return not_closed(r, trace::CLOSED, 0);
     }
     let n = stored_records(r);
     if r.situation != 0 {
-        let last = Refusal {
-            number: trace::STOPS_INSIDE,
-            place: Operation(n as u16),
-        };
-        return not_closed(r, last);
+        return not_closed(r, trace::STOPS_INSIDE, n as u16);
     }
     let at = 5 * n;
     if bytes.len() < at + 8 {
-        return not_closed(r, refusal(trace::NO_SPACE));
+        return not_closed(r, trace::NO_SPACE, 0);
     }
     let begins = look::begins(bytes, n);
     store::put_trailer(bytes, at, begins);

@@ -17,7 +17,7 @@ same-length c = search needs
 
 returns : tie.Need-returns
 returns c =
-    let fills = c .before .before .before .before .before .fill .ensures in
+    let fills = c .before .before .before .fill .ensures in
     record { given = c .filling .ensures ∙ ap fillNumbers (fills .answer); clocks-after = fills .clocks-after }
 
 pub jco-fill-spec : {M : Type 1} → statement M

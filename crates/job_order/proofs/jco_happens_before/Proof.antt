@@ -13,7 +13,7 @@ answer-requires : tie.Need-answer-requires
 answer-requires c κs = search needs
 
 returns : tie.Need-returns
-returns c = record { given = c .answer .ensures ∙ ap orderNumbers (c .before .before .before .happens-before .ensures) }
+returns c = record { given = c .answer .ensures ∙ ap orderNumbers (c .before .happens-before .ensures) }
 
 pub jco-happens-before-spec : {M : Type 1} → statement M
 jco-happens-before-spec = tie.close (tie.spec happens-before-requires answer-requires returns)

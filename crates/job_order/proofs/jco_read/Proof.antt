@@ -13,7 +13,7 @@ reading-requires : tie.Need-reading-requires
 reading-requires c κs = search needs
 
 returns : tie.Need-returns
-returns c = record { given = c .reading .ensures ∙ ap readNumbers (c .before .before .before .before .before .read .ensures) }
+returns c = record { given = c .reading .ensures ∙ ap readNumbers (c .before .read .ensures) }
 
 pub jco-read-spec : {M : Type 1} → statement M
 jco-read-spec = tie.close (tie.spec read-requires reading-requires returns)

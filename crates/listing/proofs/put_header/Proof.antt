@@ -8,32 +8,11 @@ use borrow.Author.Needs.{needs}
 use Rattle.listing.proofs.put_header.Statement.{statement}
 use Rattle.listing.proofs.put_header.Tie as tie
 
-width-requires : tie.Need-width-requires
-width-requires c κs = search needs
-
-add-len : tie.Need-add-len
-add-len c = search needs
-
-width-requires-2 : tie.Need-width-requires-2
-width-requires-2 c κs = search needs
-
-add-len-2 : tie.Need-add-len-2
-add-len-2 c = search needs
-
-width-requires-3 : tie.Need-width-requires-3
-width-requires-3 c κs = search needs
-
-add-len-3 : tie.Need-add-len-3
-add-len-3 c = search needs
-
-width-requires-4 : tie.Need-width-requires-4
-width-requires-4 c κs = search needs
-
-add-len-4 : tie.Need-add-len-4
-add-len-4 c = search needs
-
 room-requires : tie.Need-room-requires
 room-requires c κs = search needs
+
+header-width-requires : tie.Need-header-width-requires
+header-width-requires c κs = search needs
 
 returns : tie.Need-returns
 returns c = no-space _ _ _ (rw header-length (omega arith))
@@ -81,15 +60,8 @@ pub put-header-spec : {M : Type 1} → statement M
 put-header-spec =
     tie.close
     (tie.spec
-    width-requires
-    add-len
-    width-requires-2
-    add-len-2
-    width-requires-3
-    add-len-3
-    width-requires-4
-    add-len-4
     room-requires
+    header-width-requires
     returns
     slice-aggregate-put-named
     put-named-requires

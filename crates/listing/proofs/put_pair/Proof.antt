@@ -7,32 +7,11 @@ use borrow.Author.Needs.{needs}
 use Rattle.listing.proofs.put_pair.Statement.{statement}
 use Rattle.listing.proofs.put_pair.Tie as tie
 
-width-requires : tie.Need-width-requires
-width-requires c κs = search needs
-
-add-len : tie.Need-add-len
-add-len c = search needs
-
-width-requires-2 : tie.Need-width-requires-2
-width-requires-2 c κs = search needs
-
-add-len-2 : tie.Need-add-len-2
-add-len-2 c = search needs
-
-width-requires-3 : tie.Need-width-requires-3
-width-requires-3 c κs = search needs
-
-add-len-3 : tie.Need-add-len-3
-add-len-3 c = search needs
-
-mark-width-requires : tie.Need-mark-width-requires
-mark-width-requires c κs = search needs
-
-add-len-4 : tie.Need-add-len-4
-add-len-4 c = search needs
-
 room-requires : tie.Need-room-requires
 room-requires c κs = search needs
+
+pair-width-requires : tie.Need-pair-width-requires
+pair-width-requires c κs = search needs
 
 returns : tie.Need-returns
 returns c = no-space _ _ _ (rw pair-length (omega arith))
@@ -71,15 +50,8 @@ pub put-pair-spec : {M : Type 1} → statement M
 put-pair-spec =
     tie.close
     (tie.spec
-    width-requires
-    add-len
-    width-requires-2
-    add-len-2
-    width-requires-3
-    add-len-3
-    mark-width-requires
-    add-len-4
     room-requires
+    pair-width-requires
     returns
     put-number-requires
     put-number-requires-2

@@ -1,10 +1,12 @@
 -- `listing::put_shape` meets its contract.
 -- Assumes nothing.
+use Rattle.listing.proofs.Store.{shape-written}
 use borrow.Author.Needs.{needs}
-use borrow.Author.Tests.{eq-eqb, ne-eqb}
-use Rattle.listing.specs.Lines.{ascii, shapeWord}
 use Rattle.listing.proofs.put_shape.Statement.{statement}
 use Rattle.listing.proofs.put_shape.Tie as tie
+
+shape-word-requires : tie.Need-shape-word-requires
+shape-word-requires c κs = search needs
 
 slice-aggregate-put-word : tie.Need-slice-aggregate-put-word
 slice-aggregate-put-word c = search needs
@@ -16,54 +18,9 @@ same-length : tie.Need-same-length
 same-length c = search needs
 
 returns : tie.Need-returns
-unfolding shapeWord ascii
-returns c =
-    let test = c .before .before .before .before .before in
-    simp (eq-eqb _ _ (test .if1 .taken)) (c .before .before .put-word .ensures)
-
-slice-aggregate-put-word-2 : tie.Need-slice-aggregate-put-word-2
-slice-aggregate-put-word-2 c = search needs
-
-put-word-requires-2 : tie.Need-put-word-requires-2
-put-word-requires-2 c κs = search needs
-
-same-length-2 : tie.Need-same-length-2
-same-length-2 c = search needs
-
-returns-2 : tie.Need-returns-2
-unfolding shapeWord ascii
-returns-2 c =
-    let test = c .before .before .before .before .before in
-    simp (ne-eqb _ _ (test .before .if1 .left), eq-eqb _ _ (test .if2 .taken)) (c .before .before .put-word2 .ensures)
-
-slice-aggregate-put-word-3 : tie.Need-slice-aggregate-put-word-3
-slice-aggregate-put-word-3 c = search needs
-
-put-word-requires-3 : tie.Need-put-word-requires-3
-put-word-requires-3 c κs = search needs
-
-same-length-3 : tie.Need-same-length-3
-same-length-3 c = search needs
-
-returns-3 : tie.Need-returns-3
-unfolding shapeWord ascii
-returns-3 c =
-    let test = c .before .before .before .before .before in
-    simp (ne-eqb _ _ (test .before .if1 .left), ne-eqb _ _ (test .if2 .left)) (c .before .before .put-word3 .ensures)
+returns c = shape-written _ _ (c .before .before .before .before .shape-word .ensures) (c .before .before .put-word .ensures)
 
 pub put-shape-spec : {M : Type 1} → statement M
 put-shape-spec =
     tie.close
-    (tie.spec
-    slice-aggregate-put-word
-    put-word-requires
-    same-length
-    returns
-    slice-aggregate-put-word-2
-    put-word-requires-2
-    same-length-2
-    returns-2
-    slice-aggregate-put-word-3
-    put-word-requires-3
-    same-length-3
-    returns-3)
+    (tie.spec shape-word-requires slice-aggregate-put-word put-word-requires same-length returns)

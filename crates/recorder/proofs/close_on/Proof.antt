@@ -6,20 +6,17 @@ use borrow.Author.Needs.{needs}
 use Rattle.recorder.proofs.close_on.Statement.{statement}
 use Rattle.recorder.proofs.close_on.Tie as tie
 
-refusal-requires : tie.Need-refusal-requires
-refusal-requires c κs = search needs
-
 not-closed-requires : tie.Need-not-closed-requires
 not-closed-requires c κs = search needs
 
 returns : tie.Need-returns
-returns c = simp (c .not-closed .ensures .0, c .not-closed .ensures .1, c .before .refusal .ensures .0, c .before .refusal .ensures .1) (close-closed (now (c .before .before .before .before .args .bytes)) (c .before .before .before .before .args .r) (c .before .before .if1 .taken))
+returns c = simp (c .not-closed .ensures .0, c .not-closed .ensures .1) (close-closed (now (c .before .before .before .args .bytes)) (c .before .before .before .args .r) (c .before .if1 .taken))
 
 stored-records-requires : tie.Need-stored-records-requires
 stored-records-requires c κs = search needs
 
-cast-t10 : tie.Need-cast-t10
-cast-t10 c = search needs
+cast-not-closed : tie.Need-cast-not-closed
+cast-not-closed c = search needs
 
 not-closed-requires-2 : tie.Need-not-closed-requires-2
 not-closed-requires-2 c κs = search needs
@@ -33,14 +30,11 @@ mul-at c = search needs
 add-if3 : tie.Need-add-if3
 add-if3 c = search needs
 
-refusal-requires-2 : tie.Need-refusal-requires-2
-refusal-requires-2 c κs = search needs
-
 not-closed-requires-3 : tie.Need-not-closed-requires-3
 not-closed-requires-3 c κs = search needs
 
 returns-3 : tie.Need-returns-3
-returns-3 c = simp (c .not-closed3 .ensures .0, c .not-closed3 .ensures .1, c .before .refusal2 .ensures .0, c .before .refusal2 .ensures .1) (close-short (now (c .before .before .before .before .before .before .before .before .args .bytes)) (c .before .before .before .before .before .before .before .before .args .r) (c .before .before .before .before .before .before .if1 .left) (c .before .before .before .before .before .stored-records .result) (c .before .before .before .before .before .stored-records .ensures .0) (c .before .before .before .if2 .left) (c .before .before .if3 .taken))
+returns-3 c = simp (c .not-closed3 .ensures .0, c .not-closed3 .ensures .1) (close-short (now (c .before .before .before .before .before .before .before .args .bytes)) (c .before .before .before .before .before .before .before .args .r) (c .before .before .before .before .before .if1 .left) (c .before .before .before .before .stored-records .result) (c .before .before .before .before .stored-records .ensures .0) (c .before .before .if2 .left) (c .before .if3 .taken))
 
 begins-requires : tie.Need-begins-requires
 begins-requires c κs = search needs
@@ -48,8 +42,8 @@ begins-requires c κs = search needs
 put-trailer-requires : tie.Need-put-trailer-requires
 put-trailer-requires c κs = search needs
 
-add-t12 : tie.Need-add-t12
-add-t12 c = search needs
+add-t9 : tie.Need-add-t9
+add-t9 c = search needs
 
 same-length : tie.Need-same-length
 same-length c = search needs
@@ -63,20 +57,18 @@ pub close-on-spec : {M : Type 1} → statement M
 close-on-spec =
     tie.close
     (tie.spec
-    refusal-requires
     not-closed-requires
     returns
     stored-records-requires
-    cast-t10
+    cast-not-closed
     not-closed-requires-2
     returns-2
     mul-at
     add-if3
-    refusal-requires-2
     not-closed-requires-3
     returns-3
     begins-requires
     put-trailer-requires
-    add-t12
+    add-t9
     same-length
     returns-4)

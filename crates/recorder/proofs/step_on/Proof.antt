@@ -10,14 +10,11 @@ use borrow.Author.Needs.{needs}
 use Rattle.recorder.proofs.step_on.Statement.{statement}
 use Rattle.recorder.proofs.step_on.Tie as tie
 
-refusal-requires : tie.Need-refusal-requires
-refusal-requires c κs = search needs
-
 not-taken-requires : tie.Need-not-taken-requires
 not-taken-requires c κs = search needs
 
 returns : tie.Need-returns
-returns c = simp (c .not-taken .ensures .0, c .not-taken .ensures .1, c .before .refusal .ensures .0, c .before .refusal .ensures .1) (step-closed (now (c .before .before .before .before .args .bytes)) (c .before .before .before .before .args .r) (c .before .before .before .before .args .rec) (c .before .before .if1 .taken))
+returns c = simp (c .not-taken .ensures .0, c .not-taken .ensures .1) (step-closed (now (c .before .before .before .args .bytes)) (c .before .before .before .args .r) (c .before .before .before .args .rec) (c .before .if1 .taken))
 
 stored-records-requires : tie.Need-stored-records-requires
 stored-records-requires c κs = search needs
@@ -37,9 +34,6 @@ enum-known-checked-2 c = search needs
 has-space-requires : tie.Need-has-space-requires
 has-space-requires c κs = search needs
 
-refusal-requires-2 : tie.Need-refusal-requires-2
-refusal-requires-2 c κs = search needs
-
 not-taken-requires-3 : tie.Need-not-taken-requires-3
 not-taken-requires-3 c κs = search needs
 
@@ -48,11 +42,11 @@ same-length c = search needs
 
 returns-2 : tie.Need-returns-2
 returns-2 c =
-    let a = c .before .before .before .before .before .before .before .before .before .before .before .before .before .args in
-    let g = c .before .before .before .before .before .before .checked2 .given in
-    let f = full-none (now (a .bytes)) (c .before .before .before .before .before .before .before .before .before .before .stored-records .result) (sym (c .before .before .before .has-space .ensures) ∙ not-true (c .before .before .before .has-space .result) (c .before .before .if2 .taken)) in
-    simp (c .not-taken3 .ensures .0, c .not-taken3 .ensures .1, c .before .refusal2 .ensures .0, c .before .refusal2 .ensures .1)
-    (step-full (now (a .bytes)) (a .r) (c .before .before .before .before .before .before .before .before .before .before .before .if1 .left) (c .before .before .before .before .before .before .before .before .before .before .stored-records .result) (c .before .before .before .before .before .before .before .before .before .before .stored-records .ensures .0) (a .rec) (g .0 .0) (sym (ap checkedPaper (g .1)) ∙ c .before .before .before .before .before .before .before .before .check .ensures) f)
+    let a = c .before .before .before .before .before .before .before .before .before .before .before .before .args in
+    let g = c .before .before .before .before .before .checked2 .given in
+    let f = full-none (now (a .bytes)) (c .before .before .before .before .before .before .before .before .before .stored-records .result) (sym (c .before .before .has-space .ensures) ∙ not-true (c .before .before .has-space .result) (c .before .if2 .taken)) in
+    simp (c .not-taken3 .ensures .0, c .not-taken3 .ensures .1)
+    (step-full (now (a .bytes)) (a .r) (c .before .before .before .before .before .before .before .before .before .before .if1 .left) (c .before .before .before .before .before .before .before .before .before .stored-records .result) (c .before .before .before .before .before .before .before .before .before .stored-records .ensures .0) (a .rec) (g .0 .0) (sym (ap checkedPaper (g .1)) ∙ c .before .before .before .before .before .before .before .check .ensures) f)
 
 mul-put-record : tie.Need-mul-put-record
 mul-put-record c = search needs
@@ -93,7 +87,6 @@ pub step-on-spec : {M : Type 1} → statement M
 step-on-spec =
     tie.close
     (tie.spec
-    refusal-requires
     not-taken-requires
     returns
     stored-records-requires
@@ -102,7 +95,6 @@ step-on-spec =
     not-taken-requires-2
     enum-known-checked-2
     has-space-requires
-    refusal-requires-2
     not-taken-requires-3
     same-length
     returns-2

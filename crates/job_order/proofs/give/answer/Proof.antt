@@ -21,7 +21,7 @@ returns-2 : tie.Need-returns-2
 returns-2 c = says-no (c .before .before .args .r) (c .before .match .keys2)
 
 returns-3 : tie.Need-returns-3
-returns-3 c = search needs
+returns-3 c = rw (c .before .r .given .1)
 
 pub answer-spec : {M : Type 1} → statement M
 answer-spec = tie.close (tie.spec enum-told enum-told-2 enum-known-r returns returns-2 returns-3)

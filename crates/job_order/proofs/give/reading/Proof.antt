@@ -20,7 +20,7 @@ returns : tie.Need-returns
 returns c = rw (c .refusal-of .ensures) (ap readNumbers (upward (c .before .before .before .args .r) (c .before .before .match .keys2)))
 
 returns-2 : tie.Need-returns-2
-returns-2 c = search needs
+returns-2 c = rw (c .before .r .given .1)
 
 pub reading-spec : {M : Type 1} → statement M
 reading-spec = tie.close (tie.spec enum-known-r enum-told refusal-of-requires returns returns-2)

@@ -11,8 +11,8 @@ recorder-of-requires c κs = search needs
 close-on-requires : tie.Need-close-on-requires
 close-on-requires c κs = search needs
 
-put-state-requires : tie.Need-put-state-requires
-put-state-requires c κs = search needs
+numbers-after-requires : tie.Need-numbers-after-requires
+numbers-after-requires c κs = search needs
 
 closing-requires : tie.Need-closing-requires
 closing-requires c κs = search needs
@@ -22,8 +22,8 @@ same-length c = search needs
 
 returns : tie.Need-returns
 returns c =
-    let ending = c .before .before .before .before .before .before .before .before .before .before .close-on in
-    closes _ _ _ _ (c .before .before .before .before .before .before .before .before .before .before .before .before .recorder-of .result) (c .before .before .before .before .before .before .before .before .before .before .before .before .recorder-of .ensures) (ending .result) _ _ _ (ending .ensures) (c .before .before .before .put-state .ensures) (c .closing .ensures .0) (c .closing .ensures .1) (c .closing .ensures .2)
+    let ending = c .before .before .before .before .close-on in
+    closes _ _ _ _ (c .before .before .before .before .before .before .recorder-of .result) (c .before .before .before .before .before .before .recorder-of .ensures) (ending .result) _ _ _ (ending .ensures) (c .before .numbers-after .ensures) (c .closing .ensures .0) (c .closing .ensures .1) (c .closing .ensures .2)
 
 pub jco-recorder-close-spec : {M : Type 1} → statement M
 jco-recorder-close-spec =
@@ -31,7 +31,7 @@ jco-recorder-close-spec =
     (tie.spec
     recorder-of-requires
     close-on-requires
-    put-state-requires
+    numbers-after-requires
     closing-requires
     same-length
     returns)

@@ -11,8 +11,8 @@ recorder-of-requires c κs = search needs
 step-on-requires : tie.Need-step-on-requires
 step-on-requires c κs = search needs
 
-put-state-requires : tie.Need-put-state-requires
-put-state-requires c κs = search needs
+numbers-after-requires : tie.Need-numbers-after-requires
+numbers-after-requires c κs = search needs
 
 stepped-requires : tie.Need-stepped-requires
 stepped-requires c κs = search needs
@@ -22,8 +22,8 @@ same-length c = search needs
 
 returns : tie.Need-returns
 returns c =
-    let stepping = c .before .before .before .before .before .before .before .before .before .step-on in
-    steps _ _ _ _ (c .before .before .before .before .before .before .before .before .before .before .before .recorder-of .result) (c .before .before .before .before .before .before .before .before .before .before .before .recorder-of .ensures) _ (stepping .result) _ _ (stepping .ensures) (c .before .before .put-state .ensures) (c .stepped .ensures .0) (c .stepped .ensures .1)
+    let stepping = c .before .before .before .before .step-on in
+    steps _ _ _ _ (c .before .before .before .before .before .before .recorder-of .result) (c .before .before .before .before .before .before .recorder-of .ensures) _ (stepping .result) _ _ (stepping .ensures) (c .before .numbers-after .ensures) (c .stepped .ensures .0) (c .stepped .ensures .1)
 
 pub jco-recorder-step-spec : {M : Type 1} → statement M
 jco-recorder-step-spec =
@@ -31,7 +31,7 @@ jco-recorder-step-spec =
     (tie.spec
     recorder-of-requires
     step-on-requires
-    put-state-requires
+    numbers-after-requires
     stepped-requires
     same-length
     returns)

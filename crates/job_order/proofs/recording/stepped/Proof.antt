@@ -1,0 +1,21 @@
+-- `job_order::recording::stepped` meets its contract.
+-- Assumes nothing.
+use mathlib.Core.Path.{refl}
+use borrow.Author.Needs.{needs}
+use Rattle.job_order.proofs.recording.stepped.Statement.{statement}
+use Rattle.job_order.proofs.recording.stepped.Tie as tie
+
+enum-told : tie.Need-enum-told
+enum-told c = search needs
+
+enum-known-r : tie.Need-enum-known-r
+enum-known-r c = search needs
+
+returns : tie.Need-returns
+returns c = search needs
+
+returns-2 : tie.Need-returns-2
+returns-2 c = rw (c .before .r .given .1) (refl, refl)
+
+pub stepped-spec : {M : Type 1} → statement M
+stepped-spec = tie.close (tie.spec enum-told enum-known-r returns returns-2)
