@@ -2,23 +2,25 @@
 -- Assumes nothing.
 use Prim.Native.Nat.{ℕ, zero, suc, _+_, _-_, _<_, _≤_}
 use mathlib.Core.Path.{_≡_, refl, sym, ap, _∙_}
-use mathlib.Core.Bool.{Bool, true, _&&_, and-eq-true-iff}
+use mathlib.Core.Bool.{Bool, true, false, cond, _&&_, and-eq-true-iff}
 use mathlib.Core.List.{List, [], _∷_}
 use native.Mathlib.Omega.{arith}
 use native.Mathlib.Numerals.{add-one}
-use borrow.Author.Tests.{leb-true}
-use lib.Dec.{leb}
+use borrow.Author.Tests.{leb-true, eq-eqb, ne-eqb, le-ltb}
+use lib.Dec.{eqb, leb}
 use lib.ListN.{length, drop, drop-of-length-le}
 use lib.Seq.{drop-cons}
 use Rattle.records.specs.declared.Record.{Record}
-use Rattle.records.specs.Records.{noRecord, at, past, begun, ended}
+use Rattle.records.specs.Records.{noRecord, at, past, begun, ended, begins}
 use Rattle.records.specs.Marks.{isMarked, noMarks, noted}
-use Rattle.trace.specs.Place.{place}
-use Rattle.trace.specs.Rule.{situation, owner, numbered, judge, rule}
-use Rattle.trace.specs.Reading.{Reply, refused, closing, orElse, walk}
+use Rattle.trace.specs.Place.{between, inside, place}
+use Rattle.trace.specs.Rule.{situation, owner, numbered, wellFormed, misplaced, again, early, judge, rule}
+use Rattle.trace.specs.Inner.{Inner, Accesses, none, more}
+use Rattle.trace.specs.Reading.{Reply, refused, accepted, demand, closing, orElse, walk}
 use Rattle.trace.specs.Paper.{Verdict, passes, fails, verdict}
 use Rattle.records.proofs.Records.{past-more, past-length}
-use Rattle.trace.proofs.Marked.{Tracks, tracks-start, tracks-next, judge-same}
+use Rattle.trace.proofs.Marked.{Tracks, tracks-start, tracks-next, formed, judge-same}
+use Rattle.trace.proofs.Blocks.{passing}
 
 -- a fault is what the walk stops at
 pub stops : (n op : ℕ) (y : Reply) → (n ≡ 0 → ⊥) → refused n op ≡ orElse n op y
@@ -33,44 +35,48 @@ walk-step : (tr : List Record) (start m i : ℕ) → i < length tr
 unfolding walk past
 walk-step tr start m i h = rw (drop-cons tr i noRecord h, past-length tr i, add-one i)
 
--- Before the record at position i the walk over all records has come to the rest of them; situation, event and marks are those after the records before.
-pub record Going (tr : List Record) (start m s e i : ℕ) (b d : List ℕ) : Type 0 where
+-- Before the record at position i the walk over all records has come to the rest of them; situation, event, number of begins and marks are those after the records before.
+pub record Going (tr : List Record) (start m s e f i : ℕ) (b d : List ℕ) : Type 0 where
   pub within : i ≤ length tr
   pub stands : s ≡ situation (past tr i)
   pub owns : e ≡ owner (past tr i)
+  pub counts : f ≡ begins (past tr i)
+  pub few : f ≤ i
+  pub named : s ≡ inside → numbered e ≡ true
   pub begins : Tracks b 1 (past tr i)
   pub ends : Tracks d 2 (past tr i)
   pub comes : walk start m [] tr ≡ walk start m (past tr i) (drop i tr)
 
-pub going-start : (tr : List Record) (start m : ℕ) → Going tr start m 0 0 0 noMarks noMarks
-unfolding situation owner past
+pub going-start : (tr : List Record) (start m : ℕ) → Going tr start m 0 0 0 0 noMarks noMarks
+unfolding situation owner past begins
 going-start tr start m = record {
   within = omega arith;
   stands = refl;
   owns = refl;
+  counts = refl;
+  few = omega arith;
+  named = λ z. absurd (omega arith);
   begins = tracks-start 1;
   ends = tracks-start 2;
   comes = refl;
 }
 
+at-most-one : (t : Bool) {f i : ℕ} → f ≤ i → cond t (f + 1) f ≤ i + 1
+at-most-one true h = omega arith
+at-most-one false h = omega arith
+
 pub in-range : (x : ℕ) → numbered x ≡ true → x < 1025
 unfolding numbered
 in-range x h = let p = leb-true x 1024 (and-eq-true-iff (leb 1 x) (leb x 1024) .0 h .1) in omega arith
 
-module _ {tr : List Record} {start m s e i : ℕ} {b d : List ℕ} (g : Going tr start m s e i b d) where
-  -- the walk's end
-  pub going-end : length tr ≤ i → walk start m [] tr ≡ closing start m (past tr (length tr))
-  unfolding walk
-  going-end h =
+module _ {tr : List Record} {start m s e f i : ℕ} {b d : List ℕ} (g : Going tr start m s e f i b d) where
+  -- the walk's end, after k records
+  pub going-end : {k : ℕ} → k ≡ length tr → k ≤ i → walk start m [] tr ≡ demand (eqb s between) 9 k (demand (eqb f m) 10 0 (accepted start k f))
+  unfolding walk closing
+  going-end {k} z h =
       let w = g .within in
-      let q : i ≡ length tr = omega arith in
-      g .comes ∙ simp (q, drop-of-length-le tr {i = length tr} (omega arith))
-
-  pub situation-end : length tr ≤ i → s ≡ situation (past tr (length tr))
-  situation-end h =
-      let w = g .within in
-      let q : i ≡ length tr = omega arith in
-      g .stands ∙ simp q
+      let q : k ≡ i = omega arith in
+      g .comes ∙ simp (drop-of-length-le tr {i = i} (omega arith), past-length, ← g .stands, ← g .counts, q)
 
   module _ (h : i < length tr) (r : Record) (er : r ≡ at tr i) where
     -- the facts that the marks give are the records' own
@@ -91,15 +97,43 @@ module _ {tr : List Record} {start m s e i : ℕ} {b d : List ℕ} (g : Going tr
       going-refused h = stops k (i + 1) (walk start m (past tr (i + 1)) (drop (i + 1) tr)) h ∙ simp v (sym turn)
 
       -- it has none: so the walk goes on
-      pub going-next : k ≡ 0 → (next : ℕ) → next ≡ place s (r .kind) → Going tr start m next (r .first) (i + 1) (noted b 1 r) (noted d 2 r)
-      unfolding situation owner orElse
-      going-next z next q =
+      pub going-next : k ≡ 0 → (next : ℕ) → next ≡ place s (r .kind) → (f′ : ℕ) → f′ ≡ cond (eqb (r .kind) 1) (f + 1) f
+          → Going tr start m next (r .first) f′ (i + 1) (noted b 1 r) (noted d 2 r)
+      unfolding situation owner begins orElse
+      going-next z next q f′ c =
           let more : past tr (i + 1) ≡ r ∷ past tr i = past-more tr i ∙ simp (← er) in
           record {
             within = omega arith;
             stands = q ∙ simp (more, ← g .stands);
             owns = simp more;
+            counts = c ∙ simp (more, ← g .counts);
+            few = rw c (at-most-one (eqb (r .kind) 1) (g .few));
+            named = λ t. formed r (passing (past tr i) r (judged ∙ sym v ∙ z) .well-formed) .0;
             begins = rw more (tracks-next r (g .begins));
             ends = rw more (tracks-next r (g .ends));
             comes = turn ∙ simp (← v, z);
           }
+
+-- an access by the open event passes its rule and changes nothing
+inner-passes : {e : ℕ} {r : Record} → Inner e r → numbered e ≡ true → (a b c : Bool) → 0 ≡ judge 2 e r a b c
+unfolding judge wellFormed misplaced again early
+inner-passes {e} {r} n t a b c =
+    let k = n .access in
+    simp (n .placed, n .own, t, n .cell, eq-eqb e e refl, le-ltb (r .kind) 3 (omega arith), ne-eqb (r .kind) 1 (λ p. omega arith), ne-eqb (r .kind) 3 (λ p. omega arith), ne-eqb (r .kind) 4 (λ p. omega arith))
+
+module _ {tr : List Record} {start m s e f : ℕ} {b d : List ℕ} where
+  going-inner : {i : ℕ} → Going tr start m s e f i b d → s ≡ inside → i < length tr → Inner e (at tr i) → Going tr start m s e f (i + 1) b d
+  unfolding noted
+  going-inner {i} g q h n =
+      let k = n .access in
+      let r = at tr i in
+      rw q (simp (n .own, ne-eqb (r .kind) 1 (λ p. omega arith), ne-eqb (r .kind) 2 (λ p. omega arith))
+      at (going-next g h r refl 0 (rw q (inner-passes n (g .named q) _ _ _)) refl 2 (sym (rw q (n .placed))) f (simp (ne-eqb (r .kind) 1 (λ p. omega arith)))))
+
+  pub going-along : {i j : ℕ} → Accesses tr s e i j → Going tr start m s e f i b d → Going tr start m s e f j b d
+  going-along none g = g
+  going-along (more a q h n) g = going-inner (going-along a g) q h n
+
+pub accesses-on : {tr : List Record} {s e i j : ℕ} → Accesses tr s e i j → i ≤ j
+accesses-on none = omega arith
+accesses-on (more a q h n) = let l = accesses-on a in omega arith

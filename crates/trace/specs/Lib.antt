@@ -1,5 +1,6 @@
 pub mod Place
 pub mod Rule
+pub mod Inner
 pub mod Reading
 pub mod Paper
 pub mod Encoding

@@ -12,7 +12,7 @@ ghost use Rattle.trace.specs.Place.{place};
 ghost use Rattle.trace.specs.Rule.{numbered, wellFormed, misplaced, again, early, judge};
 ghost use Rattle.trace.specs.Paper.{checkedPaper, verdict};
 
-fn is_numbered(x: u16) -> bool
+pub(crate) fn is_numbered(x: u16) -> bool
     ensures { λ r. ⌜ r ≡ numbered x ⌝ }
 {
     if x < 1 {
@@ -49,7 +49,7 @@ fn is_misplaced(next: u8, situation: u8, owner: EventId, r: Record) -> bool
 }
 
 // The first of refusals 4 to 6 that applies to record r, or 0, where next is the table's entry for it.
-fn place_fault(next: u8, situation: u8, owner: EventId, r: Record) -> u16
+pub(crate) fn place_fault(next: u8, situation: u8, owner: EventId, r: Record) -> u16
     requires { ⌜ next ≡ place situation (r .kind) ⌝ }
     ensures { λ n. ⌜ n ≡ cond (eqb (place situation (r .kind)) 3) 4 (cond (not (wellFormed r)) 5 (cond (misplaced situation (owner .0) r) 6 0)) ⌝ }
 {
@@ -66,7 +66,12 @@ fn place_fault(next: u8, situation: u8, owner: EventId, r: Record) -> u16
 }
 
 // The first of refusals 7 and 8 that applies to record r, or 0.
-fn order_fault(r: Record, first_begun: bool, second_begun: bool, second_ended: bool) -> u16
+pub(crate) fn order_fault(
+    r: Record,
+    first_begun: bool,
+    second_begun: bool,
+    second_ended: bool,
+) -> u16
     ensures { λ n. ⌜ n ≡ cond (again r «first_begun» «second_begun») 7 (cond (early r «second_ended») 8 0) ⌝ }
 {
     if is_again(r, first_begun, second_begun) {
@@ -103,9 +108,9 @@ fn is_early(r: Record, second_ended: bool) -> bool
     !second_ended
 }
 
-// The number of the first of refusals 4 to 8 that applies to record r, or 0, where next is the table's entry for it: the check that reader and recorder share. The three
-// facts: its first has begun, its second has begun, its second has ended.
-pub(crate) fn fault(
+// The number of the first of refusals 4 to 8 that applies to record r, or 0, where next is the table's entry for it. The three facts: its first has begun, its second has
+// begun, its second has ended.
+fn fault(
     next: u8,
     situation: u8,
     owner: EventId,

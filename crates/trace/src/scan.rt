@@ -7,46 +7,54 @@ use crate::refuse;
 use crate::rule;
 use records::Record;
 use records::access::count;
-use records::access::count_begins;
 use records::access::record_at;
 use records::marks;
 ghost use mathlib.Core.Path.{_≡_};
+ghost use mathlib.Core.Bool.{true, cond};
 ghost use mathlib.Core.List.{[]};
-ghost use Prim.Native.Nat.{_≤_};
-ghost use lib.ListN.{length};
+ghost use Prim.Native.Nat.{ℕ, _+_, _/_, _%_, _≤_, _<_};
+ghost use lib.Dec.{eqb};
+ghost use lib.ListN.{length, getD};
 ghost use Rattle.records.specs.Bytes.{decode};
-ghost use Rattle.records.specs.Records.{past};
-ghost use Rattle.trace.specs.Rule.{situation, judge};
-ghost use Rattle.trace.specs.Reading.{closing, walk};
-ghost use Rattle.trace.specs.Place.{place};
 ghost use Rattle.records.specs.Marks.{isMarked, noted};
+ghost use Rattle.trace.specs.Place.{place};
+ghost use Rattle.trace.specs.Rule.{again, early};
+ghost use Rattle.trace.specs.Inner.{Inner, Accesses};
+ghost use Rattle.trace.specs.Reading.{accepted, demand, walk};
 ghost use Rattle.trace.specs.Paper.{paper};
 
-// The trace ends after its last record, in that situation.
-fn finish(recs: &[u8], start: usize, events: usize, now_in: u8) -> Reading
-    requires { ⌜ (length (decode (now recs)) ≤ 4096) × («now_in» ≡ situation (past (decode (now recs)) (length (decode (now recs))))) ⌝ }
-    ensures { λ r. ⌜ paper r ≡ closing start events (past (decode (now (recs .entry))) (length (decode (now (recs .entry))))) ⌝ }
+// The trace ends after that many records, `found` of them begins, in that situation.
+fn finish(records: usize, start: usize, events: usize, now_in: u8, found: usize) -> Reading
+    requires { ⌜ records ≤ 4096 ⌝ }
+    ensures { λ r. ⌜ paper r ≡ demand (eqb «now_in» 0) 9 records (demand (eqb found events) 10 0 (accepted start records found)) ⌝ }
 {
-    let records = count(recs);
     if now_in != 0 {
         return refuse(crate::STOPS_INSIDE, records);
     }
-    let found = count_begins(recs);
     if found != events {
         return refuse(crate::BEGIN_COUNT, 0);
     }
     accept(start, records, found)
 }
 
-// The number of the refusal of record r, or 0, where next is the table's entry for it and what has begun and ended before is marked.
-fn fault(next: u8, now_in: u8, owner: u16, r: Record, begun: &[u8; 1025], ended: &[u8; 1025]) -> u16
-    requires { ⌜ next ≡ place «now_in» (r .kind) ⌝ }
-    ensures { λ n. ⌜ n ≡ judge «now_in» owner r (isMarked (now (begun .entry)) (r .first)) (isMarked (now (begun .entry)) (r .second)) (isMarked (now (ended .entry)) (r .second)) ⌝ }
+// The number of the first of refusals 7 and 8 that applies to record r, or 0, where what has begun and ended before is marked. A begin or an end that passes marks its
+// event.
+fn admit(begun: &mut [u8; 1025], ended: &mut [u8; 1025], r: Record) -> u16
+    ensures { λ n. ⌜ (n ≡ cond (again r (isMarked (now (begun .entry)) (r .first)) (isMarked (now (begun .entry)) (r .second))) 7 (cond (early r (isMarked (now (ended .entry)) (r .second))) 8 0)) × (n ≡ 0 → (now (begun .exit) ≡ noted (now (begun .entry)) 1 r) × (now (ended .exit) ≡ noted (now (ended .entry)) 2 r)) ⌝ }
 {
-    rule::fault(
-        next,
-        now_in,
-        EventId(owner),
+    let kind = r.kind;
+    if kind == 1 {
+        if marks::is_marked(begun, r.first) {
+            return crate::BEGUN_ALREADY;
+        }
+        marks::mark(begun, r.first);
+        return 0;
+    }
+    if kind == 2 {
+        marks::mark(ended, r.first);
+        return 0;
+    }
+    rule::order_fault(
         r,
         marks::is_marked(begun, r.first),
         marks::is_marked(begun, r.second),
@@ -54,18 +62,51 @@ fn fault(next: u8, now_in: u8, owner: u16, r: Record, begun: &[u8; 1025], ended:
     )
 }
 
-// Marks the event of a begin among those that have begun, that of an end among those that have ended.
-fn note(begun: &mut [u8; 1025], ended: &mut [u8; 1025], r: Record)
-    ensures { λ u. ⌜ (now (begun .exit) ≡ noted (now (begun .entry)) 1 r) × (now (ended .exit) ≡ noted (now (ended .entry)) 2 r) ⌝ }
+// Is the record an access by the open event, of a cell's number? No refusal concerns such a record inside an event action.
+fn is_inner_access(places: &[u8; 768], owner: u16, r: Record) -> bool
+    requires { ⌜ ((k : ℕ) → k < 768 → getD (now places) k 0 ≡ place (k / 256) (k % 256)) ⌝ }
+    ensures { λ b. ⌜ (b ≡ true → Inner owner r) ⌝ }
 {
-    let kind = r.kind;
+    if r.kind < 5 {
+        return false;
+    }
+    if r.first != owner {
+        return false;
+    }
+    if place::next(places, 2, r.kind) != 2 {
+        return false;
+    }
+    rule::is_numbered(r.second)
+}
+
+// From position `from` on, inside an event action, past the accesses by the open event.
+fn pass_accesses(recs: &[u8], places: &[u8; 768], now_in: u8, owner: u16, from: usize) -> usize
+    requires { ⌜ ((k : ℕ) → k < 768 → getD (now places) k 0 ≡ place (k / 256) (k % 256)) ⌝ }
+    ensures { λ r. ⌜ Accesses (decode (now (recs .entry))) «now_in» owner from r ⌝ }
+{
+    if now_in != 2 {
+        return from;
+    }
+    let n = count(recs);
+    let mut i = from;
+    while i < n {
+        if !is_inner_access(places, owner, record_at(recs, i)) {
+            return i;
+        }
+        i += 1;
+    }
+    i
+}
+
+// The number of begins, after a record of that kind.
+fn one_more(kind: u8, found: usize) -> usize
+    requires { ⌜ found ≤ 4096 ⌝ }
+    ensures { λ r. ⌜ r ≡ cond (eqb kind 1) (found + 1) found ⌝ }
+{
     if kind == 1 {
-        marks::mark(begun, r.first);
-        return;
+        return found + 1;
     }
-    if kind == 2 {
-        marks::mark(ended, r.first);
-    }
+    found
 }
 
 // The records of a trace that start there, with the number of begins that the trailer names.
@@ -79,18 +120,23 @@ pub(crate) fn scan(recs: &[u8], start: usize, events: usize) -> Reading
     let mut ended = marks::none();
     let mut now_in: u8 = 0;
     let mut owner: u16 = 0;
+    let mut found = 0;
     let mut i = 0;
     while i < records {
         let r = record_at(recs, i);
         let next = place::next(&places, now_in, r.kind);
-        let number = fault(next, now_in, owner, r, &begun, &ended);
+        let misplaced = rule::place_fault(next, now_in, EventId(owner), r);
+        if misplaced != 0 {
+            return refuse(misplaced, i + 1);
+        }
+        let number = admit(&mut begun, &mut ended, r);
         if number != 0 {
             return refuse(number, i + 1);
         }
-        note(&mut begun, &mut ended, r);
+        found = one_more(r.kind, found);
         now_in = next;
         owner = r.first;
-        i += 1;
+        i = pass_accesses(recs, &places, now_in, owner, i + 1);
     }
-    finish(recs, start, events, now_in)
+    finish(records, start, events, now_in, found)
 }

@@ -1,21 +1,24 @@
 -- `trace::scan::scan` meets its contract.
 -- Assumes nothing.
-use Rattle.trace.proofs.Going.{Going, going-start, going-end, situation-end, going-refused, going-next}
-use Rattle.records.specs.Bytes.{decode}
-use borrow.Author.Needs.{needs}
-use native.Mathlib.Omega.{arith}
-use lib.ListN.{length}
+use Prim.Native.Nat.{_-_, _<_}
 use mathlib.Core.Path.{sym, _∙_}
-use Prim.Native.Nat.{_-_, _≤_, _<_}
+use native.Mathlib.Omega.{arith}
+use borrow.Author.Needs.{needs}
+use lib.ListN.{length}
 use denote.Ref.{now}
+use Rattle.records.specs.Bytes.{decode}
+use Rattle.trace.proofs.Faults.{by-place, by-order}
+use Rattle.trace.proofs.Going.{Going, going-start, going-end, going-refused, going-next, going-along, accesses-on}
 use Rattle.trace.proofs.scan.scan.Statement.{statement}
 use Rattle.trace.proofs.scan.scan.Tie as tie
 
 abbrev Inv-loop : tie.InvT-loop
-Inv-loop recs start events records places begun₀ ended₀ now-in₀ owner₀ i₀ begun ended now-in owner i = Going (decode recs) start events now-in owner i begun ended
+Inv-loop recs start events records places begun₀ ended₀ now-in₀ owner₀ found₀ i₀ begun ended now-in owner found i =
+    Going (decode recs) start events now-in owner found i begun ended
 
 abbrev μ-loop : tie.MeasureT-loop
-μ-loop recs start events records places begun₀ ended₀ now-in₀ owner₀ i₀ begun ended now-in owner i = records - i
+μ-loop recs start events records places begun₀ ended₀ now-in₀ owner₀ found₀ i₀ begun ended now-in owner found i =
+    records - i
 
 count-requires : tie.Need-count-requires Inv-loop μ-loop
 count-requires c κs = search needs
@@ -40,55 +43,91 @@ record-at-requires c κs = search needs
 next-requires : tie.Need-next-requires Inv-loop μ-loop
 next-requires c κs = c .before .before .before .before .before .before .table .ensures
 
-fault-requires : tie.Need-fault-requires Inv-loop μ-loop
-fault-requires c κs = c .before .before .next .ensures
+place-fault-requires : tie.Need-place-fault-requires Inv-loop μ-loop
+place-fault-requires c κs = c .next .ensures
 
 add-refuse : tie.Need-add-refuse Inv-loop μ-loop
 add-refuse c = omega arith
 
 refuse-requires : tie.Need-refuse-requires Inv-loop μ-loop
 refuse-requires c κs =
-    let p = c .before .before .before .before .before .before .before .before .before .before .before .before .before .before .pre in
-    let n = c .before .before .before .before .before .before .before .before .before .before .before .before .count .ensures in
+    let l = c .before .before .before .before .before .before in
+    let p = l .before .before .before .before .before .before .pre in
+    let n = l .before .before .before .before .count .ensures in
     omega arith
 
 returns : tie.Need-returns Inv-loop μ-loop
 returns c =
-    let l = c .before .before .before .before .before .before .before .before .before .loop in
-    let r = c .before .before .before .before .before .before .before .record-at in
-    let n = c .before .before .before .before .before .before .before .before .before .before .before .before .before .count .ensures in
-    let less : l .i < length (decode (now (c .before .before .before .before .before .before .before .before .before .before .before .before .before .before .before .args .recs))) = omega arith in
-    c .refuse .ensures ∙ going-refused (l .inv) less (r .result) (r .ensures) (c .before .before .fault .result) (c .before .before .fault .ensures) (c .before .if1 .taken)
+    let l = c .before .before .before .before .before .before .before in
+    let r = c .before .before .before .before .before .record-at in
+    let f = c .before .before .place-fault .ensures in
+    let n = l .before .before .before .before .count .ensures in
+    let less : l .loop .i < length (decode (now (l .before .before .before .before .before .before .args .recs))) = omega arith in
+    c .refuse .ensures ∙ going-refused (l .loop .inv) less (r .result) (r .ensures) _ (by-place _ _ _ _ _ _ f (c .before .if1 .taken)) (c .before .if1 .taken)
 
-note-requires : tie.Need-note-requires Inv-loop μ-loop
-note-requires c κs = search needs
+admit-requires : tie.Need-admit-requires Inv-loop μ-loop
+admit-requires c κs = search needs
 
-add-i : tie.Need-add-i Inv-loop μ-loop
-add-i c = omega arith
+add-refuse-2 : tie.Need-add-refuse-2 Inv-loop μ-loop
+add-refuse-2 c = omega arith
 
-loop-less : tie.Need-loop-less Inv-loop μ-loop
-loop-less c = omega arith
-
-loop-again : tie.Need-loop-again Inv-loop μ-loop
-loop-again c =
-    let l = c .before .before .before .before .before .before .before .before .before .before .before .loop in
-    let r = c .before .before .before .before .before .before .before .before .before .record-at in
-    let n = c .before .before .before .before .before .before .before .before .before .before .before .before .before .before .before .count .ensures in
-    let less : l .i < length (decode (now (c .before .before .before .before .before .before .before .before .before .before .before .before .before .before .before .before .before .args .recs))) = omega arith in
-    rw (c .note .ensures .0, c .note .ensures .1)
-    (going-next (l .inv) less (r .result) (r .ensures) (c .before .before .before .before .fault .result) (c .before .before .before .before .fault .ensures) (c .before .before .before .if1 .left) (c .before .before .before .before .before .before .before .next .result) (c .before .before .before .before .before .before .before .next .ensures))
-
-finish-requires : tie.Need-finish-requires Inv-loop μ-loop
-finish-requires c κs =
-    let n = c .before .before .before .before .before .count .ensures in
-    let q : length (decode (now (c .before .before .before .before .before .before .before .args .recs))) ≤ c .before .loop .i = omega arith in
-    (c .before .before .before .before .before .before .before .pre, situation-end (c .before .loop .inv) q)
+refuse-requires-2 : tie.Need-refuse-requires-2 Inv-loop μ-loop
+refuse-requires-2 c κs =
+    let l = c .before .before .before .before .before .before .before .before .before .before in
+    let p = l .before .before .before .before .before .before .pre in
+    let n = l .before .before .before .before .count .ensures in
+    omega arith
 
 returns-2 : tie.Need-returns-2 Inv-loop μ-loop
 returns-2 c =
-    let n = c .before .before .before .before .before .before .count .ensures in
-    let q : length (decode (now (c .before .before .before .before .before .before .before .before .args .recs))) ≤ c .before .before .loop .i = omega arith in
-    c .finish .ensures ∙ sym (going-end (c .before .before .loop .inv) q)
+    let l = c .before .before .before .before .before .before .before .before .before .before .before in
+    let r = c .before .before .before .before .before .before .before .before .before .record-at in
+    let f = c .before .before .before .before .before .before .place-fault .ensures in
+    let n = l .before .before .before .before .count .ensures in
+    let less : l .loop .i < length (decode (now (l .before .before .before .before .before .before .args .recs))) = omega arith in
+    c .refuse2 .ensures ∙ going-refused (l .loop .inv) less (r .result) (r .ensures) _ (by-order _ _ _ _ _ _ f (c .before .before .before .before .before .if1 .left) (c .before .before .admit .ensures .0)) (c .before .if2 .taken)
+
+one-more-requires : tie.Need-one-more-requires Inv-loop μ-loop
+one-more-requires c κs =
+    let l = c .before .before .before .before .before .before .before .before .before .before in
+    let p = l .before .before .before .before .before .before .pre in
+    let n = l .before .before .before .before .count .ensures in
+    let f = l .loop .inv .few in
+    omega arith
+
+add-pass-accesses : tie.Need-add-pass-accesses Inv-loop μ-loop
+add-pass-accesses c = omega arith
+
+pass-accesses-requires : tie.Need-pass-accesses-requires Inv-loop μ-loop
+pass-accesses-requires c κs = c .before .before .before .before .before .before .before .before .before .before .before .before .before .before .before .table .ensures
+
+loop-less : tie.Need-loop-less Inv-loop μ-loop
+loop-less c =
+    let on = accesses-on (c .pass-accesses .ensures) in
+    omega arith
+
+loop-again : tie.Need-loop-again Inv-loop μ-loop
+loop-again c =
+    let l = c .before .before .before .before .before .before .before .before .before .before .before .before .before in
+    let r = c .before .before .before .before .before .before .before .before .before .before .before .record-at in
+    let f = c .before .before .before .before .before .before .before .before .place-fault .ensures in
+    let a = c .before .before .before .before .admit .ensures in
+    let z = c .before .before .before .if2 .left in
+    let n = l .before .before .before .before .count .ensures in
+    let less : l .loop .i < length (decode (now (l .before .before .before .before .before .before .args .recs))) = omega arith in
+    let o = c .before .before .one-more in
+    let x = c .before .before .before .before .before .before .before .before .before .next in
+    going-along (c .pass-accesses .ensures) (rw (a .1 z .0, a .1 z .1)
+    (going-next (l .loop .inv) less (r .result) (r .ensures) _ (by-order _ _ _ _ _ _ f (c .before .before .before .before .before .before .before .if1 .left) (a .0)) z (x .result) (x .ensures) (o .result) (o .ensures)))
+
+finish-requires : tie.Need-finish-requires Inv-loop μ-loop
+finish-requires c κs =
+    let p = c .before .before .before .before .before .before .before .pre in
+    let n = c .before .before .before .before .before .count .ensures in
+    omega arith
+
+returns-3 : tie.Need-returns-3 Inv-loop μ-loop
+returns-3 c = c .finish .ensures ∙ sym (going-end (c .before .before .loop .inv) (c .before .before .before .before .before .before .count .ensures) (c .before .loop-test .left))
 
 pub scan-spec : {M : Type 1} → statement M
 scan-spec =
@@ -103,13 +142,18 @@ scan-spec =
     loop-holds
     record-at-requires
     next-requires
-    fault-requires
+    place-fault-requires
     add-refuse
     refuse-requires
     returns
-    note-requires
-    add-i
+    admit-requires
+    add-refuse-2
+    refuse-requires-2
+    returns-2
+    one-more-requires
+    add-pass-accesses
+    pass-accesses-requires
     loop-less
     loop-again
     finish-requires
-    returns-2)
+    returns-3)
