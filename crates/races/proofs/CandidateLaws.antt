@@ -8,24 +8,25 @@ use native.Mathlib.Omega.{arith}
 use native.Mathlib.Numerals.{add-one}
 use native.Mathlib.Nat.{eq-or-lt-of-le, le-of-suc-le-suc}
 use native.Mathlib.Decide.{ℕ-discrete}
-use borrow.Author.Tests.{eq-eqb, ne-eqb}
-use lib.Dec.{T, ltb, eqb, eqb→eq, ltb→lt, T-not}
+use borrow.Author.Tests.{eq-eqb, ne-eqb, le-leb, lt-leb, leb-true}
+use lib.Dec.{T, leb, ltb, eqb, eqb→eq, leb→le, ltb→lt, T-not}
 use lib.ListN.{length, getD, set, length-set, length-replicate, getD-replicate}
 use lib.Seq.{getD-set-same, getD-set-other}
 use Rattle.records.specs.declared.Record.{Record}
-use Rattle.records.specs.Records.{at, isRead, isWrite, eventOf}
+use Rattle.records.specs.Records.{at, past, isRead, isWrite, eventOf}
 use Rattle.trace.specs.Reading.{Acceptable}
 use Rattle.records.specs.Marks.{noMarks}
-use Rattle.trace.specs.Rule.{numbered}
+use Rattle.trace.specs.Place.{place}
+use Rattle.trace.specs.Rule.{situation, numbered}
 use Rattle.records.proofs.Positions.{lt-or-ge}
 use Rattle.trace.proofs.Blocks.{passes-at}
 use Rattle.trace.proofs.Marked.{formed}
 use Rattle.trace.proofs.Going.{in-range}
 use Rattle.coverage.specs.Race.{raceb}
 use Rattle.coverage.specs.Neighbours.{conflicts}
-use Rattle.coverage.proofs.Tests.{both, and, either, or-left, or-right, eq→eqb}
+use Rattle.coverage.proofs.Tests.{both, and, either, or-left, or-right, eq→eqb, passed}
 use Rattle.races.specs.Traces.{isAccess, cellsOf, settingOf}
-use Rattle.races.specs.Candidates.{isStart, isOrdered, cell, accesses, startOf, Starts, Upto, Quiet, Last, Lasts, Ends, NextAccess, On, Jump, FirstRace}
+use Rattle.races.specs.Candidates.{isStart, isOrdered, endOf, lastNumber, cell, accesses, startOf, Starts, Upto, Quiet, Last, Lasts, mayRace, NextAccess, Jump}
 use Rattle.order.specs.HappensBefore.{happensBefore}
 use Rattle.races.proofs.Instance.{laws, access-kind}
 
@@ -180,28 +181,42 @@ module _ (tr : List Record) (short : Bool) where
           at-cell c l (yes d) = rw (p, d, next) (same ∙ sym (starts-same b ∙ rw (← same, f) refl))
           at-cell c l (no d) = rw (p, next) (s .tells c l ∙ sym (starts-other b c (λ q. d (sym q))))
 
-pub ordered-none : (tr : List Record) (v b : ℕ) → v ≡ 0 → false ≡ isOrdered tr v b
+pub ordered-none : (tr : List Record) (v b : ℕ) → (v ≡ 0) ⊎ (4096 < v) → false ≡ isOrdered tr v b
 unfolding isOrdered
-ordered-none tr v b z = rw (eq-eqb v 0 z) refl
+ordered-none tr v b (inl z) = rw (eq-eqb v 0 z) refl
+ordered-none tr v b (inr h) = rw (lt-leb v 4096 h, ne-eqb v 0 (λ z. omega arith)) refl
 
-pub ordered-some : (tr : List Record) (v b : ℕ) → v ≢ 0 → happensBefore tr (eventOf (at tr (v - 1))) (eventOf (at tr b)) ≡ isOrdered tr v b
+pub ordered-some : (tr : List Record) (v b : ℕ) → v ≢ 0 → v ≤ 4096 → happensBefore tr (eventOf (at tr (v - 1))) (eventOf (at tr b)) ≡ isOrdered tr v b
 unfolding isOrdered
-ordered-some tr v b n = rw (ne-eqb v 0 n) refl
+ordered-some tr v b n h = rw (ne-eqb v 0 n, le-leb v 4096 h) refl
+
+-- Where accesses end.
+pub end-own : (v : ℕ) → v ≤ 4096 → endOf v ≡ v
+unfolding endOf
+end-own v h = rw (le-leb v 4096 h) refl
+
+pub end-above : (v : ℕ) → 4096 < v → endOf v ≡ v - 4097
+unfolding endOf
+end-above v h = rw (lt-leb v 4096 h) refl
+
+pub end-more : (x : ℕ) → endOf (x + 4097) ≡ x
+end-more x = end-above (x + 4097) (omega arith) ∙ omega arith
 
 -- The last accesses of the cells, one record after the other.
 module _ {tr : List Record} (acc : Acceptable tr) (short : Bool) where
   pub lasts-none : Lasts tr short 0 noMarks
   unfolding noMarks
-  lasts-none = record { size = length-replicate {A = ℕ} 1025 0; tells = λ c l. rw (getD-replicate {A = ℕ} 1025 c 0 0 l) (record { high = omega arith; upto = λ n. absurd (n refl) }) }
+  lasts-none = record { size = length-replicate {A = ℕ} 1025 0; tells = λ c l. rw (getD-replicate {A = ℕ} 1025 c 0 0 l) (record { high = omega (arith, end-own 0 (omega arith)); upto = λ h n. absurd (n refl); none = λ x l k t u. omega arith }) }
 
   -- b's event action comes after that of a record that comes after all of them
   pub ordered-quiet : {b : ℕ} {lasts : List ℕ} → Lasts tr short b lasts → cell tr b < 1025 → T (isOrdered tr (getD lasts (cell tr b) 0) b) → Quiet tr short b
   unfolding isOrdered
   ordered-quiet {b} {lasts} s low h =
       let v = getD lasts (cell tr b) 0 in
-      let p = both (not (eqb v 0)) (happensBefore tr (eventOf (at tr (v - 1))) (eventOf (at tr b))) h in
-      let n : v ≢ 0 = λ z. T-not (eqb v 0) (p .0) (eq→eqb v 0 z) in
-      record { tells = λ x l k t. laws acc .le-trans _ _ _ (s .tells (cell tr b) low .upto n .tells x l k t) (p .1) }
+      let p = both (not (eqb v 0) && leb v 4096) (happensBefore tr (eventOf (at tr (v - 1))) (eventOf (at tr b))) h in
+      let q = both (not (eqb v 0)) (leb v 4096) (p .0) in
+      let n : v ≢ 0 = λ z. T-not (eqb v 0) (q .0) (eq→eqb v 0 z) in
+      record { tells = λ x l k t. laws acc .le-trans _ _ _ (s .tells (cell tr b) low .upto (leb→le v 4096 (q .1)) n .tells x l k t) (p .1) }
 
   -- one record more of another kind or cell
   upto-still : {b c e : ℕ} → startOf tr short c (suc b) ≡ startOf tr short c b → (T (accesses tr c b) → ⊥) → Upto tr short c b e → Upto tr short c (suc b) e
@@ -237,127 +252,125 @@ module _ {tr : List Record} (acc : Acceptable tr) (short : Bool) where
   upto-last {b} quiet q true e h = upto-own (λ x l k t. absurd (omega (arith, l, start-moves b e)))
   upto-last {b} quiet q false e h = upto-own (λ x l k t. q h .tells x (rw (start-stays b e) at l) k t)
 
-  pub lasts-next : {b : ℕ} {lasts : List ℕ} (quiet : Bool) → cell tr b < 1025 → (T quiet → Quiet tr short b) → Lasts tr short b lasts → (lasts′ : List ℕ) → lasts′ ≡ cond (isAccess (at tr b)) (set lasts (cell tr b) (cond (fresh b || quiet) (b + 1) 0)) lasts → Lasts tr short (b + 1) lasts′
-  lasts-next {b} {lasts} quiet low q s lasts′ e = go (isAccess (at tr b)) refl e
+  -- the number of b's cell after the access b
+  last-next : {b v : ℕ} (quiet : Bool) → b < 4096 → T (isAccess (at tr b)) → (T quiet → Quiet tr short b) → Last tr short (cell tr b) b v → (raises : Bool) → raises ≡ (short || isWrite (at tr b)) → (p : Bool) → (fresh b || quiet) ≡ p → Last tr short (cell tr b) (suc b) (cond p (suc b) (cond raises (suc b) (endOf v) + 4097))
+  last-next {b} {v} quiet l a q w raises e true f =
+      let g : suc b - 1 ≡ b = omega arith in
+      let z = end-own (suc b) (omega arith) in
+      record { high = omega arith; upto = λ h n. rw g (upto-last quiet q (fresh b) refl (subst T (sym f) tt)); none = λ x m k t u. omega arith }
+  last-next {b} {v} quiet l a q w true e false f =
+      let z = end-more (suc b) in
+      record { high = omega arith; upto = λ h n. absurd (omega arith); none = λ x m k t u. omega arith }
+  last-next {b} {v} quiet l a q w false e false f =
+      let z = end-more (endOf v) in
+      let h = w .high in
+      record { high = omega arith; upto = λ m n. absurd (omega arith); none = λ x m k t u. go x (omega arith) (eq-or-lt-of-le (le-of-suc-le-suc k)) t u }
     where
-      next : b + 1 ≡ suc b
-      next = omega arith
+      go : (x : ℕ) → endOf v ≤ x → (x ≡ b) ⊎ (x < b) → T (accesses tr (cell tr b) x) → T (short || isWrite (at tr x)) → ⊥
+      go x m (inl d) t u = subst T (sym e) (subst (λ (y : ℕ). T (short || isWrite (at tr y))) d u)
+      go x m (inr k) t u = w .none x m k t u
 
-      still : (c : ℕ) → startOf tr short c (suc b) ≡ startOf tr short c b → (T (accesses tr c b) → ⊥) → c < 1025 → Last tr short c (suc b) (getD lasts c 0)
-      still c f n l = let w = s .tells c l in let h = w .high in record { high = omega arith; upto = λ m. upto-still f n (w .upto m) }
-
-      other : (c : ℕ) → c ≢ cell tr b → c < 1025 → Last tr short c (suc b) (getD lasts c 0)
-      other c d l = still c (starts-other tr short b c (λ z. d (sym z))) (λ t. d (sym (of-accesses tr c b t .1))) l
-
-      last : (p : Bool) → (fresh b || quiet) ≡ p → Last tr short (cell tr b) (suc b) (cond p (suc b) 0)
-      last true f = let g : suc b - 1 ≡ b = omega arith in record { high = omega arith; upto = λ m. rw g (upto-last quiet q (fresh b) refl (subst T (sym f) tt)) }
-      last false f = record { high = omega arith; upto = λ m. absurd (m refl) }
-
-      unread : isAccess (at tr b) ≡ false → startOf tr short (cell tr b) (suc b) ≡ startOf tr short (cell tr b) b
-      unread f = start-stays b (unstarted b f)
-
-      go : (t : Bool) → isAccess (at tr b) ≡ t → lasts′ ≡ cond t (set lasts (cell tr b) (cond (fresh b || quiet) (b + 1) 0)) lasts → Lasts tr short (b + 1) lasts′
-      go true f p = record { size = ap length p ∙ (length-set lasts (cell tr b) (cond (fresh b || quiet) (b + 1) 0) ∙ s .size); tells = λ c l. rw (p, next) (at-cell c l (ℕ-discrete c (cell tr b))) }
-        where
-          at-cell : (c : ℕ) → c < 1025 → Dec (c ≡ cell tr b) → Last tr short c (suc b) (getD (set lasts (cell tr b) (cond (fresh b || quiet) (suc b) 0)) c 0)
-          at-cell c l (yes d) = let z = s .size in rw (d, getD-set-same lasts (cell tr b) (cond (fresh b || quiet) (suc b) 0) 0 (omega arith)) (last (fresh b || quiet) refl)
-          at-cell c l (no d) = rw (getD-set-other lasts (cell tr b) c (cond (fresh b || quiet) (suc b) 0) 0 d) (other c d l)
-      go false f p = record { size = ap length p ∙ s .size; tells = λ c l. rw (p, next) (at-cell c l (ℕ-discrete c (cell tr b))) }
-        where
-          at-cell : (c : ℕ) → c < 1025 → Dec (c ≡ cell tr b) → Last tr short c (suc b) (getD lasts c 0)
-          at-cell c l (yes d) = still c (rw d (unread f)) (λ t. subst T f (of-accesses tr c b t .0)) l
-          at-cell c l (no d) = other c d l
-
-module _ (tr : List Record) where
-  -- From a on to the next record that may access its cell: none up to i.
-  pub scan-start : (a : ℕ) → NextAccess tr (a + 1) a (a + 1)
-  scan-start a = record { ahead = omega arith; high = omega arith; same = λ k. absurd (omega arith); none = λ x l k t. omega arith }
-
-  pub scan-next : {a i : ℕ} → NextAccess tr i a i → cell tr i ≢ cell tr a → NextAccess tr (i + 1) a (i + 1)
-  scan-next {a} {i} w n = let h = w .ahead in record { ahead = omega arith; high = omega arith; same = λ k. absurd (omega arith); none = λ x l k t. go x l (eq-or-lt-of-le (le-of-suc-le-suc (subst (λ (y : ℕ). x < y) (add-one i) k))) t }
+  -- record b is no access of cell c
+  last-still : {b c v : ℕ} → startOf tr short c (suc b) ≡ startOf tr short c b → (T (accesses tr c b) → ⊥) → Last tr short c b v → Last tr short c (suc b) v
+  last-still {b} {c} {v} f n w = let h = w .high in record { high = omega arith; upto = λ l m. upto-still f n (w .upto l m); none = λ x m k t u. go x m (eq-or-lt-of-le (le-of-suc-le-suc k)) t u }
     where
-      go : (x : ℕ) → a < x → (x ≡ i) ⊎ (x < i) → T (accesses tr (cell tr a) x) → ⊥
-      go x l (inl e) t = n (subst (λ (y : ℕ). cell tr y ≡ cell tr a) e (of-accesses tr (cell tr a) x t .1))
+      go : (x : ℕ) → endOf v ≤ x → (x ≡ b) ⊎ (x < b) → T (accesses tr c x) → T (short || isWrite (at tr x)) → ⊥
+      go x m (inl d) t u = n (subst (λ (y : ℕ). T (accesses tr c y)) d t)
+      go x m (inr k) t u = w .none x m k t u
+
+  -- a record that is no access changes nothing
+  pub lasts-pass : {b : ℕ} {lasts : List ℕ} → isAccess (at tr b) ≡ false → Lasts tr short b lasts → Lasts tr short (b + 1) lasts
+  lasts-pass {b} {lasts} f s = let e : b + 1 ≡ suc b = omega arith in rw e (record { size = s .size; tells = λ c l. go c l (ℕ-discrete c (cell tr b)) })
+    where
+      go : (c : ℕ) → c < 1025 → Dec (c ≡ cell tr b) → Last tr short c (suc b) (getD lasts c 0)
+      go c l (yes d) = last-still (rw d (start-stays b (unstarted b f))) (λ t. subst T f (of-accesses tr c b t .0)) (s .tells c l)
+      go c l (no d) = last-still (starts-other tr short b c (λ z. d (sym z))) (λ t. d (sym (of-accesses tr c b t .1))) (s .tells c l)
+
+  pub starts-pass : {b : ℕ} {starts : List ℕ} → isAccess (at tr b) ≡ false → b < length tr → Starts tr short b starts → Starts tr short (b + 1) starts
+  starts-pass {b} {starts} f h s = let low = cell-low acc b h in starts-next tr short low s starts (rw (s .tells (cell tr b) low, unstarted b f) refl)
+
+  pub lasts-next : {b : ℕ} {lasts : List ℕ} (quiet : Bool) → b < length tr → T (isAccess (at tr b)) → (T quiet → Quiet tr short b) → Lasts tr short b lasts → (lasts′ : List ℕ) → lasts′ ≡ set lasts (cell tr b) (lastNumber (fresh b || quiet) (short || isWrite (at tr b)) b (getD lasts (cell tr b) 0)) → Lasts tr short (b + 1) lasts′
+  unfolding lastNumber
+  lasts-next {b} {lasts} quiet h a q s lasts′ p = let e : b + 1 ≡ suc b = omega arith in rw (p, e) (record { size = length-set lasts (cell tr b) new ∙ s .size; tells = λ c l. go c l (ℕ-discrete c (cell tr b)) })
+    where
+      low : cell tr b < 1025
+      low = cell-low acc b h
+
+      new : ℕ
+      new = cond (fresh b || quiet) (suc b) (cond (short || isWrite (at tr b)) (suc b) (endOf (getD lasts (cell tr b) 0)) + 4097)
+
+      go : (c : ℕ) → c < 1025 → Dec (c ≡ cell tr b) → Last tr short c (suc b) (getD (set lasts (cell tr b) new) c 0)
+      go c l (yes d) = let z = s .size in let m = acc .few in rw (d, getD-set-same lasts (cell tr b) new 0 (omega arith)) (last-next quiet (omega arith) a q (s .tells (cell tr b) low) (short || isWrite (at tr b)) refl (fresh b || quiet) refl)
+      go c l (no d) = rw (getD-set-other lasts (cell tr b) c new 0 d) (last-still (starts-other tr short b c (λ z. d (sym z))) (λ t. d (sym (of-accesses tr c b t .1))) (s .tells c l))
+
+-- From a on to the next record that may race with an access of cell c: none up to i.
+module _ (tr : List Record) (reads : Bool) (c a : ℕ) where
+  pub scan-start : NextAccess tr reads c (a + 1) a (a + 1)
+  scan-start = record { ahead = omega arith; high = omega arith; none = λ x l k t. omega arith }
+
+  pub scan-next : {i : ℕ} → NextAccess tr reads c i a i → mayRace tr reads c i ≡ false → NextAccess tr reads c (i + 1) a (i + 1)
+  scan-next {i} w n = let h = w .ahead in record { ahead = omega arith; high = omega arith; none = λ x l k t. go x l (eq-or-lt-of-le (le-of-suc-le-suc (subst (λ (y : ℕ). x < y) (add-one i) k))) t }
+    where
+      go : (x : ℕ) → a < x → (x ≡ i) ⊎ (x < i) → T (mayRace tr reads c x) → ⊥
+      go x l (inl e) t = subst T n (subst (λ (y : ℕ). T (mayRace tr reads c y)) e t)
       go x l (inr k) t = w .none x l k t
 
-  pub scan-found : {a b i : ℕ} → NextAccess tr i a i → i < b → cell tr i ≡ cell tr a → NextAccess tr b a i
-  scan-found w l e = record { ahead = w .ahead; high = omega arith; same = λ _. e; none = w .none }
+  pub scan-to : {to i : ℕ} → NextAccess tr reads c i a i → i ≤ to → NextAccess tr reads c to a i
+  scan-to w l = record { ahead = w .ahead; high = l; none = w .none }
 
-  pub scan-end : {a b i : ℕ} → NextAccess tr i a i → i ≤ b → b ≤ i → NextAccess tr b a i
-  scan-end w l k = record { ahead = w .ahead; high = l; same = λ m. absurd (omega arith); none = w .none }
+-- what races with b is such a record
+pub race-may : (tr : List Record) (a b : ℕ) (reads : Bool) → reads ≡ eqb (at tr b .kind) 5 → T (raceb (settingOf tr) a b) → T (mayRace tr reads (cell tr b) a)
+unfolding mayRace
+race-may tr a b reads f t = let r = racing tr a b t in and (eqb (cell tr a) (cell tr b)) (not reads || isWrite (at tr a)) (eq→eqb (cell tr a) (cell tr b) (r .same)) (go reads f (r .one))
+  where
+    go : (q : Bool) → q ≡ eqb (at tr b .kind) 5 → T (isWrite (at tr a)) ⊎ T (isWrite (at tr b)) → T (not q || isWrite (at tr a))
+    go true e (inl u) = u
+    go true e (inr u) = let k = eqb→eq (at tr b .kind) 5 (subst T e tt) in absurd (rw k at u)
+    go false e u = tt
 
-  -- The last writes before b, one record after the other.
-  pub ends-none : Ends tr 0 noMarks
-  unfolding noMarks
-  ends-none = record { size = length-replicate {A = ℕ} 1025 0; high = λ c l. rw (getD-replicate {A = ℕ} 1025 c 0 0 l) (omega arith); none = λ c l x h k t q. omega arith }
+-- On the way to b that is the next one.
+pub next-jump : (tr : List Record) {a b to r : ℕ} {reads : Bool} {c : ℕ} → to ≤ b → c ≡ cell tr b → reads ≡ eqb (at tr b .kind) 5 → NextAccess tr reads c to a r → Jump tr b a r
+next-jump tr {a} {b} {to} {r} {reads} {c} h e f w = let l = w .high in record { ahead = w .ahead; high = omega arith; none = λ x l k t. w .none x l k (rw e (race-may tr x b reads f t)) }
 
-  pub ends-next : {i : ℕ} {ends : List ℕ} → cell tr i < 1025 → Ends tr i ends → (ends′ : List ℕ) → ends′ ≡ cond (isWrite (at tr i)) (set ends (cell tr i) (i + 1)) ends → Ends tr (i + 1) ends′
-  ends-next {i} {ends} low w ends′ e = rw next (go (isWrite (at tr i)) refl e)
-    where
-      next : i + 1 ≡ suc i
-      next = omega arith
+-- a record of an acceptable trace that is none of the first four kinds is an access
+pub kind-access : {tr : List Record} (a : Acceptable tr) (i : ℕ) → i < length tr → 5 ≤ at tr i .kind → T (isAccess (at tr i))
+unfolding place
+kind-access {tr} a i h l = go (leb (at tr i .kind) 6) refl
+  where
+    k : ℕ
+    k = at tr i .kind
 
-      -- at a cell that record i does not access, or not that way
-      still : (c : ℕ) → c < 1025 → (T (isWrite (at tr i)) → cell tr i ≡ c → ⊥) → (x : ℕ) → getD ends c 0 ≤ x → x < suc i → T (isWrite (at tr x)) → cell tr x ≡ c → ⊥
-      still c l n x h k t q = past (eq-or-lt-of-le (le-of-suc-le-suc k))
-        where
-          past : (x ≡ i) ⊎ (x < i) → ⊥
-          past (inl z) = n (subst (λ (y : ℕ). T (isWrite (at tr y))) z t) (subst (λ (y : ℕ). cell tr y ≡ c) z q)
-          past (inr m) = w .none c l x h m t q
+    known : eqb (place (situation (past tr i)) k) 3 ≡ false
+    known = passes-at a i h .known
 
-      go : (t : Bool) → isWrite (at tr i) ≡ t → ends′ ≡ cond t (set ends (cell tr i) (i + 1)) ends → Ends tr (suc i) ends′
-      go true f p = record { size = ap length p ∙ (length-set ends (cell tr i) (i + 1) ∙ w .size); high = λ c l. rw p (high c l (ℕ-discrete c (cell tr i))); none = λ c l x h k t q. none c l x (rw p at h) k t q (ℕ-discrete c (cell tr i)) }
-        where
-          here : getD (set ends (cell tr i) (i + 1)) (cell tr i) 0 ≡ i + 1
-          here = let z = w .size in getD-set-same ends (cell tr i) (i + 1) 0 (omega arith)
+    six : k ≤ 6 → T (isAccess (at tr i))
+    six m = five (ℕ-discrete k 5)
+      where
+        five : Dec (k ≡ 5) → T (isAccess (at tr i))
+        five (yes e) = or-left (isRead (at tr i)) (isWrite (at tr i)) (eq→eqb k 5 e)
+        five (no n) = or-right (isRead (at tr i)) (isWrite (at tr i)) (eq→eqb k 6 (omega arith))
 
-          high : (c : ℕ) → c < 1025 → Dec (c ≡ cell tr i) → getD (set ends (cell tr i) (i + 1)) c 0 ≤ suc i
-          high c l (yes d) = rw d (omega (arith, here))
-          high c l (no d) = rw (getD-set-other ends (cell tr i) c (i + 1) 0 d) (omega (arith, w .high c l))
+    go : (t : Bool) → leb k 6 ≡ t → T (isAccess (at tr i))
+    go true e = six (leb-true k 6 e)
+    go false e = absurd (strange (rw (le-leb 1 k (omega arith), e) at known))
+      where
+        strange : true ≡ false → ⊥
+        strange z = let y : _≡_ {A = ℕ} 0 1 = cc in omega arith
 
-          none : (c : ℕ) → c < 1025 → (x : ℕ) → getD (set ends (cell tr i) (i + 1)) c 0 ≤ x → x < suc i → T (isWrite (at tr x)) → cell tr x ≡ c → Dec (c ≡ cell tr i) → ⊥
-          none c l x h k t q (yes d) = let m = rw d at h in omega (arith, here, m)
-          none c l x h k t q (no d) = still c l (λ _ z. d (sym z)) x (rw (getD-set-other ends (cell tr i) c (i + 1) 0 d) at h) k t q
-      go false f p = record { size = ap length p ∙ w .size; high = λ c l. rw p (omega (arith, w .high c l)); none = λ c l x h k t q. still c l (λ u _. subst T f u) x (rw p at h) k t q }
+pub kind-no-access : (r : Record) → r .kind < 5 → isAccess r ≡ false
+kind-no-access r l = rw (ne-eqb (r .kind) 5 (λ e. omega arith), ne-eqb (r .kind) 6 (λ e. omega arith)) refl
 
-  -- On the way to b that is the next one.
-  pub next-jump : {a b r : ℕ} → On tr b a → NextAccess tr b a r → Jump tr b a r
-  next-jump {a} {b} {r} on w = record { on = record { high = w .high; same = λ l. w .same l ∙ here }; ahead = w .ahead; none = λ x l k t. w .none x l k (subst (λ (c : ℕ). T (accesses tr c x)) (sym here) (race-accesses tr x b t)) }
-    where
-      here : cell tr a ≡ cell tr b
-      here = on .same (omega (arith, w .ahead, w .high))
-
-  -- The first race on the way.
-  pub looking-start : (b from : ℕ) → On tr b from → FirstRace tr b from from from
-  looking-start b from on = record { on = on; low = omega arith; none = λ x l k r. omega arith; found = λ l. absurd (omega arith) }
-
-  pub looking-next : {b from a r : ℕ} → FirstRace tr b from from a → (T (raceb (settingOf tr) a b) → ⊥) → Jump tr b a r → FirstRace tr b from from r
-  looking-next {b} {from} {a} {r} w n j = let k = j .ahead in let m = w .low in record { on = j .on; low = omega arith; none = λ x l u t. go x l u (lt-or-ge x a) t; found = λ l. absurd (omega arith) }
-    where
-      go : (x : ℕ) → from ≤ x → x < r → (x < a) ⊎ (a ≤ x) → T (raceb (settingOf tr) x b) → ⊥
-      go x l u (inl k) t = w .none x l k t
-      go x l u (inr k) t = past (ℕ-discrete x a)
-        where
-          past : Dec (x ≡ a) → ⊥
-          past (yes e) = n (subst (λ (y : ℕ). T (raceb (settingOf tr) y b)) e t)
-          past (no d) = j .none x (omega arith) u t
-
-  pub looking-found : {b from to a : ℕ} → FirstRace tr b from from a → T (raceb (settingOf tr) a b) → FirstRace tr b from to a
-  looking-found w r = record { on = w .on; low = w .low; none = w .none; found = λ _. r }
-
-  pub looking-end : {b from to a : ℕ} → FirstRace tr b from from a → to ≤ a → FirstRace tr b from to a
-  looking-end w l = record { on = w .on; low = w .low; none = w .none; found = λ k. absurd (omega arith) }
-
--- The three numbers of b's cell, once record b is taken into account.
-module _ {tr : List Record} (acc : Acceptable tr) (short : Bool) {b : ℕ} (h : b < length tr) {starts lasts writes : List ℕ} (s : Starts tr short b starts) (l : Lasts tr short b lasts) (w : Ends tr b writes) (r : Record) (e : r ≡ at tr b) (v : ℕ) (e₀ : v ≡ getD starts (r .second) 0) (fresh : Bool) (e₁ : fresh ≡ isStart short v r) where
+-- The two numbers of b's cell, once access b is taken into account.
+module _ {tr : List Record} (acc : Acceptable tr) (short : Bool) {b : ℕ} (h : b < length tr) (t : T (isAccess (at tr b))) {starts lasts : List ℕ} (s : Starts tr short b starts) (l : Lasts tr short b lasts) (kind c : ℕ) (e : kind ≡ at tr b .kind) (d : c ≡ cell tr b) (v : ℕ) (e₀ : v ≡ getD starts c 0) (new : Bool) (e₁ : new ≡ (eqb v 0 || (short && eqb kind 6))) where
   low : cell tr b < 1025
   low = cell-low acc b h
 
-  pub noted-start : (starts′ : List ℕ) → starts′ ≡ cond fresh (set starts (r .second) (b + 1)) starts → Starts tr short (b + 1) starts′
-  noted-start starts′ p = starts-next tr short low s starts′ (p ∙ rw (e₁, e₀, e) refl)
+  is-new : new ≡ isStart short (getD starts (cell tr b) 0) (at tr b)
+  unfolding isStart
+  is-new = e₁ ∙ sym (rw (passed (isAccess (at tr b)) t, e, e₀, d) refl)
 
-  pub noted-last : (quiet : Bool) → (T quiet → Quiet tr short b) → (x : Bool) → x ≡ isAccess r → (n : ℕ) → n ≡ cond (fresh || quiet) (b + 1) 0 → (lasts′ : List ℕ) → lasts′ ≡ cond x (set lasts (r .second) n) lasts → Lasts tr short (b + 1) lasts′
-  noted-last quiet q x f n g lasts′ p = lasts-next acc short quiet low q l lasts′ (p ∙ rw (f, g, e₁, e₀, e, s .tells (cell tr b) low) refl)
+  pub noted-start : (starts′ : List ℕ) → starts′ ≡ cond new (set starts c (b + 1)) starts → Starts tr short (b + 1) starts′
+  noted-start starts′ p = starts-next tr short low s starts′ (p ∙ rw (is-new, d) refl)
 
-  pub noted-write : (writes′ : List ℕ) → writes′ ≡ cond (eqb (r .kind) 6) (set writes (r .second) (b + 1)) writes → Ends tr (b + 1) writes′
-  noted-write writes′ p = ends-next tr low w writes′ (p ∙ rw e refl)
+  pub noted-last : (quiet : Bool) → (T quiet → Quiet tr short b) → (x : ℕ) → x ≡ getD lasts c 0 → (n : ℕ) → n ≡ lastNumber (new || quiet) (short || eqb kind 6) b x → (lasts′ : List ℕ) → lasts′ ≡ set lasts c n → Lasts tr short (b + 1) lasts′
+  noted-last quiet q x f n g lasts′ p = lasts-next acc short quiet h t q l lasts′ (p ∙ rw (g, f, is-new, e, d, s .tells (cell tr b) low) refl)

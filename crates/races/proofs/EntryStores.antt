@@ -17,7 +17,7 @@ use Rattle.records.specs.Records.{at}
 use Rattle.coverage.specs.Race.{raceb}
 use Rattle.races.specs.Traces.{isAccess, settingOf}
 use Rattle.races.specs.Lists.{shapeOf}
-use Rattle.races.specs.Candidates.{Jump, Range, FirstRace}
+use Rattle.races.specs.Candidates.{Jump, Range}
 use Rattle.races.specs.ListPass.{fromOf, firsts, withSecond, pairsBelow, raw, raws, entryIf, OneWrites, RoomIf, Writes, WritesAll, Ranges}
 use Rattle.races.proofs.CandidateLaws.{racing}
 use Rattle.races.proofs.ListLaws.{firsts-start, firsts-yes, firsts-no, firsts-grow, firsts-skip, firsts-low, firsts-empty, firsts-length, below-none, below-more, below-length}
@@ -147,7 +147,7 @@ module _ {tr : List Record} {b from k : ℕ} {list₀ list : List ℕ} {next a :
         next-is = w .next-is ∙ ap (λ xs. k + length xs) (sym f);
         list-is = w .list-is ∙ ap (λ xs. sets list₀ (5 * k) (raws tr (withSecond tr b xs))) (sym f);
         low = omega arith;
-        high = j .on .high;
+        high = j .high;
       }
 
   pub writing-end : {to : ℕ} → to ≤ a → Range tr b from to → Writes true tr b from k list₀ list next
@@ -159,50 +159,36 @@ pub writing-next : {tr : List Record} {b from k : ℕ} {list₀ list : List ℕ}
 writing-next w l list′ r o a′ j = writing-jump (writing-one w l list′ r o) refl j
 
 -- a second access without races has no entries
-pub no-entries : (writing : Bool) {tr : List Record} {b from to low : ℕ} (k : ℕ) (list : List ℕ) → Range tr b from to → FirstRace tr b from to low → to ≤ low → Writes writing tr b from k list list k
+pub no-entries : (writing : Bool) {tr : List Record} {b from : ℕ} (k : ℕ) (list : List ℕ) → ((x : ℕ) → from ≤ x → x < b → T (raceb (settingOf tr) x b) → ⊥) → Writes writing tr b from k list list k
 unfolding raws
-no-entries writing {tr} {b} {from} {to} {low} k list g f l = record { next = omega (arith, ap length none); list-is = go writing }
+no-entries writing {tr} {b} {from} k list n = record { next = omega (arith, ap length none); list-is = go writing }
   where
-    beyond : (x : ℕ) → from ≤ x → x < b → (x < low) ⊎ (low ≤ x) → T (raceb (settingOf tr) x b) → ⊥
-    beyond x m n (inl h) r = f .none x m h r
-    beyond x m n (inr h) r = g .none x (omega arith) n r
-
     none : firsts tr from b b ≡ []
-    none = firsts-empty tr from b b (λ x m n. beyond x m n (lt-or-ge x low))
+    none = firsts-empty tr from b b n
 
     go : (t : Bool) → list ≡ cond t (sets list (5 * k) (raws tr (withSecond tr b (firsts tr from b b)))) list
     go true = rw none
     go false = refl
 
--- From the first race on the way.
-module _ {tr : List Record} {b from to low : ℕ} (g : Range tr b from to) (f : FirstRace tr b from to low) where
-  pub low-range : Range tr b low to
-  low-range = record { on = f .on; high = g .high; none = g .none }
-
-  pub low-firsts : firsts tr from b b ≡ firsts tr low b b
-  low-firsts = firsts-low tr from b low b (f .low) (f .none)
-
-  pub low-room : {writing : Bool} {k : ℕ} {list : List ℕ} → RoomIf writing tr b from k list → T writing → 5 * (k + length (firsts tr low b b)) ≤ length list
-  low-room {k = k} {list = list} r h = subst (λ (xs : List ℕ). 5 * (k + length xs) ≤ length list) low-firsts (r .space h)
-
-  pub low-writes : {writing : Bool} {k : ℕ} {list list′ : List ℕ} {r : ℕ} → Writes writing tr b low k list list′ r → Writes writing tr b from k list list′ r
-  low-writes {writing} {k} {list} {list′} {r} w = record { next = w .next ∙ ap (λ xs. k + length xs) (sym low-firsts); list-is = w .list-is ∙ ap (λ xs. cond writing (sets list (5 * k) (raws tr (withSecond tr b xs))) list) (sym low-firsts) }
-
-  -- only counted
-  pub low-counts : {writing : Bool} → writing ≡ false → (k : ℕ) (list : List ℕ) (found : ℕ) → found ≡ length (firsts tr low b b) → Writes writing tr b from k list list (k + found)
-  low-counts e k list found h = record { next = ap (λ x. k + x) (h ∙ ap length (sym low-firsts)); list-is = rw e refl }
-
 -- the second access of a race is an access
 pub race-second : (tr : List Record) (a b : ℕ) → T (raceb (settingOf tr) a b) → T (isAccess (at tr b))
 race-second tr a b r = racing tr a b r .second
+
+-- a record that is no access is the second of none
+pub no-second : {tr : List Record} {b : ℕ} → isAccess (at tr b) ≡ false → (short writing : Bool) (k : ℕ) (list : List ℕ) → Writes writing tr b (fromOf tr short b) k list list k
+no-second {tr} {b} e short writing k list = no-entries writing k list (λ x l h r. subst T e (race-second tr x b r))
 
 -- A way that the code finds, for the entries that the lists have.
 module _ {tr : List Record} {short : Bool} {b from to : ℕ} (w : Ranges tr short b from to) where
   pub way-writes : {writing : Bool} {k : ℕ} {list list′ : List ℕ} {r : ℕ} → Writes writing tr b from k list list′ r → Writes writing tr b (fromOf tr short b) k list list′ r
   way-writes {writing} {k} {list} o = record { next = o .next ∙ ap (λ xs. k + length xs) (sym (w .firsts-are)); list-is = o .list-is ∙ ap (λ xs. cond writing (sets list (5 * k) (raws tr (withSecond tr b xs))) list) (sym (w .firsts-are)) }
 
-  pub way-length : length (firsts tr (fromOf tr short b) b b) ≡ length (firsts tr from b b)
-  way-length = ap length (w .firsts-are)
+  pub way-room : {writing : Bool} {k : ℕ} {list : List ℕ} → RoomIf writing tr b (fromOf tr short b) k list → RoomIf writing tr b from k list
+  way-room r = record { few = r .few; space = λ t. omega (arith, r .space t, ap length (w .firsts-are)) }
+
+  -- nothing is left to look through
+  pub way-over : to ≤ from → (writing : Bool) (k : ℕ) (list : List ℕ) → Writes writing tr b (fromOf tr short b) k list list k
+  way-over l writing k list = way-writes (no-entries writing k list (λ x m h. w .range .none x (omega arith) h))
 
 -- the loop over the second accesses, turn by turn
 pub record Listing (writing : Bool) (tr : List Record) (short : Bool) (list₀ list : List ℕ) (k b : ℕ) : Type 0 where
@@ -234,11 +220,11 @@ module _ {writing : Bool} {tr : List Record} {short : Bool} {list₀ list : List
       go true e = ap length e ∙ length-sets list₀ 0 (raws tr (pairsBelow tr short b))
       go false e = ap length e
 
-  pub listing-room : {from to : ℕ} → length tr ≤ 4096 → b < length tr → (T writing → 5 * length (pairsBelow tr short (length tr)) ≤ length list₀) → Ranges tr short b from to → RoomIf writing tr b from k list
-  listing-room few h s r =
+  pub listing-room : length tr ≤ 4096 → b < length tr → (T writing → 5 * length (pairsBelow tr short (length tr)) ≤ length list₀) → RoomIf writing tr b (fromOf tr short b) k list
+  listing-room few h s =
       let e : b + 1 + (length tr - (b + 1)) ≡ length tr = omega arith in
       let g = rw e at (below-grow tr short (b + 1) (length tr - (b + 1))) in
-      record { few = omega (arith, w .next-is, below-few tr short b (omega arith)); space = λ t. omega (arith, s t, g, below-length tr short b, w .next-is, listing-size, way-length r) }
+      record { few = omega (arith, w .next-is, below-few tr short b (omega arith)); space = λ t. omega (arith, s t, g, below-length tr short b, w .next-is, listing-size) }
 
   pub listing-next : b < length tr → (list′ : List ℕ) (r : ℕ) → Writes writing tr b (fromOf tr short b) k list list′ r → Listing writing tr short list₀ list′ r (b + 1)
   listing-next h list′ r o = record {

@@ -19,12 +19,12 @@ use Rattle.coverage.specs.Below.{some, upto, pairs, only}
 use Rattle.coverage.specs.Race.{raceb}
 use Rattle.coverage.specs.Neighbours.{Cells, conflicts, writeBetween, neighbour}
 use Rattle.coverage.specs.Lists.{allRaces, shortList}
-use Rattle.coverage.proofs.Tests.{both, and, or-right, decide, found, find, eq→eqb}
+use Rattle.coverage.proofs.Tests.{both, and, or-left, or-right, decide, found, find, eq→eqb}
 use Rattle.coverage.proofs.Tests.{same as equal-tests}
 use Rattle.coverage.proofs.Lists.{upto-ext, upto-zero, upto-yes, upto-no, upto-empty}
 use Rattle.races.specs.Traces.{isAccess, cellsOf, settingOf}
 use Rattle.races.specs.Lists.{pairsOf}
-use Rattle.races.specs.Candidates.{cell, accesses, startOf, Quiet, Ends, On, Range}
+use Rattle.races.specs.Candidates.{endOf, wayEnd, cell, accesses, startOf, Quiet, Last, Range}
 use Rattle.races.specs.ListPass.{fromOf, firsts, withSecond, pairsBelow, Ranges}
 use Rattle.coverage.proofs.Order.{race-of, race-not-le}
 use Rattle.races.proofs.Instance.{laws}
@@ -176,7 +176,7 @@ module _ (tr : List Record) where
   -- the way that the code finds
   way-none : (short : Bool) (b : ℕ) → ((x : ℕ) → fromOf tr short b ≤ x → x < b → T (race x b) → ⊥) → Ranges tr short b b b
   way-none short b n = record {
-    range = record { on = record { high = omega arith; same = λ l. absurd (omega arith) }; high = omega arith; none = λ x l k. absurd (omega arith) };
+    range = record { low = omega arith; high = omega arith; none = λ x l k. absurd (omega arith) };
     firsts-are = firsts-empty (fromOf tr short b) b b n ∙ sym (firsts-empty b b b (λ x l k. absurd (omega arith)));
   }
 
@@ -190,32 +190,35 @@ module _ (tr : List Record) where
     w : Start tr short (cell tr b) b v
     w = rw e (start tr short (cell tr b) b)
 
-    on-start : v ≢ 0 → On tr b (v - 1)
-    on-start n = let k = w .high in record { high = omega arith; same = λ l. w .same n }
-
     from-is : fromOf tr short b ≡ v - 1
     from-is = ap (λ x. x - 1) (sym e)
 
     pub way-no-start : v ≡ 0 → Ranges tr short b b b
     way-no-start z = way-none short b (λ x l k h. w .before x k (race-accesses tr x b h) (inl z) .1 z)
 
-    way-all : v ≢ 0 → Ranges tr short b (v - 1) b
-    way-all n = record { range = record { on = on-start n; high = omega arith; none = λ x l k. absurd (omega arith) }; firsts-are = ap (λ x. firsts tr x b b) from-is }
+    way-upto : (to : ℕ) → to ≤ b → ((x : ℕ) → to ≤ x → x < b → T (race x b) → ⊥) → Ranges tr short b (v - 1) to
+    way-upto to h n = let k = w .high in record { range = record { low = omega arith; high = h; none = n }; firsts-are = ap (λ x. firsts tr x b b) from-is }
 
-    -- past the last write no record races with a read
-    way-read : v ≢ 0 → at tr b .kind ≡ 5 → {writes : List ℕ} → Ends tr b writes → cell tr b < 1025 → Ranges tr short b (v - 1) (getD writes (cell tr b) 0)
-    way-read n k {writes} w low = record { range = record { on = on-start n; high = w .high (cell tr b) low; none = λ x l m h. reads x l m h (racing tr x b h .one) }; firsts-are = ap (λ x. firsts tr x b b) from-is }
+    -- a read races with writes alone
+    read-write : at tr b .kind ≡ 5 → (x : ℕ) → T (race x b) → T (isWrite (at tr x))
+    read-write k x h = go (racing tr x b h .one)
       where
-        reads : (x : ℕ) → getD writes (cell tr b) 0 ≤ x → x < b → T (race x b) → T (isWrite (at tr x)) ⊎ T (isWrite (at tr b)) → ⊥
-        reads x l m h (inl t) = w .none (cell tr b) low x l m t (racing tr x b h .same)
-        reads x l m h (inr t) = rw k at t
+        go : T (isWrite (at tr x)) ⊎ T (isWrite (at tr b)) → T (isWrite (at tr x))
+        go (inl t) = t
+        go (inr t) = absurd (rw k at t)
 
-    pub way-start : v ≢ 0 → {writes : List ℕ} → Ends tr b writes → cell tr b < 1025 → (to : ℕ) → to ≡ cond (eqb (at tr b .kind) 5) (getD writes (cell tr b) 0) b → Ranges tr short b (v - 1) to
-    way-start n {writes} w low to q = rw q (go (eqb (at tr b .kind) 5) refl)
+    pub way-start : {u : ℕ} → Last tr short (cell tr b) b u → (reads : Bool) → reads ≡ eqb (at tr b .kind) 5 → (to : ℕ) → to ≡ wayEnd short reads v u b → Ranges tr short b (v - 1) to
+    unfolding wayEnd
+    way-start {u} l reads f to q = rw q (go short refl reads f)
       where
-        go : (t : Bool) → eqb (at tr b .kind) 5 ≡ t → Ranges tr short b (v - 1) (cond t (getD writes (cell tr b) 0) b)
-        go true f = way-read n (eqb→eq (at tr b .kind) 5 (subst T (sym f) tt)) w low
-        go false f = way-all n
+        reading : eqb (at tr b .kind) 5 ≡ true → at tr b .kind ≡ 5
+        reading f = eqb→eq (at tr b .kind) 5 (subst T (sym f) tt)
+
+        go : (s : Bool) → short ≡ s → (t : Bool) → t ≡ eqb (at tr b .kind) 5 → Ranges tr short b (v - 1) (cond s (cond t v (endOf u)) (cond t (endOf u) b))
+        go true p true g = way-upto v (w .high) (λ x m k h. w .after (subst T (sym p) tt) x m k (race-accesses tr x b h) (read-write (reading (sym g)) x h))
+        go true p false g = way-upto (endOf u) (l .high) (λ x m k h. l .none x m k (race-accesses tr x b h) (or-left short (isWrite (at tr x)) (subst T (sym p) tt)))
+        go false p true g = way-upto (endOf u) (l .high) (λ x m k h. l .none x m k (race-accesses tr x b h) (or-right short (isWrite (at tr x)) (read-write (reading (sym g)) x h)))
+        go false p false g = way-upto b (omega arith) (λ x m k. absurd (omega arith))
 
   -- so the pairs found below n are the list's
   all-test : (a b : ℕ) → test (fromOf tr false b) b a ≡ race a b

@@ -1,11 +1,11 @@
 -- Where the first accesses that may race with a second access b are looked for: along the accesses of its cell. `CandidateLaws` proves that none is missed. Definitions
 -- alone. Assumes nothing.
-use Prim.Native.Nat.{ℕ, zero, suc, _-_, _≤_, _<_}
+use Prim.Native.Nat.{ℕ, zero, suc, _+_, _-_, _≤_, _<_}
 use mathlib.Core.Path.{_≡_}
 use mathlib.Core.Logic.{_≢_}
 use mathlib.Core.Bool.{Bool, not, cond, _&&_, _||_}
 use mathlib.Core.List.{List}
-use lib.Dec.{T, eqb}
+use lib.Dec.{T, leb, eqb}
 use lib.ListN.{length, getD}
 use Rattle.records.specs.declared.Record.{Record}
 use Rattle.records.specs.Records.{at, isWrite, eventOf}
@@ -16,6 +16,19 @@ use Rattle.races.specs.Traces.{isAccess, settingOf}
 -- does the record, where v is its cell's start so far, become the start?
 unfoldable pub isStart : Bool → ℕ → Record → Bool
 isStart short v r = isAccess r && (eqb v 0 || (short && isWrite r))
+
+-- Two numbers in one: up to 4,096 a record's number, which is also where accesses end; above, where they end, and 4,097 more.
+unfoldable pub endOf : ℕ → ℕ
+endOf v = cond (leb v 4096) v (v - 4097)
+
+-- The number of a cell's last access b, where it starts the cell or comes after all its accesses; else where they end: past b, if b `raises` that.
+unfoldable pub lastNumber : Bool → Bool → ℕ → ℕ → ℕ
+lastNumber ordered raises b v = cond ordered (b + 1) (cond raises (b + 1) (endOf v) + 4097)
+
+-- Up to where first accesses of b are looked for. In the short list a read races with the start of its cell alone, a write with none past the last access; in the list of all races a read
+-- races with none past the last write.
+unfoldable pub wayEnd : Bool → Bool → ℕ → ℕ → ℕ → ℕ
+wayEnd short reads start v b = cond short (cond reads start (endOf v)) (cond reads (endOf v) b)
 
 module _ (tr : List Record) where
   abbrev pub cell : ℕ → ℕ
@@ -33,9 +46,9 @@ module _ (tr : List Record) where
     pub size : length starts ≡ 1025
     pub tells : (c : ℕ) → c < 1025 → getD starts c 0 ≡ startOf short c i
 
-  -- the event action of the record with number v, 0 for none, happens before that of b
+  -- the event action of the record with number v happens before that of b; 0 and what is above 4,096 are no record's numbers
   unfoldable pub isOrdered : ℕ → ℕ → Bool
-  isOrdered v b = not (eqb v 0) && happensBefore tr (eventOf (at tr (v - 1))) (eventOf (at tr b))
+  isOrdered v b = (not (eqb v 0) && leb v 4096) && happensBefore tr (eventOf (at tr (v - 1))) (eventOf (at tr b))
 
   -- the accesses of a cell from its start on, before i, are in event actions that happen before e
   pub record Upto (short : Bool) (c i e : ℕ) : Type 0 where
@@ -45,48 +58,35 @@ module _ (tr : List Record) where
   abbrev pub Quiet : Bool → ℕ → Type 0
   Quiet short b = Upto short (cell b) b (eventOf (at tr b))
 
-  -- v is the number of the record before i whose event action comes after those accesses of the cell, 0 where none is known
+  -- v is the number of the record before i whose event action comes after those accesses of the cell, 0 for none; above 4,096 none is known to. From where v says on, no
+  -- record accesses the cell; in the list of all races, none writes it
   pub record Last (short : Bool) (c i v : ℕ) : Type 0 where
-    pub high : v ≤ i
-    pub upto : v ≢ 0 → Upto short c i (eventOf (at tr (v - 1)))
+    pub high : endOf v ≤ i
+    pub upto : v ≤ 4096 → v ≢ 0 → Upto short c i (eventOf (at tr (v - 1)))
+    pub none : (x : ℕ) → endOf v ≤ x → x < i → T (accesses c x) → T (short || isWrite (at tr x)) → ⊥
 
   pub record Lasts (short : Bool) (i : ℕ) (lasts : List ℕ) : Type 0 where
     pub size : length lasts ≡ 1025
     pub tells : (c : ℕ) → c < 1025 → Last short c i (getD lasts c 0)
 
-  -- after the record with the number that a cell has, before b, no record writes the cell
-  pub record Ends (b : ℕ) (ends : List ℕ) : Type 0 where
-    pub size : length ends ≡ 1025
-    pub high : (c : ℕ) → c < 1025 → getD ends c 0 ≤ b
-    pub none : (c : ℕ) → c < 1025 → (x : ℕ) → getD ends c 0 ≤ x → x < b → T (isWrite (at tr x)) → cell x ≡ c → ⊥
+  -- may record i race with an access of cell c? With one that reads, only if it writes
+  unfoldable pub mayRace : Bool → ℕ → ℕ → Bool
+  mayRace reads c i = eqb (cell i) c && (not reads || isWrite (at tr i))
 
-  -- from a on to r, past no access of a's cell: a record before b with that cell, or b
-  pub record NextAccess (b a r : ℕ) : Type 0 where
+  -- from a on to r, past no such record
+  pub record NextAccess (reads : Bool) (c to a r : ℕ) : Type 0 where
+    pub ahead : a < r
+    pub high : r ≤ to
+    pub none : (x : ℕ) → a < x → x < r → T (mayRace reads c x) → ⊥
+
+  -- from a on to r, not past b, past no record that races with b
+  pub record Jump (b a r : ℕ) : Type 0 where
     pub ahead : a < r
     pub high : r ≤ b
-    pub same : r < b → cell r ≡ cell a
-    pub none : (x : ℕ) → a < x → x < r → T (accesses (cell a) x) → ⊥
-
-  -- a stands on the way to b: b itself, or a record before b with b's cell
-  pub record On (b a : ℕ) : Type 0 where
-    pub high : a ≤ b
-    pub same : a < b → cell a ≡ cell b
-
-  -- on that way from a on to r, past no record that races with b
-  pub record Jump (b a r : ℕ) : Type 0 where
-    pub on : On b r
-    pub ahead : a < r
     pub none : (x : ℕ) → a < x → x < r → T (raceb (settingOf tr) x b) → ⊥
 
   -- the way to b goes from `from` on, and from `to` on no record races with b
   pub record Range (b from to : ℕ) : Type 0 where
-    pub on : On b from
+    pub low : from ≤ b
     pub high : to ≤ b
     pub none : (x : ℕ) → to ≤ x → x < b → T (raceb (settingOf tr) x b) → ⊥
-
-  -- the first on that way that races with b, or one from `to` on
-  pub record FirstRace (b from to r : ℕ) : Type 0 where
-    pub on : On b r
-    pub low : from ≤ r
-    pub none : (x : ℕ) → from ≤ x → x < r → T (raceb (settingOf tr) x b) → ⊥
-    pub found : r < to → T (raceb (settingOf tr) r b)

@@ -1,20 +1,18 @@
 // Where the first accesses that may race with a second access are looked for: along the accesses of its cell.
-use crate::leading::is_access;
 use crate::racing::is_before;
-use crate::racing::is_race;
-use records::Record;
 use records::access;
 ghost use mathlib.Core.Path.{_≡_};
-ghost use mathlib.Core.Bool.{true, false, cond, _||_};
+ghost use mathlib.Core.Bool.{true, cond, _&&_, _||_};
 ghost use Prim.Native.Nat.{_+_, _≤_, _<_};
-ghost use lib.Dec.{T};
+ghost use lib.Dec.{T, eqb};
 ghost use lib.ListN.{length, getD, set};
 ghost use Rattle.records.specs.Bytes.{decode};
 ghost use Rattle.records.specs.Records.{at};
 ghost use Rattle.trace.specs.Reading.{Acceptable};
 ghost use Rattle.records.specs.Marks.{noMarks};
 ghost use Rattle.races.specs.Filled.{Filled};
-ghost use Rattle.races.specs.Candidates.{isStart, isOrdered, Starts, Lasts, Quiet, Ends, NextAccess, Range, FirstRace};
+ghost use Rattle.races.specs.Traces.{isAccess};
+ghost use Rattle.races.specs.Candidates.{isOrdered, endOf, lastNumber, wayEnd, Starts, Lasts, Quiet, mayRace, NextAccess};
 ghost use Rattle.races.specs.ListPass.{Ranges};
 
 // A record number for each cell, none yet.
@@ -43,22 +41,20 @@ fn put_if(table: &mut [u16], test: bool, c: usize, number: u16)
     }
 }
 
-fn is_start(short: bool, start: u16, r: Record) -> bool
-    ensures { λ x. ⌜ x ≡ isStart short start r ⌝ }
+// Does an access of that kind become the start of its cell, where the start so far has that number, 0 for none?
+fn is_start(short: bool, start: u16, kind: u8) -> bool
+    ensures { λ x. ⌜ x ≡ (eqb start 0 || (short && eqb kind 6)) ⌝ }
 {
-    if !is_access(r) {
-        return false;
-    }
     if start == 0 {
         return true;
     }
     if short {
-        return r.kind == 6;
+        return kind == 6;
     }
     false
 }
 
-// Is the access with that number, 0 for none, in an event action that happens before that of record b?
+// Is the access with that number, 0 or above 4,096 for none, in an event action that happens before that of record b?
 fn is_ordered(
     recs: &[u8],
     ranks: &[u16],
@@ -68,19 +64,32 @@ fn is_ordered(
     last: u16,
     b: usize,
 ) -> bool
-    requires { ⌜ Filled (decode (now recs)) (now ranks) (now of) width (now clocks) × (b < length (decode (now recs))) × (last ≤ b) ⌝ }
+    requires { ⌜ Filled (decode (now recs)) (now ranks) (now of) width (now clocks) × (b < length (decode (now recs))) × (last ≤ 4096 → last ≤ b) ⌝ }
     ensures { λ r. ⌜ r ≡ isOrdered (decode (now (recs .entry))) last b ⌝ }
 {
     if last == 0 {
         return false;
     }
+    if 4096 < last {
+        return false;
+    }
     is_before(recs, ranks, of, width, clocks, (last - 1) as usize, b)
 }
 
-// The number of b where b starts its cell or comes after all its accesses from the start on, else 0.
-fn last_number(fresh: bool, quiet: bool, b: usize) -> u16
+// Where the accesses of a cell end that has this number.
+fn end_of(last: u16) -> u16
+    ensures { λ r. ⌜ (r ≡ endOf last) × (r ≤ 61438) ⌝ }
+{
+    if last <= 4096 {
+        return last;
+    }
+    last - 4097
+}
+
+// The number that a cell has after its access b of that kind, and had `last` before.
+fn last_number(fresh: bool, quiet: bool, short: bool, kind: u8, b: usize, last: u16) -> u16
     requires { ⌜ b < 4096 ⌝ }
-    ensures { λ r. ⌜ r ≡ cond (fresh || quiet) (b + 1) 0 ⌝ }
+    ensures { λ r. ⌜ r ≡ lastNumber (fresh || quiet) (short || eqb kind 6) b last ⌝ }
 {
     if fresh {
         return (b + 1) as u16;
@@ -88,10 +97,16 @@ fn last_number(fresh: bool, quiet: bool, b: usize) -> u16
     if quiet {
         return (b + 1) as u16;
     }
-    0
+    if short {
+        return (b + 4098) as u16;
+    }
+    if kind == 6 {
+        return (b + 4098) as u16;
+    }
+    end_of(last) + 4097
 }
 
-// Takes record b into account.
+// Takes access b into account.
 pub(crate) fn note_access(
     recs: &[u8],
     short: bool,
@@ -99,29 +114,43 @@ pub(crate) fn note_access(
     b: usize,
     starts: &mut [u16],
     lasts: &mut [u16],
-    writes: &mut [u16],
 )
-    requires { ⌜ Acceptable (decode (now recs)) × (b < length (decode (now recs))) × (T quiet → Quiet (decode (now recs)) short b) ⌝ }
-    requires { ⌜ Starts (decode (now recs)) short b (now starts) × Lasts (decode (now recs)) short b (now lasts) × Ends (decode (now recs)) b (now writes) ⌝ }
-    ensures { λ u. ⌜ Starts (decode (now (recs .entry))) short (b + 1) (now (starts .exit)) × Lasts (decode (now (recs .entry))) short (b + 1) (now (lasts .exit)) × Ends (decode (now (recs .entry))) (b + 1) (now (writes .exit)) ⌝ }
+    requires { ⌜ Acceptable (decode (now recs)) × (b < length (decode (now recs))) × T (isAccess (at (decode (now recs)) b)) × (T quiet → Quiet (decode (now recs)) short b) ⌝ }
+    requires { ⌜ Starts (decode (now recs)) short b (now starts) × Lasts (decode (now recs)) short b (now lasts) ⌝ }
+    ensures { λ u. ⌜ Starts (decode (now (recs .entry))) short (b + 1) (now (starts .exit)) × Lasts (decode (now (recs .entry))) short (b + 1) (now (lasts .exit)) ⌝ }
 {
-    let r = access::record_at(recs, b);
-    let c = r.second as usize;
-    let fresh = is_start(short, number_at(starts, c), r);
+    let kind = access::kind_at(recs, b);
+    let c = access::second_at(recs, b) as usize;
+    let fresh = is_start(short, number_at(starts, c), kind);
+    let number = last_number(fresh, quiet, short, kind, b, number_at(lasts, c));
     put_if(starts, fresh, c, (b + 1) as u16);
-    put_if(lasts, is_access(r), c, last_number(fresh, quiet, b));
-    put_if(writes, r.kind == 6, c, (b + 1) as u16);
+    put_if(lasts, true, c, number);
 }
 
-// From record a on to the next one that may access its cell, or to b.
-pub(crate) fn next_access(recs: &[u8], a: usize, b: usize) -> usize
-    requires { ⌜ (a < b) × (b < length (decode (now recs))) × (length (decode (now recs)) ≤ 4096) ⌝ }
-    ensures { λ r. ⌜ NextAccess (decode (now (recs .entry))) b a r ⌝ }
+// May record i race with an access of cell c, where `reads` says whether that one reads?
+fn may_race(recs: &[u8], reads: bool, c: u16, i: usize) -> bool
+    ensures { λ r. ⌜ r ≡ mayRace (decode (now (recs .entry))) reads c i ⌝ }
 {
-    let c = access::second_at(recs, a);
+    if access::second_at(recs, i) != c {
+        return false;
+    }
+    if reads {
+        return access::kind_at(recs, i) == 6;
+    }
+    true
+}
+
+// From record a on to the next one that may race with an access of cell c, or to `to`.
+pub(crate) fn next_access(recs: &[u8], a: usize, to: usize, c: u16, reads: bool) -> usize
+    requires { ⌜ (a < to) × (to ≤ length (decode (now recs))) × (length (decode (now recs)) ≤ 4096) ⌝ }
+    ensures { λ r. ⌜ NextAccess (decode (now (recs .entry))) reads c to a r ⌝ }
+{
+    if access::count(recs) < to {
+        return to;
+    }
     let mut i = a + 1;
-    while i < b {
-        if access::second_at(recs, i) == c {
+    while i < to {
+        if may_race(recs, reads, c, i) {
             return i;
         }
         i += 1;
@@ -145,12 +174,17 @@ fn no_way(b: usize, quiet: bool) -> Way
     }
 }
 
-// Up to where: past the last write no record races with a read.
-fn way_end(reads: bool, write: usize, b: usize) -> usize
-    ensures { λ r. ⌜ r ≡ cond reads write b ⌝ }
+fn way_end(short: bool, reads: bool, start: usize, last: u16, b: usize) -> usize
+    ensures { λ r. ⌜ r ≡ wayEnd short reads start last b ⌝ }
 {
+    if short {
+        if reads {
+            return start;
+        }
+        return end_of(last) as usize;
+    }
     if reads {
-        return write;
+        return end_of(last) as usize;
     }
     b
 }
@@ -164,20 +198,16 @@ pub(crate) fn way_to(
     clocks: &[u16],
     starts: &[u16],
     lasts: &[u16],
-    writes: &[u16],
     short: bool,
     b: usize,
 ) -> Way
     requires { ⌜ Filled (decode (now recs)) (now ranks) (now of) width (now clocks) × (b < length (decode (now recs))) ⌝ }
-    requires { ⌜ Starts (decode (now recs)) short b (now starts) × Lasts (decode (now recs)) short b (now lasts) × Ends (decode (now recs)) b (now writes) ⌝ }
+    requires { ⌜ Starts (decode (now recs)) short b (now starts) × Lasts (decode (now recs)) short b (now lasts) ⌝ }
     ensures { λ r. ⌜ Ranges (decode (now (recs .entry))) short b (r .from) (r .to) × (T (r .quiet) → Quiet (decode (now (recs .entry))) short b) ⌝ }
 {
-    let r = access::record_at(recs, b);
-    if !is_access(r) {
-        return no_way(b, false);
-    }
-    let c = r.second as usize;
-    if is_ordered(recs, ranks, of, width, clocks, number_at(lasts, c), b) {
+    let c = access::second_at(recs, b) as usize;
+    let last = number_at(lasts, c);
+    if is_ordered(recs, ranks, of, width, clocks, last, b) {
         return no_way(b, true);
     }
     let start = number_at(starts, c) as usize;
@@ -186,32 +216,7 @@ pub(crate) fn way_to(
     }
     Way {
         from: start - 1,
-        to: way_end(r.kind == 5, number_at(writes, c) as usize, b),
+        to: way_end(short, access::kind_at(recs, b) == 5, start, last, b),
         quiet: false,
     }
-}
-
-// The first record on the way that races with b; past the way where none does.
-pub(crate) fn first_race(
-    recs: &[u8],
-    ranks: &[u16],
-    of: &[u16],
-    width: usize,
-    clocks: &[u16],
-    from: usize,
-    to: usize,
-    b: usize,
-) -> usize
-    requires { ⌜ Filled (decode (now recs)) (now ranks) (now of) width (now clocks) ⌝ }
-    requires { ⌜ Range (decode (now recs)) b from to × (b < length (decode (now recs))) ⌝ }
-    ensures { λ r. ⌜ FirstRace (decode (now (recs .entry))) b from to r ⌝ }
-{
-    let mut a = from;
-    while a < to {
-        if is_race(recs, ranks, of, width, clocks, a, b) {
-            return a;
-        }
-        a = next_access(recs, a, b);
-    }
-    a
 }

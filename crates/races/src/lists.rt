@@ -1,7 +1,6 @@
 // Both lists: for each second access, the first accesses that race with it, counted, then written, then marked.
 use crate::Listing;
 use crate::Summary;
-use crate::candidates::first_race;
 use crate::candidates::next_access;
 use crate::candidates::no_starts;
 use crate::candidates::note_access;
@@ -24,8 +23,8 @@ ghost use Rattle.ranks.specs.Ranks.{noRanks, ranksOf};
 ghost use Rattle.order.specs.Fill.{chainsUsed, noChains};
 ghost use Rattle.races.specs.Lists.{shapeOf, ListReply};
 ghost use Rattle.races.specs.Paper.{listPaper, ListsFilled, Lists};
-ghost use Rattle.races.specs.ListPass.{firsts, pairsBelow, raw, OneRoom, OneWrites, Clear, Room, RoomIf, Writes, WritesAll, Counts, ListsAll};
-ghost use Rattle.races.specs.Candidates.{Range};
+ghost use Rattle.races.specs.ListPass.{fromOf, firsts, pairsBelow, raw, OneRoom, OneWrites, Clear, Room, RoomIf, Writes, WritesAll, Counts, ListsAll};
+ghost use Rattle.races.specs.Candidates.{Range, Starts, Lasts};
 ghost use Rattle.races.specs.Filled.{Filled};
 
 // How many records on the way to b race with b.
@@ -43,13 +42,15 @@ fn count_at(
     requires { ⌜ Range (decode (now recs)) b from to × (b < length (decode (now recs))) ⌝ }
     ensures { λ r. ⌜ (r ≡ length (firsts (decode (now (recs .entry))) from b b)) × (r ≤ b) ⌝ }
 {
+    let c = access::second_at(recs, b);
+    let reads = access::kind_at(recs, b) == 5;
     let mut found = 0;
     let mut a = from;
     while a < to {
         if is_race(recs, ranks, of, width, clocks, a, b) {
             found += 1;
         }
-        a = next_access(recs, a, b);
+        a = next_access(recs, a, to, c, reads);
     }
     found
 }
@@ -109,21 +110,23 @@ fn write_races(
     of: &[u16],
     width: usize,
     clocks: &[u16],
-    low: usize,
+    from: usize,
     to: usize,
     b: usize,
     list: &mut [u16],
     k: usize,
 ) -> usize
-    requires { ⌜ Room (decode (now recs)) (now ranks) (now of) width (now clocks) b low k (now list) ⌝ }
-    requires { ⌜ Range (decode (now recs)) b low to ⌝ }
-    ensures { λ r. ⌜ Writes true (decode (now (recs .entry))) b low k (now (list .entry)) (now (list .exit)) r ⌝ }
+    requires { ⌜ Room (decode (now recs)) (now ranks) (now of) width (now clocks) b from k (now list) ⌝ }
+    requires { ⌜ Range (decode (now recs)) b from to ⌝ }
+    ensures { λ r. ⌜ Writes true (decode (now (recs .entry))) b from k (now (list .entry)) (now (list .exit)) r ⌝ }
 {
+    let c = access::second_at(recs, b);
+    let reads = access::kind_at(recs, b) == 5;
     let mut next = k;
-    let mut a = low;
+    let mut a = from;
     while a < to {
         next = write_race(recs, ranks, of, width, clocks, a, b, list, next);
-        a = next_access(recs, a, b);
+        a = next_access(recs, a, to, c, reads);
     }
     next
 }
@@ -146,14 +149,54 @@ fn list_at(
     requires { ⌜ RoomIf writing (decode (now recs)) b from k (now list) ⌝ }
     ensures { λ r. ⌜ Writes writing (decode (now (recs .entry))) b from k (now (list .entry)) (now (list .exit)) r ⌝ }
 {
-    let low = first_race(recs, ranks, of, width, clocks, from, to, b);
-    if to <= low {
+    if writing {
+        return write_races(recs, ranks, of, width, clocks, from, to, b, list, k);
+    }
+    k + count_at(recs, ranks, of, width, clocks, from, to, b)
+}
+
+// The entries of record b where it is an access, from entry k on, written or only counted; the next entry. Takes the access into account.
+fn list_record(
+    recs: &[u8],
+    ranks: &[u16],
+    of: &[u16],
+    width: usize,
+    clocks: &[u16],
+    starts: &mut [u16],
+    lasts: &mut [u16],
+    b: usize,
+    list: &mut [u16],
+    k: usize,
+    short: bool,
+    writing: bool,
+) -> usize
+    requires { ⌜ Filled (decode (now recs)) (now ranks) (now of) width (now clocks) × (b < length (decode (now recs))) × RoomIf writing (decode (now recs)) b (fromOf (decode (now recs)) short b) k (now list) ⌝ }
+    requires { ⌜ Starts (decode (now recs)) short b (now starts) × Lasts (decode (now recs)) short b (now lasts) ⌝ }
+    ensures { λ r. ⌜ Writes writing (decode (now (recs .entry))) b (fromOf (decode (now (recs .entry))) short b) k (now (list .entry)) (now (list .exit)) r × Starts (decode (now (recs .entry))) short (b + 1) (now (starts .exit)) × Lasts (decode (now (recs .entry))) short (b + 1) (now (lasts .exit)) ⌝ }
+{
+    if access::kind_at(recs, b) < 5 {
         return k;
     }
-    if writing {
-        return write_races(recs, ranks, of, width, clocks, low, to, b, list, k);
+    let way = way_to(recs, ranks, of, width, clocks, starts, lasts, short, b);
+    note_access(recs, short, way.quiet, b, starts, lasts);
+    let from = way.from;
+    let to = way.to;
+    if to <= from {
+        return k;
     }
-    k + count_at(recs, ranks, of, width, clocks, low, to, b)
+    list_at(
+        recs,
+        ranks,
+        of,
+        width,
+        clocks,
+        from,
+        to,
+        b,
+        list,
+        k,
+        writing,
+    )
 }
 
 // All entries, written or only counted; their number.
@@ -173,43 +216,22 @@ fn list_all(
     let n = access::count(recs);
     let mut starts = no_starts();
     let mut lasts = no_starts();
-    let mut writes = no_starts();
     let mut k = 0;
     let mut b = 0;
     while b < n {
-        let way = way_to(
+        k = list_record(
             recs,
             ranks,
             of,
             width,
             clocks,
-            &starts,
-            &lasts,
-            &writes,
-            short,
-            b,
-        );
-        k = list_at(
-            recs,
-            ranks,
-            of,
-            width,
-            clocks,
-            way.from,
-            way.to,
+            &mut starts,
+            &mut lasts,
             b,
             list,
             k,
-            writing,
-        );
-        note_access(
-            recs,
             short,
-            way.quiet,
-            b,
-            &mut starts,
-            &mut lasts,
-            &mut writes,
+            writing,
         );
         b += 1;
     }

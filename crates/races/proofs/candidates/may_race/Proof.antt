@@ -1,0 +1,27 @@
+use Rattle.races.specs.Candidates.{mayRace}
+use borrow.Author.Tests.{eq-eqb, ne-eqb}
+use borrow.Author.Needs.{needs}
+use Rattle.races.proofs.candidates.may_race.Statement.{statement}
+use Rattle.races.proofs.candidates.may_race.Tie as tie
+
+second-at-requires : tie.Need-second-at-requires
+second-at-requires c κs = search needs
+
+returns : tie.Need-returns
+unfolding mayRace
+returns c = simp (← c .before .second-at .ensures, ne-eqb _ _ (c .if1 .taken))
+
+kind-at-requires : tie.Need-kind-at-requires
+kind-at-requires c κs = search needs
+
+returns-2 : tie.Need-returns-2
+unfolding mayRace
+returns-2 c = simp (← c .before .before .before .second-at .ensures, eq-eqb _ _ (c .before .before .if1 .left), c .before .if2 .taken, c .kind-at .ensures)
+
+returns-3 : tie.Need-returns-3
+unfolding mayRace
+returns-3 c = simp (← c .before .before .second-at .ensures, eq-eqb _ _ (c .before .if1 .left), c .if2 .left)
+
+pub may-race-spec : {M : Type 1} → statement M
+may-race-spec =
+    tie.close (tie.spec second-at-requires returns kind-at-requires returns-2 returns-3)
