@@ -56,9 +56,6 @@ module _ (tr : List Record) where
   of-accesses : (c i : ℕ) → T (accesses tr c i) → T (isAccess (at tr i)) × (cell tr i ≡ c)
   of-accesses c i h = let p = both (isAccess (at tr i)) (eqb (cell tr i) c) h in (p .0, eqb→eq (cell tr i) c (p .1))
 
-  pub accesses-race : (a b : ℕ) → T (raceb (settingOf tr) a b) → T (accesses tr (cell tr a) b)
-  accesses-race a b h = let r = racing a b h in to-accesses (cell tr a) b (r .second) (sym (r .same))
-
   pub race-accesses : (a b : ℕ) → T (raceb (settingOf tr) a b) → T (accesses tr (cell tr b) a)
   race-accesses a b h = let r = racing a b h in to-accesses (cell tr b) a (r .first) (r .same)
 

@@ -20,7 +20,7 @@ use Rattle.races.specs.Lists.{shapeOf}
 use Rattle.races.specs.Candidates.{Jump, Range}
 use Rattle.races.specs.ListPass.{fromOf, firsts, withSecond, pairsBelow, raw, raws, entryIf, OneWrites, RoomIf, Writes, WritesAll, Ranges}
 use Rattle.races.proofs.CandidateLaws.{racing}
-use Rattle.races.proofs.ListLaws.{firsts-start, firsts-yes, firsts-no, firsts-grow, firsts-skip, firsts-low, firsts-empty, firsts-length, below-none, below-more, below-length}
+use Rattle.races.proofs.ListLaws.{firsts-start, firsts-yes, firsts-no, firsts-grow, firsts-skip, firsts-empty, firsts-length, below-none, below-more, below-length}
 
 pub five-stores : (l : List ℕ) (i a b c d e : ℕ) → set (set (set (set (set l i a) (i + 1) b) (i + 2) c) (i + 3) d) (i + 4) e ≡ sets l i (a ∷ b ∷ c ∷ d ∷ e ∷ [])
 five-stores l i a b c d e =

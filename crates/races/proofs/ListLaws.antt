@@ -83,23 +83,6 @@ module _ (tr : List Record) where
       let e : a + (i - a) ≡ i = omega arith in
       rw e at (upto-skip a (i - a) (test from b) (λ x k m h. n x k (omega arith) (both (leb from x) (race x b) h .1)))
 
-  -- nothing before low: it may as well start there
-  pub firsts-low : (from b low i : ℕ) → from ≤ low → ((x : ℕ) → from ≤ x → x < low → T (race x b) → ⊥) → firsts tr from b i ≡ firsts tr low b i
-  unfolding firsts
-  firsts-low from b low i l n = upto-ext i (test from b) (test low b) (λ a k. equal-tests _ _ (there a) (back a))
-    where
-      there : (a : ℕ) → T (test from b a) → T (test low b a)
-      there a h =
-          let p = both (leb from a) (race a b) h in
-          and (leb low a) (race a b) (go (lt-or-ge a low) (leb→le from a (p .0)) (p .1)) (p .1)
-        where
-          go : (a < low) ⊎ (low ≤ a) → from ≤ a → T (race a b) → T (leb low a)
-          go (inl k) m r = absurd (n a m k r)
-          go (inr k) m r = le→leb low a k
-
-      back : (a : ℕ) → T (test low b a) → T (test from b a)
-      back a h = let p = both (leb low a) (race a b) h in let k = leb→le low a (p .0) in and (leb from a) (race a b) (le→leb from a (omega arith)) (p .1)
-
   -- none at all
   pub firsts-empty : (from b i : ℕ) → ((x : ℕ) → from ≤ x → x < i → T (race x b) → ⊥) → firsts tr from b i ≡ []
   unfolding firsts
@@ -179,9 +162,6 @@ module _ (tr : List Record) where
     range = record { low = omega arith; high = omega arith; none = λ x l k. absurd (omega arith) };
     firsts-are = firsts-empty (fromOf tr short b) b b n ∙ sym (firsts-empty b b b (λ x l k. absurd (omega arith)));
   }
-
-  pub way-no-access : (short : Bool) (b : ℕ) → isAccess (at tr b) ≡ false → Ranges tr short b b b
-  way-no-access short b e = way-none short b (λ x l k h. subst T e (race-access x b h))
 
   pub way-quiet : Acceptable tr → (short : Bool) (b : ℕ) → Quiet tr short b → Ranges tr short b b b
   way-quiet acc short b q = way-none short b (λ x l k h. race-not-le (settingOf tr) (laws acc) x b (race-of (settingOf tr) x b h) (q .tells x (omega arith) k (race-accesses tr x b h)))

@@ -3,7 +3,7 @@ use Rattle.races.proofs.CandidateLaws.{starts-none, lasts-none}
 use Rattle.races.specs.Candidates.{Starts, Lasts}
 use Rattle.records.specs.Bytes.{decode}
 use lib.ListN.{length}
-use Prim.Native.Nat.{_-_, _<_, _≤_}
+use Prim.Native.Nat.{_-_, _<_}
 use native.Mathlib.Omega.{arith}
 use mathlib.Core.Path.{sym}
 use denote.Ref.{now}
