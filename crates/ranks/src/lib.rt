@@ -115,6 +115,9 @@ pub fn ordering_at(recs: &[u8], ranks: &[u16], i: usize) -> Ordering
     ensures { λ r. ⌜ says r ≡ opOf (λ e. getD (now (ranks .entry)) e 0) (at (decode (now (recs .entry))) i) ⌝ }
 {
     let kind = access::kind_at(recs, i);
+    if 4 < kind {
+        return Ordering::Nothing;
+    }
     if kind == 1 {
         return begin_of(rank_of(ranks, access::first_at(recs, i)));
     }

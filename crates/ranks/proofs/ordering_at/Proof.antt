@@ -3,12 +3,22 @@
 use Rattle.ranks.specs.Said.{opOf}
 use borrow.Author.Tests.{eq-eqb, ne-eqb}
 use mathlib.Core.Path.{_∙_}
+use mathlib.Core.Logic.{_≢_}
+use native.Mathlib.Omega.{arith}
 use borrow.Author.Needs.{needs}
 use Rattle.ranks.proofs.ordering_at.Statement.{statement}
 use Rattle.ranks.proofs.ordering_at.Tie as tie
 
 kind-at-requires : tie.Need-kind-at-requires
 kind-at-requires c κs = search needs
+
+returns : tie.Need-returns
+unfolding opOf
+returns c =
+    let one : c .before .kind-at .result ≢ 1 = omega arith in
+    let three : c .before .kind-at .result ≢ 3 = omega arith in
+    let four : c .before .kind-at .result ≢ 4 = omega arith in
+    simp (← c .before .kind-at .ensures, ne-eqb _ _ one, ne-eqb _ _ three, ne-eqb _ _ four)
 
 first-at-requires : tie.Need-first-at-requires
 first-at-requires c κs = search needs
@@ -19,9 +29,9 @@ rank-of-requires c κs = search needs
 begin-of-requires : tie.Need-begin-of-requires
 begin-of-requires c κs = search needs
 
-returns : tie.Need-returns
+returns-2 : tie.Need-returns-2
 unfolding opOf
-returns c = c .begin-of .ensures ∙ simp (← c .before .before .before .before .kind-at .ensures, eq-eqb _ _ (c .before .before .before .if1 .taken), c .before .rank-of .ensures, c .before .before .first-at .ensures)
+returns-2 c = c .begin-of .ensures ∙ simp (← c .before .before .before .before .before .kind-at .ensures, eq-eqb _ _ (c .before .before .before .if2 .taken), c .before .rank-of .ensures, c .before .before .first-at .ensures)
 
 first-at-requires-2 : tie.Need-first-at-requires-2
 first-at-requires-2 c κs = search needs
@@ -38,9 +48,9 @@ rank-of-requires-3 c κs = search needs
 link-of-requires : tie.Need-link-of-requires
 link-of-requires c κs = search needs
 
-returns-2 : tie.Need-returns-2
+returns-3 : tie.Need-returns-3
 unfolding opOf
-returns-2 c = c .link-of .ensures ∙ simp (← c .before .before .before .before .before .before .before .kind-at .ensures, ne-eqb _ _ (c .before .before .before .before .before .before .if1 .left), eq-eqb _ _ (c .before .before .before .before .before .if2 .taken), c .before .before .before .rank-of2 .ensures, c .before .before .before .before .first-at2 .ensures, c .before .rank-of3 .ensures, c .before .before .second-at .ensures)
+returns-3 c = c .link-of .ensures ∙ simp (← c .before .before .before .before .before .before .before .before .kind-at .ensures, ne-eqb _ _ (c .before .before .before .before .before .before .if2 .left), eq-eqb _ _ (c .before .before .before .before .before .if3 .taken), c .before .before .before .rank-of2 .ensures, c .before .before .before .before .first-at2 .ensures, c .before .rank-of3 .ensures, c .before .before .second-at .ensures)
 
 second-at-requires-2 : tie.Need-second-at-requires-2
 second-at-requires-2 c κs = search needs
@@ -57,33 +67,34 @@ rank-of-requires-5 c κs = search needs
 link-of-requires-2 : tie.Need-link-of-requires-2
 link-of-requires-2 c κs = search needs
 
-returns-3 : tie.Need-returns-3
-unfolding opOf
-returns-3 c = c .link-of2 .ensures ∙ simp (← c .before .before .before .before .before .before .before .before .kind-at .ensures, ne-eqb _ _ (c .before .before .before .before .before .before .before .if1 .left), ne-eqb _ _ (c .before .before .before .before .before .before .if2 .left), eq-eqb _ _ (c .before .before .before .before .before .if3 .taken), c .before .before .before .rank-of4 .ensures, c .before .before .before .before .second-at2 .ensures, c .before .rank-of5 .ensures, c .before .before .first-at3 .ensures)
-
 returns-4 : tie.Need-returns-4
 unfolding opOf
-returns-4 c = simp (← c .before .before .before .kind-at .ensures, ne-eqb _ _ (c .before .before .if1 .left), ne-eqb _ _ (c .before .if2 .left), ne-eqb _ _ (c .if3 .left))
+returns-4 c = c .link-of2 .ensures ∙ simp (← c .before .before .before .before .before .before .before .before .before .kind-at .ensures, ne-eqb _ _ (c .before .before .before .before .before .before .before .if2 .left), ne-eqb _ _ (c .before .before .before .before .before .before .if3 .left), eq-eqb _ _ (c .before .before .before .before .before .if4 .taken), c .before .before .before .rank-of4 .ensures, c .before .before .before .before .second-at2 .ensures, c .before .rank-of5 .ensures, c .before .before .first-at3 .ensures)
+
+returns-5 : tie.Need-returns-5
+unfolding opOf
+returns-5 c = simp (← c .before .before .before .before .kind-at .ensures, ne-eqb _ _ (c .before .before .if2 .left), ne-eqb _ _ (c .before .if3 .left), ne-eqb _ _ (c .if4 .left))
 
 pub ordering-at-spec : {M : Type 1} → statement M
 ordering-at-spec =
     tie.close
     (tie.spec
     kind-at-requires
+    returns
     first-at-requires
     rank-of-requires
     begin-of-requires
-    returns
+    returns-2
     first-at-requires-2
     rank-of-requires-2
     second-at-requires
     rank-of-requires-3
     link-of-requires
-    returns-2
+    returns-3
     second-at-requires-2
     rank-of-requires-4
     first-at-requires-3
     rank-of-requires-5
     link-of-requires-2
-    returns-3
-    returns-4)
+    returns-4
+    returns-5)
