@@ -16,8 +16,8 @@ use Rattle.order.specs.Filling.{State, start, choose, merge, enter, next
 use Rattle.coverage.proofs.Tests.{decide-eq}
 use Rattle.order.proofs.Tests.{decide-lt}
 use Rattle.order.proofs.ScheduleLaws.{begins-suc, linked-suc, begins-mono, linked-exact, begin-next, link-between, link-after}
-use Rattle.order.proofs.ChainLaws.{used-zero, used-suc, used-le-self, members-zero, members-suc, members-le, needs-at, needs-none}
-use Rattle.order.proofs.ClockLaws.{largest-in, largest-le, entry-law, entry-le, chain-merged}
+use Rattle.order.proofs.ChainLaws.{used-zero, used-suc, used-mono, used-le-self, members-zero, members-suc, members-le, needs-at, needs-none}
+use Rattle.order.proofs.ClockLaws.{largest-in, largest-le, entry-law, entry-zero, entry-le, chain-merged}
 
 -- the largest value depends on the members of the list alone
 largest-same : (ps qs : List ℕ) (f : ℕ → ℕ) → ((p : ℕ) → p ∈ ps → p ∈ qs) → ((p : ℕ) → p ∈ qs → p ∈ ps) → largest ps f ≡ largest qs f
@@ -177,6 +177,12 @@ module _ (l : Links) (fw : Forward l) (op : ℕ → Op) (n : ℕ) (w : Ordered o
   -- and in the end every row is its event action's clock row
   pub filled-rows : (u c : ℕ) → u < begins op n → after op n .rows u c ≡ entry l u c
   filled-rows u c h = filled n (omega arith) .done u c h
+
+  -- a row that has begun is 0 past the chains taken
+  pub past-chains : (i : ℕ) → i ≤ n → (u c : ℕ) → u < begins op i → after op i .chains ≤ c → after op i .rows u c ≡ 0
+  past-chains i h u c k g =
+      let f = filled i h in
+      f .done u c k ∙ entry-zero l fw u c (omega (arith, f .taken, used-mono (leq l) (suc u) (begins op i) k))
 
   -- all numbers of the pass are at most the number of begins
   rows-le-at : (i : ℕ) → i ≤ n → (u c : ℕ) → (u < begins op i) ⊎ (begins op i ≤ u) → after op i .rows u c ≤ begins op i

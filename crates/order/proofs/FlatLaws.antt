@@ -15,6 +15,7 @@ use Rattle.ranks.specs.Said.{Op}
 use Rattle.order.specs.Schedule.{begins, Ordered, Makes}
 use Rattle.order.specs.Filling.{State, merge, enter, after, mergeAt, mergeFrom, mergeRow, tick}
 use Rattle.coverage.proofs.Tests.{decide-eq}
+use Rattle.order.proofs.Tests.{decide-lt}
 use Rattle.order.proofs.RowLaws.{SameBut, same-but, flat-length, flat-at, flat-same, flat-set, place}
 use Rattle.order.proofs.FillLaws.{merge-other, merge-own, enter-other, enter-own, filled-rows}
 
@@ -31,22 +32,22 @@ edit-row r p u c v d n = rw (ne-eqb v u n)
 edit-column : (r : ℕ → ℕ → ℕ) (p u c v d : ℕ) → d ≢ c → edit r p u c v d ≡ r v d
 edit-column r p u c v d n = rw (ne-eqb d c n, and-false (eqb v u))
 
--- merging as a loop makes it, from entry c up to the width
+-- merging as a loop makes it, from entry c up to entry k
 module _ (w p u c : ℕ) (cs : List ℕ) where
   pub merge-length : length (mergeAt w p u c cs) ≡ length cs
   unfolding mergeAt
   merge-length = length-set cs (u * w + c) (max (getD cs (u * w + c) 0) (getD cs (p * w + c) 0))
 
-  pub merge-next : c < w → mergeFrom w p u c (w - c) cs ≡ mergeFrom w p u (c + 1) (w - (c + 1)) (mergeAt w p u c cs)
+  pub merge-next : (k : ℕ) → c < k → mergeFrom w p u c (k - c) cs ≡ mergeFrom w p u (c + 1) (k - (c + 1)) (mergeAt w p u c cs)
   unfolding mergeFrom
-  merge-next h =
-      let k : w - c ≡ suc (w - suc c) = omega arith in
+  merge-next k h =
+      let i : k - c ≡ suc (k - suc c) = omega arith in
       let j : c + 1 ≡ suc c = omega arith in
-      rw (k, j)
+      rw (i, j)
 
-  pub merge-over : w ≤ c → mergeFrom w p u c (w - c) cs ≡ cs
+  pub merge-over : (k : ℕ) → k ≤ c → mergeFrom w p u c (k - c) cs ≡ cs
   unfolding mergeFrom
-  merge-over h = let k : w - c ≡ 0 = omega arith in rw k
+  merge-over k h = let i : k - c ≡ 0 = omega arith in rw i
 
 module _ (w m : ℕ) (rest : List ℕ) where
   pub flat-read : (r : ℕ → ℕ → ℕ) (u c : ℕ) → u < m → c < w → getD (flat w m r ++ rest) (u * w + c) 0 ≡ r u c
@@ -82,21 +83,25 @@ module _ (w m : ℕ) (rest : List ℕ) where
       off d h (inl e) = rw e (f .on c (omega arith) ∙ sym (edit-own r p u c))
       off d h (inr k) = f .off d (omega arith) ∙ sym (edit-column r p u c u d k)
 
+  -- row p is 0 past the k entries, so there is nothing more to merge
   merge-from :
-      (p u : ℕ) → p < m → u < m → p ≢ u → (k c : ℕ) (r s : ℕ → ℕ → ℕ) → c + k ≡ w → Merges p u c r s →
+      (p u : ℕ) → p < m → u < m → p ≢ u → (k c : ℕ) (r s : ℕ → ℕ → ℕ) → c + k ≤ w → ((d : ℕ) → c + k ≤ d → r p d ≡ 0) → Merges p u c r s →
       mergeFrom w p u c k (flat w m r ++ rest) ≡ flat w m s ++ rest
   unfolding mergeFrom
-  merge-from p u h i n zero c r s e f = ap (λ cs. cs ++ rest) (flat-same w m r s (λ v d a b. same v d b (decide-eq v u)))
+  merge-from p u h i n zero c r s e z f = ap (λ cs. cs ++ rest) (flat-same w m r s (λ v d a b. same v d (decide-eq v u) (decide-lt d c)))
     where
-      same : (v d : ℕ) → d < w → (v ≡ u) ⊎ (v ≢ u) → r v d ≡ s v d
-      same v d b (inl j) = rw j (sym (f .off d (omega arith)))
-      same v d b (inr j) = sym (f .else v d j)
-  merge-from p u h i n (suc k) c r s e f =
+      same : (v d : ℕ) → (v ≡ u) ⊎ (v ≢ u) → (d < c) ⊎ (c ≤ d) → r v d ≡ s v d
+      same v d (inl j) (inl b) = rw j (sym (f .off d b))
+      same v d (inl j) (inr b) = rw j (omega (arith, f .on d b, z d (omega arith)))
+      same v d (inr j) b = sym (f .else v d j)
+  merge-from p u h i n (suc k) c r s e z f =
       rw (merge-at r p u c h i (omega arith))
-      (merge-from p u h i n k (suc c) (edit r p u c) s (omega arith) (merges-next p u c r s n f))
+      (merge-from p u h i n k (suc c) (edit r p u c) s (omega arith) (λ d g. edit-row r p u c p d n ∙ z d (omega arith)) (merges-next p u c r s n f))
 
-  pub merge-row : (s : State) (p u : ℕ) → p < m → u < m → p ≢ u → mergeRow w p u (flat w m (s .rows) ++ rest) ≡ flat w m (merge s p u .rows) ++ rest
-  merge-row s p u h k n = merge-from p u h k n w 0 (s .rows) (merge s p u .rows) (omega arith) (record {
+  pub merge-row :
+      (s : State) (k p u : ℕ) → k ≤ w → ((c : ℕ) → k ≤ c → s .rows p c ≡ 0) → p < m → u < m → p ≢ u →
+      mergeRow w k p u (flat w m (s .rows) ++ rest) ≡ flat w m (merge s p u .rows) ++ rest
+  merge-row s k p u g z h i n = merge-from p u h i n k 0 (s .rows) (merge s p u .rows) (omega arith) (λ d a. z d (omega arith)) (record {
     on = λ d a. merge-own s p u d;
     off = λ d a. absurd (omega arith);
     else = λ v d a. merge-other s p u v d a;

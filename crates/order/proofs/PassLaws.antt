@@ -30,7 +30,7 @@ use Rattle.order.specs.HappensBefore.{opAt, traceLinks}
 use Rattle.order.specs.Fill.{eventsIn, beginPosition, shortRow, chainsUsed, chainTable, traceClocks, noChains}
 use Rattle.order.proofs.ScheduleLaws.{begins-zero, begins-suc, begins-mono, begin-next, link-between, links-made}
 use Rattle.order.proofs.RowLaws.{flat-length, table-length}
-use Rattle.order.proofs.FillLaws.{filled, chosen, rows-le, sizes-le, short-at, wide-enough}
+use Rattle.order.proofs.FillLaws.{filled, chosen, past-chains, rows-le, sizes-le, short-at, wide-enough}
 use Rattle.order.proofs.FlatLaws.{flat-read}
 use Rattle.order.proofs.TrackLaws.{Tracks, tracks-start, tracks-link, choose-is, tracks-begin, tracks-end}
 use Rattle.order.proofs.TraceOrder.{counted, counted-passes, ops-begins, ops-ordered, op-kind, forward-links, link-target}
@@ -101,7 +101,7 @@ module _ {tr : List Record} (a : Acceptable tr) (w : ℕ) (rest : List ℕ) wher
   passing-room i s h p = go (op i) refl
     where
       go : (o : Op) → op i ≡ o → Room w o s
-      go (link q u) e = let b = link-below i q u h e in (b .0, row-fits u (length (s .clocks)) (b .1) (clocks-room p))
+      go (link q u) e = let b = link-below i q u h e in (b .0, p .tracks .chains-fit, row-fits u (length (s .clocks)) (b .1) (clocks-room p))
       go (begin u) e =
           let b = begun-below i u h e in
           let t = p .tracks in
@@ -152,8 +152,10 @@ module _ {tr : List Record} (a : Acceptable tr) (w : ℕ) (rest : List ℕ) wher
       go : (o : Op) → op i ≡ o → turnRows w o s .chains ≤ w → Passing (suc i) (turnRows w o s)
       go (link q u) e k =
           let b = link-below i q u h e in
+          let g = link-between op n (ops-ordered a) i q u h e in
+          let z : (c : ℕ) → after op i .chains ≤ c → after op i .rows q c ≡ 0 = λ c k. past-chains l (forward-links a) op n (ops-ordered a) (links-made op n) i (omega arith) q c (g .0) k in
           record {
-            tracks = rw (after-next i (link q u) e) (tracks-link w m rest (after op i) (s .clocks) (s .sizes) (s .chains) (p .tracks) q u (omega arith) (b .1) (λ z. omega (arith, b .0)));
+            tracks = rw (after-next i (link q u) e) (tracks-link w m rest (after op i) (s .clocks) (s .sizes) (s .chains) (p .tracks) q u z (omega arith) (b .1) (λ z. omega (arith, b .0)));
             of-are = rw (begins-suc op i (link q u) e) (p .of-are);
           }
       go (begin u) e k = rw (chosen-is i u s h e p) (begun u e (lt-or-ge (chainOf l u) w) (rw (chosen-is i u s h e p) at k))

@@ -40,10 +40,12 @@ module _ (w m : ℕ) (rest : List ℕ) where
   }
 
   module _ (s : State) (cs sizes : List ℕ) (chains : ℕ) (t : Tracks s cs sizes chains) where
-    pub tracks-link : (p u : ℕ) → p < m → u < m → p ≢ u → Tracks (merge s p u) (mergeRow w p u cs) sizes chains
+    pub tracks-link :
+        (p u : ℕ) → ((c : ℕ) → s .chains ≤ c → s .rows p c ≡ 0) → p < m → u < m → p ≢ u →
+        Tracks (merge s p u) (mergeRow w chains p u cs) sizes chains
     unfolding merge
-    tracks-link p u h k n = record {
-      clocks-are = ap (mergeRow w p u) (t .clocks-are) ∙ merge-row w m rest s p u h k n;
+    tracks-link p u z h k n = record {
+      clocks-are = ap (mergeRow w chains p u) (t .clocks-are) ∙ merge-row w m rest s chains p u (t .chains-fit) (λ c a. z c (omega (arith, t .chains-are))) h k n;
       sizes-are = t .sizes-are;
       sizes-room = t .sizes-room;
       chains-are = t .chains-are;

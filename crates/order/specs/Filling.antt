@@ -50,8 +50,8 @@ unfoldable pub after : (ℕ → Op) → ℕ → State
 after op zero = start
 after op (suc i) = next (after op i) (op i)
 
--- The same in flat clocks of a width: entry c of row p merged into row u, then the k entries from c on, then all; 1 added; and the
--- chain chosen, where `sizes` lists the members of each chain.
+-- The same in flat clocks of a width: entry c of row p merged into row u, then the k entries from c on, then those of the chains taken,
+-- past which every row is 0; 1 added; and the chain chosen, where `sizes` lists the members of each chain.
 unfoldable pub mergeAt : ℕ → ℕ → ℕ → ℕ → List ℕ → List ℕ
 mergeAt width p u c cs = set cs (u * width + c) (max (getD cs (u * width + c) 0) (getD cs (p * width + c) 0))
 
@@ -59,8 +59,8 @@ unfoldable pub mergeFrom : ℕ → ℕ → ℕ → ℕ → ℕ → List ℕ → 
 mergeFrom width p u c zero cs = cs
 mergeFrom width p u c (suc k) cs = mergeFrom width p u (suc c) k (mergeAt width p u c cs)
 
-abbrev pub mergeRow : ℕ → ℕ → ℕ → List ℕ → List ℕ
-mergeRow width p u cs = mergeFrom width p u 0 width cs
+abbrev pub mergeRow : ℕ → ℕ → ℕ → ℕ → List ℕ → List ℕ
+mergeRow width chains p u cs = mergeFrom width p u 0 chains cs
 
 unfoldable pub tick : ℕ → ℕ → ℕ → List ℕ → List ℕ
 tick width u c cs = set cs (u * width + c) (getD cs (u * width + c) 0 + 1)

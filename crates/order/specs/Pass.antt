@@ -37,7 +37,7 @@ beginRow w u s = enterRow w u s (chooseIn w u (s .clocks) (s .sizes) (s .chains)
 
 -- one record's part in it
 unfoldable pub turnRows : ℕ → Op → Rows → Rows
-turnRows w (link p u) s = record { clocks = mergeRow w p u (s .clocks); sizes = s .sizes; of = s .of; chains = s .chains }
+turnRows w (link p u) s = record { clocks = mergeRow w (s .chains) p u (s .clocks); sizes = s .sizes; of = s .of; chains = s .chains }
 turnRows w (begin u) s = beginRow w u s
 turnRows w other s = s
 
@@ -51,7 +51,7 @@ pub record RoomToBegin (w u : ℕ) (s : Rows) : Type 0 where
   pub few-members : (c : ℕ) → c < w → getD (s .sizes) c 0 < 65535
 
 abbrev pub Room : ℕ → Op → Rows → Type 0
-Room w (link p u) s = (p < u) × (u * w + w ≤ length (s .clocks))
+Room w (link p u) s = (p < u) × (s .chains ≤ w) × (u * w + w ≤ length (s .clocks))
 Room w (begin u) s = RoomToBegin w u s
 Room w other s = Unit {0}
 

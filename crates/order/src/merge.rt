@@ -4,26 +4,33 @@ ghost use Prim.Native.Nat.{_+_, _*_, _≤_, _<_, max};
 ghost use lib.ListN.{length, getD, set};
 ghost use Rattle.order.specs.Filling.{mergeRow, tick, chooseIn};
 
+fn larger(x: u16, y: u16) -> u16
+    ensures { λ r. ⌜ r ≡ max x y ⌝ }
+{
+    if x < y {
+        return y;
+    }
+    x
+}
+
 // One entry of a row becomes at least the value.
 fn raise(row: &mut [u16], c: usize, value: u16)
     requires { do ⌜ c < (← ⟦row.len()⟧) ⌝ }
     ensures { λ r. ⌜ now (row .exit) ≡ set (now (row .entry)) c (max (getD (now (row .entry)) c 0) value) ⌝ }
 {
-    if row[c] < value {
-        row[c] = value;
-    }
+    row[c] = larger(row[c], value);
 }
 
-// Row p is merged into row u, entry by entry; no other part is written.
-pub(crate) fn merge_row(clocks: &mut [u16], width: usize, p: usize, u: usize)
-    requires { do ⌜ (p < u) × (u * width + width ≤ (← ⟦clocks.len()⟧)) ⌝ }
-    ensures { λ r. ⌜ now (clocks .exit) ≡ mergeRow width p u (now (clocks .entry)) ⌝ }
+// Row p is merged into row u at the chains taken so far; no other part is written.
+pub(crate) fn merge_row(clocks: &mut [u16], width: usize, chains: usize, p: usize, u: usize)
+    requires { do ⌜ (p < u) × (chains ≤ width) × (u * width + width ≤ (← ⟦clocks.len()⟧)) ⌝ }
+    ensures { λ r. ⌜ now (clocks .exit) ≡ mergeRow width chains p u (now (clocks .entry)) ⌝ }
 {
     let a = u * width;
     let e = a + width;
     let b = p * width;
     let mut c = 0;
-    while c < width {
+    while c < chains {
         let value = clocks[b + c];
         raise(&mut clocks[a..e], c, value);
         c += 1;

@@ -64,7 +64,7 @@ fn turn(
     let said = ranks::ordering_at(recs, ranks, i);
     match said {
         Ordering::Link(p, u) => {
-            merge::merge_row(clocks, width, p as usize, u as usize);
+            merge::merge_row(clocks, width, chains, p as usize, u as usize);
             chains
         }
         Ordering::Begin(u) => begin_row(clocks, width, u as usize, sizes, of, chains),

@@ -12,11 +12,11 @@ use Rattle.order.proofs.merge.merge_row.Statement.{statement}
 use Rattle.order.proofs.merge.merge_row.Tie as tie
 
 abbrev Inv-loop : tie.InvT-loop
-Inv-loop clocks₀ width p u a e b c₀ clocks c =
-    (c ≤ width) × (length clocks ≡ length clocks₀) × (b + width ≤ a) × (mergeFrom width p u c (width - c) clocks ≡ mergeRow width p u clocks₀)
+Inv-loop clocks₀ width chains p u a e b c₀ clocks c =
+    (c ≤ chains) × (length clocks ≡ length clocks₀) × (b + width ≤ a) × (mergeFrom width p u c (chains - c) clocks ≡ mergeRow width chains p u clocks₀)
 
 abbrev μ-loop : tie.MeasureT-loop
-μ-loop clocks₀ width p u a e b c₀ clocks c = width - c
+μ-loop clocks₀ width chains p u a e b c₀ clocks c = chains - c
 
 mul-a : tie.Need-mul-a Inv-loop μ-loop
 mul-a c = omega arith
@@ -28,7 +28,7 @@ mul-b : tie.Need-mul-b Inv-loop μ-loop
 mul-b c = omega (arith, mul-le-mul-right (c .before .args .width) (c .before .pre .0), suc-mul (c .before .args .p) (c .before .args .width))
 
 loop-holds : tie.Need-loop-holds Inv-loop μ-loop
-loop-holds c = (omega arith, refl, omega (arith, mul-le-mul-right (c .before .args .width) (c .before .pre .0), suc-mul (c .before .args .p) (c .before .args .width)), let e : c .before .args .width - 0 ≡ c .before .args .width = omega arith in rw e)
+loop-holds c = (omega arith, refl, omega (arith, mul-le-mul-right (c .before .args .width) (c .before .pre .0), suc-mul (c .before .args .p) (c .before .args .width)), let e : c .before .args .chains - 0 ≡ c .before .args .chains = omega arith in rw e)
 
 add-value : tie.Need-add-value Inv-loop μ-loop
 add-value c = omega arith
@@ -63,13 +63,13 @@ loop-less c = omega arith
 loop-again : tie.Need-loop-again Inv-loop μ-loop
 loop-again c =
     let step = merged-at (c .before .before .before .before .before .before .before .before .args .width) (c .before .before .before .before .before .before .before .before .args .p) (c .before .before .before .before .before .before .before .before .args .u) (c .before .before .before .before .before .before .loop .c) (c .before .before .before .before .before .before .loop .clocks) (c .before .before .raise .last .0) (omega arith) (omega arith) (c .before .before .raise .ensures) in
-    (omega arith, ap length step ∙ (merge-length _ _ _ _ _ ∙ c .before .before .before .before .before .before .loop .inv .1), c .before .before .before .before .before .before .loop .inv .2, rw step (sym (merge-next _ _ _ _ _ (omega arith)) ∙ c .before .before .before .before .before .before .loop .inv .3))
+    (omega arith, ap length step ∙ (merge-length _ _ _ _ _ ∙ c .before .before .before .before .before .before .loop .inv .1), c .before .before .before .before .before .before .loop .inv .2, rw step (sym (merge-next _ _ _ _ _ _ (omega arith)) ∙ c .before .before .before .before .before .before .loop .inv .3))
 
 same-length : tie.Need-same-length Inv-loop μ-loop
 same-length c = omega arith
 
 returns : tie.Need-returns Inv-loop μ-loop
-returns c = sym (merge-over _ _ _ _ _ (omega arith)) ∙ c .before .loop .inv .3
+returns c = sym (merge-over _ _ _ _ _ _ (omega arith)) ∙ c .before .loop .inv .3
 
 pub merge-row-spec : {M : Type 1} → statement M
 merge-row-spec =
