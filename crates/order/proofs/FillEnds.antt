@@ -58,9 +58,9 @@ module _ (tr : List Record) (a : Acceptable tr) (events width : ℕ) (ee : event
       unfolding clocksAfterTrace
       short-clocks cs₃ e = rw (space, ne-eqb (shortRow tr width) events none) (e ∙ ap (λ r. replicate (events * width) 0 ++ r) rest-of)
 
-      pub ends-short : (cs₃ of₃ : List ℕ) → cs₃ ≡ replicate (events * width) 0 ++ drop (events * width) cs₂ → of₃ ≡ noChains → (r : Filling) → fillPaper r ≡ refused 23 (position + 1) → FillsTrace tr events width cs cs₃ r of₃
+      pub ends-short : (cs₃ of₃ all : List ℕ) → cs₃ ≡ replicate (events * width) 0 ++ drop (events * width) cs₂ → of₃ ≡ noChains → all ≡ ranksOf tr → (r : Filling) → fillPaper r ≡ refused 23 (position + 1) → FillsTrace tr events width cs cs₃ r of₃ all
       unfolding chainsAfterReply
-      ends-short cs₃ of₃ e o r q = record { answer = q ∙ sym short-reply; clocks-after = short-clocks cs₃ e; chains-after = rw short-reply o }
+      ends-short cs₃ of₃ all e o k r q = record { answer = q ∙ sym short-reply; clocks-after = short-clocks cs₃ e; chains-after = rw short-reply o; ranks-after = k }
 
     -- the rows are filled
     module _ (h : length tr ≤ position) where
@@ -81,5 +81,5 @@ module _ (tr : List Record) (a : Acceptable tr) (events width : ℕ) (ee : event
       unfolding chainsAfterReply
       whole-chains = rw whole-reply (p .whole enough .of-are)
 
-      pub ends-whole : (r : Filling) → fillPaper r ≡ filled chains → FillsTrace tr events width cs cs₂ r of
-      ends-whole r q = record { answer = q ∙ sym whole-reply; clocks-after = whole-clocks; chains-after = whole-chains }
+      pub ends-whole : (all : List ℕ) → all ≡ ranksOf tr → (r : Filling) → fillPaper r ≡ filled chains → FillsTrace tr events width cs cs₂ r of all
+      ends-whole all k r q = record { answer = q ∙ sym whole-reply; clocks-after = whole-clocks; chains-after = whole-chains; ranks-after = k }

@@ -13,20 +13,21 @@ use Rattle.records.specs.declared.Trace.{Trace}
 use Rattle.records.specs.Bytes.{part}
 use Rattle.trace.specs.Reading as reading
 use Rattle.trace.specs.Reading.{Reply, recordsIn, readReply}
+use Rattle.ranks.specs.Ranks.{ranksOf}
 use Rattle.order.specs.declared.Filling.{Filling}
 use Rattle.order.specs.Fill.{refused, demand, spaceFor, fillTrace, fillRead, fillReply, pickList, clocksAfterTrace, clocksAfterRead, clocksAfter, noChains, chainsAfterReply}
-use Rattle.order.specs.Prepare.{prepareTrace, prepareRead, prepareReply, clocksPreparedRead, clocksPrepared, chainsPreparedRead, chainsPrepared, noTrace, pickTrace, tracePreparedRead, tracePrepared}
+use Rattle.order.specs.Prepare.{prepareTrace, prepareRead, prepareReply, clocksPreparedRead, clocksPrepared, chainsPreparedRead, chainsPrepared, ranksPreparedRead, ranksPrepared, noTrace, pickTrace, tracePreparedRead, tracePrepared}
 use Rattle.order.specs.Paper.{fillPaper, Fills, FillsTrace, Prepares}
 use Rattle.order.proofs.EntryLaws.{read-acceptable, read-events}
 use Rattle.order.proofs.TableLaws.{events-few}
 
 -- 1 to 10
-pub unread : (b : List ℕ) (w room : ℕ) (cs of : List ℕ) (n p : ℕ) → readReply b ≡ reading.refused n p → (r : Filling) (t : Trace) → fillPaper r ≡ refused n p → t ≡ noTrace → of ≡ noChains → Prepares b w room cs cs of r t
-unfolding prepareReply prepareRead clocksPrepared clocksPreparedRead chainsPrepared chainsPreparedRead tracePrepared tracePreparedRead
-unread b w room cs of n p e r t a i o = record { answer = rw e a; trace-is = rw e i; clocks-after = rw e refl; chains-after = rw e o }
+pub unread : (b : List ℕ) (w room : ℕ) (cs of all : List ℕ) (n p : ℕ) → readReply b ≡ reading.refused n p → (r : Filling) (t : Trace) → fillPaper r ≡ refused n p → t ≡ noTrace → of ≡ noChains → Prepares b w room cs cs of all all r t
+unfolding prepareReply prepareRead clocksPrepared clocksPreparedRead chainsPrepared chainsPreparedRead ranksPrepared ranksPreparedRead tracePrepared tracePreparedRead
+unread b w room cs of all n p e r t a i o = record { answer = rw e a; trace-is = rw e i; clocks-after = rw e refl; chains-after = rw e o; ranks-after = rw e refl }
 
 -- an accepted trace
-module _ (b : List ℕ) (s n m : ℕ) (e : reading.accepted s n m ≡ readReply b) (w room : ℕ) (cs : List ℕ) where
+module _ (b : List ℕ) (s n m : ℕ) (e : reading.accepted s n m ≡ readReply b) (w room : ℕ) (cs all : List ℕ) where
   abbrev tr : List Record
   tr = recordsIn b s n
 
@@ -34,19 +35,20 @@ module _ (b : List ℕ) (s n m : ℕ) (e : reading.accepted s n m ≡ readReply 
   whole = record { start = s; records = n; events = m }
 
   -- the promise, by the records
-  by : (cs′ of : List ℕ) (r : Filling) (t : Trace)
+  by : (cs′ of all′ : List ℕ) (r : Filling) (t : Trace)
       → fillPaper r ≡ prepareTrace tr m w (length cs) room
       → t ≡ pickTrace (spaceFor w m (length cs) && leb m room) whole
       → cs′ ≡ pickList (leb m room) (clocksAfterTrace tr m w cs) cs
       → of ≡ chainsAfterReply tr (prepareTrace tr m w (length cs) room)
-      → Prepares b w room cs cs′ of r t
-  unfolding prepareReply prepareRead clocksPrepared clocksPreparedRead chainsPrepared chainsPreparedRead tracePrepared tracePreparedRead
-  by cs′ of r t a i c o = record { answer = rw (← e) a; trace-is = rw (← e) i; clocks-after = rw (← e) c; chains-after = rw (← e) o }
+      → all′ ≡ pickList (spaceFor w m (length cs) && leb m room) (ranksOf tr) all
+      → Prepares b w room cs cs′ of all all′ r t
+  unfolding prepareReply prepareRead clocksPrepared clocksPreparedRead chainsPrepared chainsPreparedRead ranksPrepared ranksPreparedRead tracePrepared tracePreparedRead
+  by cs′ of all′ r t a i c o k = record { answer = rw (← e) a; trace-is = rw (← e) i; clocks-after = rw (← e) c; chains-after = rw (← e) o; ranks-after = rw (← e) k }
 
   -- 21
-  pub no-space : spaceFor w m (length cs) ≡ false → (of : List ℕ) (r : Filling) (t : Trace) → fillPaper r ≡ refused 21 0 → t ≡ noTrace → of ≡ noChains → Prepares b w room cs cs of r t
+  pub no-space : spaceFor w m (length cs) ≡ false → (of : List ℕ) (r : Filling) (t : Trace) → fillPaper r ≡ refused 21 0 → t ≡ noTrace → of ≡ noChains → Prepares b w room cs cs of all all r t
   unfolding prepareTrace clocksAfterTrace chainsAfterReply demand
-  no-space h of r t a i o = by cs of r t (rw h a) (rw h i) (rw h (same (leb m room))) (rw h o)
+  no-space h of r t a i o = by cs of all r t (rw h a) (rw h i) (rw h (same (leb m room))) (rw h o) (rw h refl)
     where
       same : (x : Bool) → cs ≡ pickList x cs cs
       same true = refl
@@ -54,11 +56,11 @@ module _ (b : List ℕ) (s n m : ℕ) (e : reading.accepted s n m ≡ readReply 
 
   module _ (space : spaceFor w m (length cs) ≡ true) where
     -- 22
-    pub no-room : room < m → (of : List ℕ) (r : Filling) (t : Trace) → fillPaper r ≡ refused 22 0 → t ≡ noTrace → of ≡ noChains → Prepares b w room cs cs of r t
+    pub no-room : room < m → (of : List ℕ) (r : Filling) (t : Trace) → fillPaper r ≡ refused 22 0 → t ≡ noTrace → of ≡ noChains → Prepares b w room cs cs of all all r t
     unfolding prepareTrace chainsAfterReply demand
     no-room h of r t a i o =
         let f = lt-leb m room h in
-        by cs of r t (rw (space, f) a) (rw (space, f) i) (rw f refl) (rw (space, f) o)
+        by cs of all r t (rw (space, f) a) (rw (space, f) i) (rw f refl) (rw (space, f) o) (rw (space, f) refl)
 
     module _ (h : m ≤ room) where
       filling-on : prepareTrace tr m w (length cs) room ≡ fillTrace tr m w (length cs)
@@ -66,11 +68,11 @@ module _ (b : List ℕ) (s n m : ℕ) (e : reading.accepted s n m ≡ readReply 
       filling-on = rw (space, le-leb m room h) refl
 
       -- 23, or the clocks are filled
-      pub passed : (cs′ of : List ℕ) (r : Filling) (t : Trace) (rs : List Record) → rs ≡ tr → FillsTrace rs m w cs cs′ r of → t ≡ whole → Prepares b w room cs cs′ of r t
-      passed cs′ of r t rs q g i =
+      pub passed : (cs′ of all′ : List ℕ) (r : Filling) (t : Trace) (rs : List Record) → rs ≡ tr → FillsTrace rs m w cs cs′ r of all′ → t ≡ whole → Prepares b w room cs cs′ of all all′ r t
+      passed cs′ of all′ r t rs q g i =
           let l = le-leb m room h in
-          let f = subst (λ (x : List Record). FillsTrace x m w cs cs′ r of) q g in
-          by cs′ of r t (f .answer ∙ sym filling-on) (rw (space, l) i) (rw l (f .clocks-after)) (f .chains-after ∙ sym (ap (chainsAfterReply tr) filling-on))
+          let f = subst (λ (x : List Record). FillsTrace x m w cs cs′ r of all′) q g in
+          by cs′ of all′ r t (f .answer ∙ sym filling-on) (rw (space, l) i) (rw l (f .clocks-after)) (f .chains-after ∙ sym (ap (chainsAfterReply tr) filling-on)) (rw (space, l) (f .ranks-after))
 
 -- With room for 1,024 event actions preparing is filling.
 module _ (b : List ℕ) (w : ℕ) where
@@ -89,15 +91,15 @@ module _ (b : List ℕ) (w : ℕ) where
   clocks-are cs (reading.refused n p) e = refl
   clocks-are cs (reading.accepted s n m) e = rw (le-leb m 1024 (few s n m e)) refl
 
-pub fills : (b : List ℕ) (w : ℕ) (cs cs′ of : List ℕ) (r : Filling) (t : Trace) → Prepares b w 1024 cs cs′ of r t → Fills b w cs cs′ r
+pub fills : (b : List ℕ) (w : ℕ) (cs cs′ of all all′ : List ℕ) (r : Filling) (t : Trace) → Prepares b w 1024 cs cs′ of all all′ r t → Fills b w cs cs′ r
 unfolding prepareReply fillReply clocksPrepared clocksAfter
-fills b w cs cs′ of r t p = record {
+fills b w cs cs′ of all all′ r t p = record {
   answer = p .answer ∙ reply-is b w (length cs) (readReply b) refl;
   clocks-after = p .clocks-after ∙ clocks-are b w cs (readReply b) refl;
 }
 
 -- what preparing says of a trace that is refused, and of one that is accepted
-module _ {b : List ℕ} {w room : ℕ} {cs cs′ of : List ℕ} {r : Filling} {t : Trace} (p : Prepares b w room cs cs′ of r t) where
+module _ {b : List ℕ} {w room : ℕ} {cs cs′ of all all′ : List ℕ} {r : Filling} {t : Trace} (p : Prepares b w room cs cs′ of all all′ r t) where
   module _ (n i : ℕ) (e : reading.refused n i ≡ readReply b) where
     pub refused-reply : fillPaper r ≡ refused n i
     unfolding prepareReply prepareRead
@@ -127,3 +129,7 @@ module _ {b : List ℕ} {w room : ℕ} {cs cs′ of : List ℕ} {r : Filling} {t
     pub accepted-chains : of ≡ chainsAfterReply (recordsIn b s n) (prepareTrace (recordsIn b s n) m w (length cs) room)
     unfolding chainsPrepared chainsPreparedRead
     accepted-chains = rw (← e) at (p .chains-after)
+
+    pub accepted-ranks : all′ ≡ pickList (spaceFor w m (length cs) && leb m room) (ranksOf (recordsIn b s n)) all
+    unfolding ranksPrepared ranksPreparedRead
+    accepted-ranks = rw (← e) at (p .ranks-after)

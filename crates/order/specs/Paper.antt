@@ -5,10 +5,11 @@ use mathlib.Core.List.{List}
 use lib.ListN.{length}
 use Rattle.records.specs.declared.Record.{Record}
 use Rattle.records.specs.declared.Trace.{Trace}
+use Rattle.ranks.specs.Ranks.{ranksOf}
 use Rattle.order.specs.declared.Filling.{Filling}
 use Rattle.order.specs.declared.Filling.the-variants.{Filled, Refused}
 use Rattle.order.specs.Fill.{FillReply, refused, filled, fillTrace, fillReply, clocksAfterTrace, clocksAfter, chainsAfterReply}
-use Rattle.order.specs.Prepare.{prepareReply, clocksPrepared, chainsPrepared, tracePrepared}
+use Rattle.order.specs.Prepare.{prepareReply, clocksPrepared, chainsPrepared, ranksPrepared, tracePrepared}
 
 abbrev pub fillPaper : Filling → FillReply
 fillPaper (Filled k) = filled k
@@ -19,15 +20,17 @@ pub record Fills (b : List ℕ) (width : ℕ) (clocks clocks′ : List ℕ) (r :
   pub answer : fillPaper r ≡ fillReply b width (length clocks)
   pub clocks-after : clocks′ ≡ clocksAfter b width clocks
 
--- the same of an accepted trace's records, and the chain of each row
-pub record FillsTrace (tr : List Record) (events width : ℕ) (clocks clocks′ : List ℕ) (r : Filling) (of : List ℕ) : Type 0 where
+-- the same of an accepted trace's records, the chain of each row, and the ranks of all events
+pub record FillsTrace (tr : List Record) (events width : ℕ) (clocks clocks′ : List ℕ) (r : Filling) (of all : List ℕ) : Type 0 where
   pub answer : fillPaper r ≡ fillTrace tr events width (length clocks)
   pub clocks-after : clocks′ ≡ clocksAfterTrace tr events width clocks
   pub chains-after : of ≡ chainsAfterReply tr (fillTrace tr events width (length clocks))
+  pub ranks-after : all ≡ ranksOf tr
 
--- filling for a call with work space of that room: the answer, the trace to go on with, the lent clocks, and the chain of each row
-pub record Prepares (b : List ℕ) (width room : ℕ) (clocks clocks′ of′ : List ℕ) (r : Filling) (t : Trace) : Type 0 where
+-- filling for a call with work space of that room: the answer, the trace to go on with, the lent clocks, the chain of each row, and the ranks of all events
+pub record Prepares (b : List ℕ) (width room : ℕ) (clocks clocks′ of′ all all′ : List ℕ) (r : Filling) (t : Trace) : Type 0 where
   pub answer : fillPaper r ≡ prepareReply b width (length clocks) room
   pub trace-is : t ≡ tracePrepared b width (length clocks) room
   pub clocks-after : clocks′ ≡ clocksPrepared b width room clocks
   pub chains-after : of′ ≡ chainsPrepared b width (length clocks) room
+  pub ranks-after : all′ ≡ ranksPrepared b width (length clocks) room all

@@ -8,6 +8,7 @@ use Rattle.records.specs.declared.Record.{Record}
 use Rattle.records.specs.declared.Trace.{Trace}
 use Rattle.trace.specs.Reading as reading
 use Rattle.trace.specs.Reading.{Reply, recordsIn, readReply}
+use Rattle.ranks.specs.Ranks.{ranksOf}
 use Rattle.order.specs.Fill.{FillReply, refused, filled, demand, beginPosition, shortRow, chainsUsed, spaceFor, pickList, clocksAfterTrace, noChains, chainsAfterReply}
 
 -- an accepted trace of that many event actions: 21, then "22: .. work space shorter in bytes than the number of event actions.", then 23
@@ -39,6 +40,14 @@ chainsPreparedRead b (reading.accepted start n m) width space room = chainsAfter
 
 unfoldable pub chainsPrepared : List ℕ → ℕ → ℕ → ℕ → List ℕ
 chainsPrepared b width space room = chainsPreparedRead b (readReply b) width space room
+
+-- the ranks of all events, for a call that passes 22; else what the table held
+unfoldable pub ranksPreparedRead : List ℕ → Reply → ℕ → ℕ → ℕ → List ℕ → List ℕ
+ranksPreparedRead b (reading.refused n p) width space room all = all
+ranksPreparedRead b (reading.accepted start n m) width space room all = pickList (spaceFor width m space && leb m room) (ranksOf (recordsIn b start n)) all
+
+unfoldable pub ranksPrepared : List ℕ → ℕ → ℕ → ℕ → List ℕ → List ℕ
+ranksPrepared b width space room all = ranksPreparedRead b (readReply b) width space room all
 
 -- the trace that was read, for a call that passes 22; else one with no records and no event actions
 abbrev pub noTrace : Trace

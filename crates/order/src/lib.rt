@@ -24,15 +24,17 @@ pub struct Prepared {
     pub trace: Trace,
 }
 
-// Reads the trace once and fills the lent clocks, for a call that has a work space of `room` bytes: 22 comes between 21 and 23. Gives the chain of each row in `of`.
+// Reads the trace once and fills the lent clocks, for a call that has a work space of `room` bytes: 22 comes between 21 and 23. Gives the chain of each row in `of`, and the
+// ranks of all events in `all` where the call passes 22.
 pub fn prepare(
     bytes: &[u8],
     width: usize,
     room: usize,
     clocks: &mut [u16],
     of: &mut [u16; 1024],
+    all: &mut [u16; 1025],
 ) -> Prepared
-    ensures { λ r. ⌜ Prepares (now (bytes .entry)) width room (now (clocks .entry)) (now (clocks .exit)) (now (of .exit)) (r .answer) (r .trace) ⌝ }
+    ensures { λ r. ⌜ Prepares (now (bytes .entry)) width room (now (clocks .entry)) (now (clocks .exit)) (now (of .exit)) (now (all .entry)) (now (all .exit)) (r .answer) (r .trace) ⌝ }
 {
     clear::clear(of, 1024);
     let reading = trace::read(bytes);
@@ -52,7 +54,7 @@ pub fn prepare(
             place: Operation(0),
         });
     }
-    let answer = rows::fill_rows(access::records(bytes, t), events, width, clocks, of);
+    let answer = rows::fill_rows(access::records(bytes, t), events, width, clocks, of, all);
     Prepared {
         answer: answer,
         trace: t,
@@ -64,5 +66,6 @@ pub fn fill(bytes: &[u8], width: usize, clocks: &mut [u16]) -> Filling
     ensures { λ r. ⌜ Fills (now (bytes .entry)) width (now (clocks .entry)) (now (clocks .exit)) r ⌝ }
 {
     let mut of = rows::no_chains();
-    prepare(bytes, width, 1024, clocks, &mut of).answer
+    let mut all = rows::no_ranks();
+    prepare(bytes, width, 1024, clocks, &mut of, &mut all).answer
 }

@@ -14,6 +14,7 @@ ghost use Prim.Native.Nat.{_≤_};
 ghost use lib.ListN.{length, getD};
 ghost use Rattle.records.specs.Bytes.{decode};
 ghost use Rattle.records.specs.Records.{at};
+ghost use Rattle.ranks.specs.Ranks.{noRanks};
 ghost use Rattle.ranks.specs.Said.{opOf};
 ghost use Rattle.trace.specs.Reading.{Acceptable};
 ghost use Rattle.order.specs.Fill.{eventsIn, noChains, spaceFor};
@@ -109,6 +110,12 @@ fn pass(
     }
 }
 
+pub(crate) fn no_ranks() -> [u16; 1025]
+    ensures { λ r. ⌜ r ≡ noRanks ⌝ }
+{
+    [0; 1025]
+}
+
 pub(crate) fn no_chains() -> [u16; 1024]
     ensures { λ r. ⌜ r ≡ noChains ⌝ }
 {
@@ -142,22 +149,23 @@ pub fn has_space(width: usize, events: usize, space: usize) -> bool
     events <= space / width
 }
 
-// The rows of an accepted trace that has the space for them, and the chain of each row, all 0 after 23.
+// The rows of an accepted trace that has the space for them, the chain of each row, all 0 after 23, and the ranks of all events.
 pub(crate) fn fill_rows(
     recs: &[u8],
     events: usize,
     width: usize,
     clocks: &mut [u16],
     of: &mut [u16],
+    all: &mut [u16; 1025],
 ) -> Filling
     requires { ⌜ Acceptable (decode (now recs)) × (events ≡ eventsIn (decode (now recs))) × (spaceFor width events (length (now clocks)) ≡ true) × (now of ≡ noChains) ⌝ }
-    ensures { λ r. ⌜ FillsTrace (decode (now (recs .entry))) events width (now (clocks .entry)) (now (clocks .exit)) r (now (of .exit)) ⌝ }
+    ensures { λ r. ⌜ FillsTrace (decode (now (recs .entry))) events width (now (clocks .entry)) (now (clocks .exit)) r (now (of .exit)) (now (all .exit)) ⌝ }
 {
     let rows = events * width;
-    let all = ranks::ranks(recs);
+    ranks::fill_ranks(recs, all);
     let mut sizes = no_chains();
     clear(clocks, rows);
-    let passed = pass(recs, &all, clocks, width, &mut sizes, of);
+    let passed = pass(recs, all, clocks, width, &mut sizes, of);
     let position = passed.position;
     if position < access::count(recs) {
         clear(clocks, rows);

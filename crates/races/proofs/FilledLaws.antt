@@ -11,6 +11,7 @@ use lib.Dec.{T, ltb, eqb}
 use lib.ListN.{length, getD, replicate, length-append, length-replicate}
 use Rattle.records.specs.declared.Record.{Record}
 use Rattle.records.specs.Records.{at, eventOf}
+use Rattle.ranks.proofs.RankLaws.{ranks-many}
 use Rattle.order.specs.Clocks.{table, chainOf, compareIn}
 use Rattle.order.specs.HappensBefore.{rank, traceLinks, happensBefore}
 use Rattle.order.specs.Fill.{eventsIn, chainTable}
@@ -45,6 +46,9 @@ module _ {tr : List Record} {ranks of : List ℕ} {width : ℕ} {clocks : List �
   pub of-length : length of ≡ 1024
   unfolding chainTable
   of-length = omega (arith, ap length (f .of-are), length-append (table (eventsIn tr) (chainOf (traceLinks tr))) (replicate (1024 - eventsIn tr) 0), table-length (eventsIn tr) (chainOf (traceLinks tr)), length-replicate {A = ℕ} (1024 - eventsIn tr) 0, events-few (f .acceptable))
+
+  pub ranks-length : length ranks ≡ 1025
+  ranks-length = ap length (f .ranks-are) ∙ ranks-many tr
 
   pub row-room : (x : ℕ) → x < length tr → getD ranks (ev x) 0 - 1 < length of
   row-room x h = omega (arith, rank-is x h, row-inside x h, events-few (f .acceptable), of-length)

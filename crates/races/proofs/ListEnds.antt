@@ -15,7 +15,6 @@ use Rattle.records.specs.declared.Trace.{Trace}
 use Rattle.records.specs.Bytes.{decode, part}
 use Rattle.trace.specs.Reading as reading
 use Rattle.trace.specs.Reading.{Reply, recordsIn, readReply}
-use Rattle.ranks.specs.Ranks.{ranksOf}
 use Rattle.order.specs.Fill as fill
 use Rattle.order.specs.Fill.{shortRow, beginPosition, chainsUsed, spaceFor}
 use Rattle.order.specs.Prepare.{prepareTrace}
@@ -134,7 +133,7 @@ refusal true false z place chains k i next e = cc
 refusal false y z place chains k i next e = cc
 
 -- the trace was prepared, and then the marks of its event actions were taken away
-module _ (b : List ℕ) (short : Bool) (w : ℕ) (cs cs′ work work′ of list : List ℕ) (f : Filling) (t : Trace) (p : Prepares b w (length work) cs cs′ of f t) (cleared : work′ ≡ replicate (t .events) 0 ++ drop (t .events) work) where
+module _ (b : List ℕ) (short : Bool) (w : ℕ) (cs cs′ work work′ of list : List ℕ) (f : Filling) (t : Trace) {all all′ : List ℕ} (p : Prepares b w (length work) cs cs′ of all all′ f t) (cleared : work′ ≡ replicate (t .events) 0 ++ drop (t .events) work) where
   -- 1 to 10
   unread : (n i : ℕ) → reading.refused n i ≡ readReply b → (r : Listing) → listPaper r ≡ refused n i → Lists short b w cs cs′ work work′ list list r
   unfolding listReply listRead clocksRead workRead listAfterRead
@@ -184,7 +183,7 @@ module _ (b : List ℕ) (short : Bool) (w : ℕ) (cs cs′ work work′ of list 
   -- what writing the list asks for, and what it gives
   module _ (chains : ℕ) (z : fillPaper f ≡ fill.filled chains) (recs : List ℕ) (y : recs ≡ part b (t .start) (t .records)) where
     pub record Listable : Type 0 where
-      pub filled : Filled (decode recs) (ranksOf (decode recs)) of w cs′
+      pub filled : Filled (decode recs) all′ of w cs′
       pub clear : Clear (decode recs) (t .events) work′
       pub chains-used : chains ≡ chainsUsed (decode recs)
       pub done : (work″ list′ : List ℕ) (r : Listing) → ListsFilled short (decode recs) (t .events) work′ work″ list list′ r → Lists short b w cs cs′ work work″ list list′ r

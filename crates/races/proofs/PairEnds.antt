@@ -15,7 +15,6 @@ use Rattle.order.specs.declared.Filling.{Filling}
 use Rattle.order.specs.declared.Filling.the-variants.{Filled, Refused}
 use Rattle.order.proofs.Filling.{enum}
 use denote.Enum.Declared.{tagOf, declared}
-use Rattle.ranks.specs.Ranks.{ranksOf}
 use Rattle.order.specs.Fill as fill
 use Rattle.order.specs.Fill.{shortRow, beginPosition, chainsUsed, spaceFor}
 use Rattle.order.specs.Prepare.{prepareTrace}
@@ -77,7 +76,7 @@ refusal true false z place chains k i next e = cc
 refusal false y z place chains k i next e = cc
 
 -- the trace was prepared, and then the marks of its event actions were taken away
-module _ {bytes : List ℕ} {tr : List Record} {events : ℕ} (t : ReadAs bytes tr events) (a b : ℕ) (e : areRecords tr a b ≡ true) (w : ℕ) (cs cs′ work work′ of list : List ℕ) (f : Filling) (x : Trace) (p : Prepares bytes w (length work) cs cs′ of f x) (cleared : work′ ≡ replicate (x .events) 0 ++ drop (x .events) work) where
+module _ {bytes : List ℕ} {tr : List Record} {events : ℕ} (t : ReadAs bytes tr events) (a b : ℕ) (e : areRecords tr a b ≡ true) (w : ℕ) (cs cs′ work work′ of list : List ℕ) (f : Filling) (x : Trace) {all all′ : List ℕ} (p : Prepares bytes w (length work) cs cs′ of all all′ f x) (cleared : work′ ≡ replicate (x .events) 0 ++ drop (x .events) work) where
   abbrev reply : PairReply
   reply = pairTrace tr events w (length cs) (length work) (length list) a b
 
@@ -101,7 +100,7 @@ module _ {bytes : List ℕ} {tr : List Record} {events : ℕ} (t : ReadAs bytes 
   -- the clocks are filled: what asking needs, and what it gives
   module _ (k : ℕ) (z : fillPaper f ≡ fill.filled k) where
     pub record Askable : Type 0 where
-      pub filled : hand.Filled tr (ranksOf tr) of w cs′
+      pub filled : hand.Filled tr all′ of w cs′
       pub inside : b - 1 < length tr
       pub clear : Clear tr events work′
       pub done : (work″ list′ : List ℕ) (r : PairAnswer) → AnswersFilled tr events (a - 1) (b - 1) list list′ r → work″ ≡ work′ → AnswersTrace tr events w cs cs′ work work″ list list′ a b r

@@ -19,7 +19,7 @@ use Rattle.order.specs.Paper.{fillPaper, Prepares}
 use Rattle.order.specs.declared.Filling.{Filling}
 use Rattle.order.proofs.SpaceLaws.{has-room, cleared-length}
 use Rattle.order.proofs.SpaceLaws.{cleared as cleared-zeros}
-use Rattle.order.proofs.PrepareLaws.{refused-trace, accepted-reply, accepted-trace, accepted-clocks, accepted-chains}
+use Rattle.order.proofs.PrepareLaws.{refused-trace, accepted-reply, accepted-trace, accepted-clocks, accepted-chains, accepted-ranks}
 use Rattle.races.specs.Lists.{clocksTrace, workTrace}
 use Rattle.races.specs.ListPass.{Clear}
 use Rattle.races.specs.Filled.{Filled}
@@ -32,7 +32,7 @@ passes true true false place chains k e = absurd (let o : _≡_ {A = ℕ} 0 1 = 
 passes true false z place chains k e = absurd (let o : _≡_ {A = ℕ} 0 1 = cc in omega arith)
 passes false y z place chains k e = absurd (let o : _≡_ {A = ℕ} 0 1 = cc in omega arith)
 
-module _ (work : List ℕ) {b : List ℕ} {w : ℕ} {cs cs′ of : List ℕ} {f : Filling} {t : Trace} (p : Prepares b w (length work) cs cs′ of f t) where
+module _ (work : List ℕ) {b : List ℕ} {w : ℕ} {cs cs′ of all all′ : List ℕ} {f : Filling} {t : Trace} (p : Prepares b w (length work) cs cs′ of all all′ f t) where
   -- the marks that are taken away are in the work space
   pub marks-fit : t .events ≤ length work
   marks-fit = go (readReply b) refl
@@ -92,10 +92,13 @@ module _ (work : List ℕ) {b : List ℕ} {w : ℕ} {cs cs′ of : List ℕ} {f 
       unfolding clocksAfterTrace
       clocks-whole = accepted-clocks p s n m e ∙ rw (passed .space, passed .room, passed .enough) refl
 
-      pub filled-whole : Filled tr (ranksOf tr) of w cs′
+      ranks-whole : all′ ≡ ranksOf tr
+      ranks-whole = accepted-ranks p s n m e ∙ rw (passed .space, passed .room) refl
+
+      pub filled-whole : Filled tr all′ of w cs′
       filled-whole = record {
         acceptable = accepts b s n m e .acceptable;
-        ranks-are = refl;
+        ranks-are = ranks-whole;
         of-are = chains-whole;
         narrow = has-room w m (length cs) (passed .space) .narrow;
         enough = eqb-true (shortRow tr w) m (passed .enough) ∙ events-are;

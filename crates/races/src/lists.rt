@@ -19,7 +19,7 @@ ghost use lib.Dec.{T};
 ghost use lib.ListN.{length};
 ghost use lib.Seq.{sets};
 ghost use Rattle.records.specs.Bytes.{decode};
-ghost use Rattle.ranks.specs.Ranks.{noRanks, ranksOf};
+ghost use Rattle.ranks.specs.Ranks.{noRanks};
 ghost use Rattle.order.specs.Fill.{chainsUsed, noChains};
 ghost use Rattle.races.specs.Lists.{shapeOf, ListReply};
 ghost use Rattle.races.specs.Paper.{listPaper, ListsFilled, Lists};
@@ -317,17 +317,16 @@ fn list_filled(
     width: usize,
     clocks: &[u16],
     of: &[u16],
+    all: &[u16],
     chains: usize,
     work: &mut [u8],
     list: &mut [u16],
     short: bool,
 ) -> Listing
-    requires { ⌜ Filled (decode (now recs)) (ranksOf (decode (now recs))) (now of) width (now clocks) × Clear (decode (now recs)) events (now work) × (chains ≡ chainsUsed (decode (now recs))) ⌝ }
+    requires { ⌜ Filled (decode (now recs)) (now all) (now of) width (now clocks) × Clear (decode (now recs)) events (now work) × (chains ≡ chainsUsed (decode (now recs))) ⌝ }
     ensures { λ r. ⌜ ListsFilled short (decode (now (recs .entry))) events (now (work .entry)) (now (work .exit)) (now (list .entry)) (now (list .exit)) r ⌝ }
 {
-    let mut all = no_ranks();
-    ranks::fill_ranks(recs, &mut all);
-    let counted = count_all(recs, &all, of, width, clocks, list, short);
+    let counted = count_all(recs, all, of, width, clocks, list, short);
     if list.len() / 5 < counted {
         return refused(trace::LIST_SPACE);
     }
@@ -335,7 +334,7 @@ fn list_filled(
     if counted == 0 {
         return listed(events, records, chains, 0);
     }
-    let found = write_all(recs, &all, of, width, clocks, work, events, list, short);
+    let found = write_all(recs, all, of, width, clocks, work, events, list, short);
     listed(events, records, chains, found)
 }
 
@@ -363,7 +362,8 @@ pub(crate) fn list_races(
     ensures { λ r. ⌜ Lists short (now (bytes .entry)) width (now (clocks .entry)) (now (clocks .exit)) (now (work .entry)) (now (work .exit)) (now (list .entry)) (now (list .exit)) r ⌝ }
 {
     let mut of = no_chains();
-    let prepared = order::prepare(bytes, width, work.len(), clocks, &mut of);
+    let mut all = no_ranks();
+    let prepared = order::prepare(bytes, width, work.len(), clocks, &mut of, &mut all);
     let t = prepared.trace;
     let events = t.events;
     workspace::clear_marks(work, events);
@@ -375,6 +375,7 @@ pub(crate) fn list_races(
             width,
             clocks,
             &of,
+            &all,
             chains,
             work,
             list,

@@ -15,7 +15,6 @@ ghost use mathlib.Core.List.{List};
 ghost use Prim.Native.Nat.{ℕ, suc, _+_, _*_, _-_, _/_, _≤_, _<_};
 ghost use lib.ListN.{length, set};
 ghost use Rattle.records.specs.Bytes.{decode};
-ghost use Rattle.ranks.specs.Ranks.{ranksOf};
 ghost use Rattle.coverage.specs.Race.{Race, raceb};
 ghost use Rattle.coverage.specs.Leading.{lastKept, entries};
 ghost use Rattle.races.specs.Traces.{settingOf};
@@ -153,6 +152,7 @@ fn refused(number: u16) -> PairAnswer
 // Records a and b of an accepted trace whose clocks are filled, over a work space that is 0 for its event actions.
 fn ask_filled(
     recs: &[u8],
+    all: &[u16],
     of: &[u16],
     events: usize,
     width: usize,
@@ -162,20 +162,18 @@ fn ask_filled(
     a: usize,
     b: usize,
 ) -> PairAnswer
-    requires { ⌜ Filled (decode (now recs)) (ranksOf (decode (now recs))) (now of) width (now clocks) × (b < length (decode (now recs))) ⌝ }
+    requires { ⌜ Filled (decode (now recs)) (now all) (now of) width (now clocks) × (b < length (decode (now recs))) ⌝ }
     requires { ⌜ Clear (decode (now recs)) events (now work) ⌝ }
     ensures { λ r. ⌜ AnswersFilled (decode (now (recs .entry))) events a b (now (list .entry)) (now (list .exit)) r × (now (work .exit) ≡ now (work .entry)) ⌝ }
 {
-    let mut all = no_ranks();
-    ranks::fill_ranks(recs, &mut all);
-    if !is_race_in_order(recs, &all, of, width, clocks, a, b) {
+    if !is_race_in_order(recs, all, of, width, clocks, a, b) {
         return refused(trace::NO_RACE);
     }
     if list.len() / 2 < events {
         return refused(trace::LIST_SPACE);
     }
-    leading::mark_leading(recs, &all, 0, b, work);
-    let answer = put_entries(recs, &all, of, width, clocks, work, list, a, b);
+    leading::mark_leading(recs, all, 0, b, work);
+    let answer = put_entries(recs, all, of, width, clocks, work, list, a, b);
     workspace::clear_marks(work, events);
     answer
 }
@@ -219,11 +217,12 @@ fn ask_trace(
     let i = (a - 1) as usize;
     let j = (b - 1) as usize;
     let mut of = no_chains();
-    let prepared = order::prepare(bytes, width, work.len(), clocks, &mut of);
+    let mut all = no_ranks();
+    let prepared = order::prepare(bytes, width, work.len(), clocks, &mut of, &mut all);
     workspace::clear_marks(work, prepared.trace.events);
     let answer = prepared.answer;
     match answer {
-        Filling::Filled(_) => ask_filled(recs, &of, events, width, clocks, work, list, i, j),
+        Filling::Filled(_) => ask_filled(recs, &all, &of, events, width, clocks, work, list, i, j),
         Filling::Refused(why) => PairAnswer::Refused(why),
     }
 }

@@ -34,7 +34,7 @@ unfilled-requires c κs = search needs
 returns : tie.Need-returns
 returns c =
     let e = refused-reading (now (c .before .before .before .before .before .before .before .before .before .args .bytes)) (c .before .before .before .before .read .result) (c .before .before .before .before .read .ensures) (c .before .before .before .match .keys2) in
-    unread _ _ _ _ _ _ _ e _ _ (ap fillPaper (c .unfilled .ensures .0) ∙ simp (c .before .refusal-of .ensures)) (c .unfilled .ensures .1) (cleared-chains (now (c .before .before .before .before .before .before .before .before .before .args .of)) _ (omega arith) (c .before .before .before .before .before .clear .ensures))
+    unread _ _ _ _ _ _ _ _ e _ _ (ap fillPaper (c .unfilled .ensures .0) ∙ simp (c .before .refusal-of .ensures)) (c .unfilled .ensures .1) (cleared-chains (now (c .before .before .before .before .before .before .before .before .before .args .of)) _ (omega arith) (c .before .before .before .before .before .clear .ensures))
 
 has-space-requires : tie.Need-has-space-requires
 has-space-requires c κs = search needs
@@ -46,7 +46,7 @@ returns-2 : tie.Need-returns-2
 returns-2 c =
     let t = c .before .before .before .before .reading .given .0 .0 in
     let e = sym (ap paper (c .before .before .before .before .reading .given .1)) ∙ c .before .before .before .before .before .before .read .ensures in
-    no-space _ (t .start) (t .records) (t .events) e _ _ _ (sym (c .before .before .has-space .ensures) ∙ not-true (c .before .before .has-space .result) (c .before .if1 .taken)) _ _ _ (ap fillPaper (c .unfilled2 .ensures .0)) (c .unfilled2 .ensures .1) (cleared-chains (now (c .before .before .before .before .before .before .before .before .before .before .before .args .of)) _ (omega arith) (c .before .before .before .before .before .before .before .clear .ensures))
+    no-space _ (t .start) (t .records) (t .events) e _ _ _ _ (sym (c .before .before .has-space .ensures) ∙ not-true (c .before .before .has-space .result) (c .before .if1 .taken)) _ _ _ (ap fillPaper (c .unfilled2 .ensures .0)) (c .unfilled2 .ensures .1) (cleared-chains (now (c .before .before .before .before .before .before .before .before .before .before .before .args .of)) _ (omega arith) (c .before .before .before .before .before .before .before .clear .ensures))
 
 unfilled-requires-3 : tie.Need-unfilled-requires-3
 unfilled-requires-3 c κs = search needs
@@ -55,20 +55,20 @@ returns-3 : tie.Need-returns-3
 returns-3 c =
     let t = c .before .before .before .before .before .reading .given .0 .0 in
     let e = sym (ap paper (c .before .before .before .before .before .reading .given .1)) ∙ c .before .before .before .before .before .before .before .read .ensures in
-    no-room _ (t .start) (t .records) (t .events) e _ _ _ (sym (c .before .before .before .has-space .ensures) ∙ not-false (c .before .before .before .has-space .result) (c .before .before .if1 .left)) (c .before .if2 .taken) _ _ _ (ap fillPaper (c .unfilled3 .ensures .0)) (c .unfilled3 .ensures .1) (cleared-chains (now (c .before .before .before .before .before .before .before .before .before .before .before .before .args .of)) _ (omega arith) (c .before .before .before .before .before .before .before .before .clear .ensures))
+    no-room _ (t .start) (t .records) (t .events) e _ _ _ _ (sym (c .before .before .before .has-space .ensures) ∙ not-false (c .before .before .before .has-space .result) (c .before .before .if1 .left)) (c .before .if2 .taken) _ _ _ (ap fillPaper (c .unfilled3 .ensures .0)) (c .unfilled3 .ensures .1) (cleared-chains (now (c .before .before .before .before .before .before .before .before .before .before .before .before .args .of)) _ (omega arith) (c .before .before .before .before .before .before .before .before .clear .ensures))
 
 records-requires : tie.Need-records-requires
 records-requires c κs = search needs
 
 fill-rows-requires : tie.Need-fill-rows-requires
 fill-rows-requires c κs =
-    let t = c .before .before .before .before .before .before .before .reading .given .0 .0 in
-    let b = now (c .before .before .before .before .before .before .before .before .before .before .before .before .before .before .args .bytes) in
-    let e = sym (ap paper (c .before .before .before .before .before .before .before .reading .given .1)) ∙ c .before .before .before .before .before .before .before .before .before .read .ensures in (
-      read-acceptable b (t .start) (t .records) (t .events) e _ (c .before .before .records .ensures),
-      read-events b (t .start) (t .records) (t .events) e _ (c .before .before .records .ensures),
-      sym (c .before .before .before .before .before .has-space .ensures) ∙ not-false (c .before .before .before .before .before .has-space .result) (c .before .before .before .before .if1 .left),
-      cleared-chains (now (c .before .before .before .before .before .before .before .before .before .before .before .before .before .before .args .of)) _ (omega arith) (c .before .before .before .before .before .before .before .before .before .before .clear .ensures),
+    let t = c .before .before .before .before .before .before .before .before .reading .given .0 .0 in
+    let b = now (c .before .before .before .before .before .before .before .before .before .before .before .before .before .before .before .args .bytes) in
+    let e = sym (ap paper (c .before .before .before .before .before .before .before .before .reading .given .1)) ∙ c .before .before .before .before .before .before .before .before .before .before .read .ensures in (
+      read-acceptable b (t .start) (t .records) (t .events) e _ (c .before .before .before .records .ensures),
+      read-events b (t .start) (t .records) (t .events) e _ (c .before .before .before .records .ensures),
+      sym (c .before .before .before .before .before .before .has-space .ensures) ∙ not-false (c .before .before .before .before .before .before .has-space .result) (c .before .before .before .before .before .if1 .left),
+      cleared-chains (now (c .before .before .before .before .before .before .before .before .before .before .before .before .before .before .before .args .of)) _ (omega arith) (c .before .before .before .before .before .before .before .before .before .before .before .clear .ensures),
     )
 
 same-length : tie.Need-same-length
@@ -76,11 +76,11 @@ same-length c = search needs
 
 returns-4 : tie.Need-returns-4
 returns-4 c =
-    let t = c .before .before .before .before .before .before .before .before .before .before .reading .given .0 .0 in
-    let b = now (c .before .before .before .before .before .before .before .before .before .before .before .before .before .before .before .before .before .args .bytes) in
-    let e = sym (ap paper (c .before .before .before .before .before .before .before .before .before .before .reading .given .1)) ∙ c .before .before .before .before .before .before .before .before .before .before .before .before .read .ensures in
-    let space = sym (c .before .before .before .before .before .before .before .before .has-space .ensures) ∙ not-false (c .before .before .before .before .before .before .before .before .has-space .result) (c .before .before .before .before .before .before .before .if1 .left) in
-    passed b (t .start) (t .records) (t .events) e _ _ (now (c .before .before .before .before .before .before .before .before .before .before .before .before .before .before .before .before .before .args .clocks)) space (c .before .before .before .before .before .before .if2 .left) _ _ _ _ _ (records-are b (t .start) (t .records) (t .events) e _ (c .before .before .before .before .before .records .ensures)) (c .before .before .fill-rows .ensures) refl
+    let t = c .before .before .before .before .before .before .before .before .before .before .before .reading .given .0 .0 in
+    let b = now (c .before .before .before .before .before .before .before .before .before .before .before .before .before .before .before .before .before .before .args .bytes) in
+    let e = sym (ap paper (c .before .before .before .before .before .before .before .before .before .before .before .reading .given .1)) ∙ c .before .before .before .before .before .before .before .before .before .before .before .before .before .read .ensures in
+    let space = sym (c .before .before .before .before .before .before .before .before .before .has-space .ensures) ∙ not-false (c .before .before .before .before .before .before .before .before .before .has-space .result) (c .before .before .before .before .before .before .before .before .if1 .left) in
+    passed b (t .start) (t .records) (t .events) e _ _ (now (c .before .before .before .before .before .before .before .before .before .before .before .before .before .before .before .before .before .before .args .clocks)) _ space (c .before .before .before .before .before .before .before .if2 .left) _ _ _ _ _ _ (records-are b (t .start) (t .records) (t .events) e _ (c .before .before .before .before .before .before .records .ensures)) (c .before .before .fill-rows .ensures) refl
 
 pub prepare-spec : {M : Type 1} → statement M
 prepare-spec =

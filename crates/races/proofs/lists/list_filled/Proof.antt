@@ -1,23 +1,11 @@
 -- `races::lists::list_filled` meets its contract.
 -- Assumes nothing.
-use lib.ListN.{length}
-use mathlib.Core.Path.{sym, ap, _∙_}
-use Rattle.ranks.proofs.RankLaws.{ranks-many}
 use Rattle.races.proofs.ListEnds.{all-refused, none-listed, all-room, all-listed}
 use Rattle.records.specs.Bytes.{decode}
 use denote.Ref.{now}
 use borrow.Author.Needs.{needs}
 use Rattle.races.proofs.lists.list_filled.Statement.{statement}
 use Rattle.races.proofs.lists.list_filled.Tie as tie
-
-no-ranks-requires : tie.Need-no-ranks-requires
-no-ranks-requires c κs = search needs
-
-fill-ranks-requires : tie.Need-fill-ranks-requires
-fill-ranks-requires c κs = search needs
-
-slice-aggregate-count-all : tie.Need-slice-aggregate-count-all
-slice-aggregate-count-all c = sym (ap length (c .before .fill-ranks .ensures) ∙ ranks-many (decode (now (c .before .before .before .before .before .before .before .before .before .args .recs))))
 
 count-all-requires : tie.Need-count-all-requires
 count-all-requires c κs = search needs
@@ -29,7 +17,7 @@ same-length : tie.Need-same-length
 same-length c = search needs
 
 returns : tie.Need-returns
-returns c = all-refused (decode (now (c .before .before .before .before .before .before .before .before .before .before .before .before .before .before .before .args .recs))) (c .before .before .before .before .before .before .before .before .before .before .before .before .before .before .before .args .short) (c .before .before .before .before .before .before .before .before .before .before .before .before .before .before .before .args .events) (now (c .before .before .before .before .before .before .before .before .before .before .before .before .before .before .before .args .list)) _ (c .before .before .before .before .count-all .result) (c .before .before .before .before .count-all .ensures .0) (c .before .before .before .before .count-all .ensures .1) (now (c .before .before .before .before .before .before .before .before .before .before .before .before .before .before .before .args .work)) (c .before .if1 .taken) _ (c .refused .ensures)
+returns c = all-refused (decode (now (c .before .before .before .before .before .before .before .before .before .before .before .before .args .recs))) (c .before .before .before .before .before .before .before .before .before .before .before .before .args .short) (c .before .before .before .before .before .before .before .before .before .before .before .before .args .events) (now (c .before .before .before .before .before .before .before .before .before .before .before .before .args .list)) _ (c .before .before .before .before .count-all .result) (c .before .before .before .before .count-all .ensures .0) (c .before .before .before .before .count-all .ensures .1) (now (c .before .before .before .before .before .before .before .before .before .before .before .before .args .work)) (c .before .if1 .taken) _ (c .refused .ensures)
 
 count-requires : tie.Need-count-requires
 count-requires c κs = search needs
@@ -41,13 +29,10 @@ same-length-2 : tie.Need-same-length-2
 same-length-2 c = search needs
 
 returns-2 : tie.Need-returns-2
-returns-2 c = none-listed (decode (now (c .before .before .before .before .before .before .before .before .before .before .before .before .before .before .before .before .before .args .recs))) (c .before .before .before .before .before .before .before .before .before .before .before .before .before .before .before .before .before .args .short) (c .before .before .before .before .before .before .before .before .before .before .before .before .before .before .before .before .before .args .events) (now (c .before .before .before .before .before .before .before .before .before .before .before .before .before .before .before .before .before .args .list)) _ (c .before .before .before .before .before .before .count-all .result) (c .before .before .before .before .before .before .count-all .ensures .0) (c .before .before .before .before .before .before .count-all .ensures .1) (c .before .before .before .if1 .left) (c .before .if2 .taken) (now (c .before .before .before .before .before .before .before .before .before .before .before .before .before .before .before .before .before .args .work)) (c .before .before .count .result) (c .before .before .before .before .before .before .before .before .before .before .before .before .before .before .before .before .before .args .chains) (c .before .before .count .ensures) (c .before .before .before .before .before .before .before .before .before .before .before .before .before .before .before .before .before .pre .2) _ (c .listed .ensures)
-
-slice-aggregate-write-all : tie.Need-slice-aggregate-write-all
-slice-aggregate-write-all c = sym (ap length (c .before .before .before .before .before .before .before .before .before .fill-ranks .ensures) ∙ ranks-many (decode (now (c .before .before .before .before .before .before .before .before .before .before .before .before .before .before .before .before .before .args .recs))))
+returns-2 c = none-listed (decode (now (c .before .before .before .before .before .before .before .before .before .before .before .before .before .before .args .recs))) (c .before .before .before .before .before .before .before .before .before .before .before .before .before .before .args .short) (c .before .before .before .before .before .before .before .before .before .before .before .before .before .before .args .events) (now (c .before .before .before .before .before .before .before .before .before .before .before .before .before .before .args .list)) _ (c .before .before .before .before .before .before .count-all .result) (c .before .before .before .before .before .before .count-all .ensures .0) (c .before .before .before .before .before .before .count-all .ensures .1) (c .before .before .before .if1 .left) (c .before .if2 .taken) (now (c .before .before .before .before .before .before .before .before .before .before .before .before .before .before .args .work)) (c .before .before .count .result) (c .before .before .before .before .before .before .before .before .before .before .before .before .before .before .args .chains) (c .before .before .count .ensures) (c .before .before .before .before .before .before .before .before .before .before .before .before .before .before .pre .2) _ (c .listed .ensures)
 
 write-all-requires : tie.Need-write-all-requires
-write-all-requires c κs = let p = c .before .before .before .before .before .before .before .before .before .before .before .before .before .before .before .before .before .before .before .pre in (rw (c .before .before .before .before .before .before .before .before .before .before .before .fill-ranks .ensures) (p .0), p .1, all-room (decode (now (c .before .before .before .before .before .before .before .before .before .before .before .before .before .before .before .before .before .before .before .args .recs))) (c .before .before .before .before .before .before .before .before .before .before .before .before .before .before .before .before .before .before .before .args .short) (c .before .before .before .before .before .before .before .before .before .before .before .before .before .before .before .before .before .before .before .args .events) (now (c .before .before .before .before .before .before .before .before .before .before .before .before .before .before .before .before .before .before .before .args .list)) _ (c .before .before .before .before .before .before .before .before .count-all .result) (c .before .before .before .before .before .before .before .before .count-all .ensures .0) (c .before .before .before .before .before .before .before .before .count-all .ensures .1) (c .before .before .before .before .before .if1 .left))
+write-all-requires c κs = let p = c .before .before .before .before .before .before .before .before .before .before .before .before .before .before .before .pre in (p .0, p .1, all-room (decode (now (c .before .before .before .before .before .before .before .before .before .before .before .before .before .before .before .args .recs))) (c .before .before .before .before .before .before .before .before .before .before .before .before .before .before .before .args .short) (c .before .before .before .before .before .before .before .before .before .before .before .before .before .before .before .args .events) (now (c .before .before .before .before .before .before .before .before .before .before .before .before .before .before .before .args .list)) _ (c .before .before .before .before .before .before .before .count-all .result) (c .before .before .before .before .before .before .before .count-all .ensures .0) (c .before .before .before .before .before .before .before .count-all .ensures .1) (c .before .before .before .before .if1 .left))
 
 listed-requires-2 : tie.Need-listed-requires-2
 listed-requires-2 c κs = search needs
@@ -59,15 +44,12 @@ same-length-4 : tie.Need-same-length-4
 same-length-4 c = search needs
 
 returns-3 : tie.Need-returns-3
-returns-3 c = all-listed (decode (now (c .before .before .before .before .before .before .before .before .before .before .before .before .before .before .before .before .before .before .before .before .before .before .before .before .before .args .recs))) (c .before .before .before .before .before .before .before .before .before .before .before .before .before .before .before .before .before .before .before .before .before .before .before .before .before .args .short) (c .before .before .before .before .before .before .before .before .before .before .before .before .before .before .before .before .before .before .before .before .before .before .before .before .before .args .events) (now (c .before .before .before .before .before .before .before .before .before .before .before .before .before .before .before .before .before .before .before .before .before .before .before .before .before .args .list)) _ (c .before .before .before .before .before .before .before .before .before .before .before .before .before .before .count-all .result) (c .before .before .before .before .before .before .before .before .before .before .before .before .before .before .count-all .ensures .0) (c .before .before .before .before .before .before .before .before .before .before .before .before .before .before .count-all .ensures .1) (c .before .before .before .before .before .before .before .before .before .before .before .if1 .left) (c .before .before .before .before .before .write-all .ensures .0) (c .before .before .before .before .before .write-all .ensures .1) (c .before .before .before .before .before .before .before .before .before .before .count .result) (c .before .before .before .before .before .before .before .before .before .before .before .before .before .before .before .before .before .before .before .before .before .before .before .before .before .args .chains) (c .before .before .before .before .before .before .before .before .before .before .count .ensures) (c .before .before .before .before .before .before .before .before .before .before .before .before .before .before .before .before .before .before .before .before .before .before .before .before .before .pre .2) _ (c .listed2 .ensures)
+returns-3 c = all-listed (decode (now (c .before .before .before .before .before .before .before .before .before .before .before .before .before .before .before .before .before .before .before .before .before .args .recs))) (c .before .before .before .before .before .before .before .before .before .before .before .before .before .before .before .before .before .before .before .before .before .args .short) (c .before .before .before .before .before .before .before .before .before .before .before .before .before .before .before .before .before .before .before .before .before .args .events) (now (c .before .before .before .before .before .before .before .before .before .before .before .before .before .before .before .before .before .before .before .before .before .args .list)) _ (c .before .before .before .before .before .before .before .before .before .before .before .before .before .count-all .result) (c .before .before .before .before .before .before .before .before .before .before .before .before .before .count-all .ensures .0) (c .before .before .before .before .before .before .before .before .before .before .before .before .before .count-all .ensures .1) (c .before .before .before .before .before .before .before .before .before .before .if1 .left) (c .before .before .before .before .before .write-all .ensures .0) (c .before .before .before .before .before .write-all .ensures .1) (c .before .before .before .before .before .before .before .before .before .count .result) (c .before .before .before .before .before .before .before .before .before .before .before .before .before .before .before .before .before .before .before .before .before .args .chains) (c .before .before .before .before .before .before .before .before .before .count .ensures) (c .before .before .before .before .before .before .before .before .before .before .before .before .before .before .before .before .before .before .before .before .before .pre .2) _ (c .listed2 .ensures)
 
 pub list-filled-spec : {M : Type 1} → statement M
 list-filled-spec =
     tie.close
     (tie.spec
-    no-ranks-requires
-    fill-ranks-requires
-    slice-aggregate-count-all
     count-all-requires
     refused-requires
     same-length
@@ -76,7 +58,6 @@ list-filled-spec =
     listed-requires
     same-length-2
     returns-2
-    slice-aggregate-write-all
     write-all-requires
     listed-requires-2
     same-length-3

@@ -1,13 +1,12 @@
 -- `races::pair::ask_filled` meets its contract.
 -- Assumes nothing.
 use denote.Ref.{now}
-use Rattle.ranks.proofs.RankLaws.{ranks-many}
 use native.Mathlib.Omega.{arith}
 use Prim.Native.Nat.{_≤_, _*_}
 use lib.Dec.{T}
 use lib.ListN.{length}
 use mathlib.Core.Bool.{true}
-use mathlib.Core.Path.{_≡_, refl, sym, ap, _∙_, subst}
+use mathlib.Core.Path.{_≡_, refl, sym, _∙_, subst}
 use borrow.Author.Tests.{not-true, not-false}
 use Rattle.records.specs.Bytes.{decode}
 use Rattle.races.specs.Leading.{rows}
@@ -22,48 +21,33 @@ use borrow.Author.Needs.{needs}
 use Rattle.races.proofs.pair.ask_filled.Statement.{statement}
 use Rattle.races.proofs.pair.ask_filled.Tie as tie
 
-no-ranks-requires : tie.Need-no-ranks-requires
-no-ranks-requires c κs = search needs
-
-fill-ranks-requires : tie.Need-fill-ranks-requires
-fill-ranks-requires c κs = search needs
-
-slice-aggregate-is-race-in-order : tie.Need-slice-aggregate-is-race-in-order
-slice-aggregate-is-race-in-order c = sym (ap length (c .before .fill-ranks .ensures) ∙ ranks-many (decode (now (c .before .before .before .before .before .before .before .before .before .args .recs))))
-
 is-race-in-order-requires : tie.Need-is-race-in-order-requires
-is-race-in-order-requires c κs = (rw (c .before .fill-ranks .ensures) (c .before .before .before .before .before .before .before .before .before .pre .0 .0), c .before .before .before .before .before .before .before .before .before .pre .0 .1)
+is-race-in-order-requires c κs = c .before .before .before .before .before .before .pre .0
 
 refused-requires : tie.Need-refused-requires
 refused-requires c κs = search needs
 
 returns : tie.Need-returns
-returns c = (no-race (decode (now (c .before .before .before .before .before .before .before .before .before .before .before .before .args .recs))) (c .before .before .before .before .before .before .before .before .before .before .before .before .args .events) (c .before .before .before .before .before .before .before .before .before .before .before .before .args .a) (c .before .before .before .before .before .before .before .before .before .before .before .before .args .b) (now (c .before .before .before .before .before .before .before .before .before .before .before .before .args .list)) (c .refused .result) (sym (c .before .before .is-race-in-order .ensures) ∙ not-true (c .before .before .is-race-in-order .result) (c .before .if1 .taken)) (c .refused .ensures), refl)
+returns c = (no-race (decode (now (c .before .before .before .before .before .before .before .before .before .args .recs))) (c .before .before .before .before .before .before .before .before .before .args .events) (c .before .before .before .before .before .before .before .before .before .args .a) (c .before .before .before .before .before .before .before .before .before .args .b) (now (c .before .before .before .before .before .before .before .before .before .args .list)) (c .refused .result) (sym (c .before .before .is-race-in-order .ensures) ∙ not-true (c .before .before .is-race-in-order .result) (c .before .if1 .taken)) (c .refused .ensures), refl)
 
 refused-requires-2 : tie.Need-refused-requires-2
 refused-requires-2 c κs = search needs
 
 returns-2 : tie.Need-returns-2
-returns-2 c = (no-list (decode (now (c .before .before .before .before .before .before .before .before .before .before .before .before .before .args .recs))) (c .before .before .before .before .before .before .before .before .before .before .before .before .before .args .events) (c .before .before .before .before .before .before .before .before .before .before .before .before .before .args .a) (c .before .before .before .before .before .before .before .before .before .before .before .before .before .args .b) (now (c .before .before .before .before .before .before .before .before .before .before .before .before .before .args .list)) (c .refused2 .result) (sym (c .before .before .before .is-race-in-order .ensures) ∙ not-false (c .before .before .before .is-race-in-order .result) (c .before .before .if1 .left)) (c .before .if2 .taken) (c .refused2 .ensures), refl)
-
-slice-aggregate-mark-leading : tie.Need-slice-aggregate-mark-leading
-slice-aggregate-mark-leading c = sym (ap length (c .before .before .before .before .before .fill-ranks .ensures) ∙ ranks-many (decode (now (c .before .before .before .before .before .before .before .before .before .before .before .before .before .args .recs))))
+returns-2 c = (no-list (decode (now (c .before .before .before .before .before .before .before .before .before .before .args .recs))) (c .before .before .before .before .before .before .before .before .before .before .args .events) (c .before .before .before .before .before .before .before .before .before .before .args .a) (c .before .before .before .before .before .before .before .before .before .before .args .b) (now (c .before .before .before .before .before .before .before .before .before .before .args .list)) (c .refused2 .result) (sym (c .before .before .before .is-race-in-order .ensures) ∙ not-false (c .before .before .before .is-race-in-order .result) (c .before .before .if1 .left)) (c .before .if2 .taken) (c .refused2 .ensures), refl)
 
 mark-leading-requires : tie.Need-mark-leading-requires
-mark-leading-requires c κs = ready (c .before .before .before .before .before .before .before .before .before .before .before .before .before .before .pre .0 .0 .acceptable) (c .before .before .before .before .before .before .before .before .before .before .before .before .before .before .pre .1) (c .before .before .before .before .before .before .before .before .before .before .before .before .before .before .args .a) (c .before .before .before .before .before .before .before .before .before .before .before .before .before .before .args .b) (sym (c .before .before .before .before .is-race-in-order .ensures) ∙ not-false (c .before .before .before .before .is-race-in-order .result) (c .before .before .before .if1 .left)) (c .before .before .before .before .before .before .fill-ranks .last .1 .0) (c .before .before .before .before .before .before .fill-ranks .ensures)
-
-slice-aggregate-put-entries : tie.Need-slice-aggregate-put-entries
-slice-aggregate-put-entries c = sym (ap length (c .before .before .before .before .before .before .before .before .before .before .fill-ranks .ensures) ∙ ranks-many (decode (now (c .before .before .before .before .before .before .before .before .before .before .before .before .before .before .before .before .before .before .args .recs))))
+mark-leading-requires c κs = ready (c .before .before .before .before .before .before .before .before .before .before .pre .0 .0 .acceptable) (c .before .before .before .before .before .before .before .before .before .before .pre .1) (c .before .before .before .before .before .before .before .before .before .before .args .a) (c .before .before .before .before .before .before .before .before .before .before .args .b) (sym (c .before .before .before .is-race-in-order .ensures) ∙ not-false (c .before .before .before .is-race-in-order .result) (c .before .before .if1 .left)) (now (c .before .before .before .before .before .before .before .before .before .before .args .all)) (c .before .before .before .before .before .before .before .before .before .before .pre .0 .0 .ranks-are)
 
 put-entries-requires : tie.Need-put-entries-requires
 put-entries-requires c κs =
-    let e : raceb (settingOf (decode (now (c .before .before .before .before .before .before .before .before .before .before .before .before .before .before .before .before .before .before .before .before .args .recs)))) (c .before .before .before .before .before .before .before .before .before .before .before .before .before .before .before .before .before .before .before .before .args .a) (c .before .before .before .before .before .before .before .before .before .before .before .before .before .before .before .before .before .before .before .before .args .b) ≡ true = sym (c .before .before .before .before .before .before .before .before .before .before .is-race-in-order .ensures) ∙ not-false (c .before .before .before .before .before .before .before .before .before .before .is-race-in-order .result) (c .before .before .before .before .before .before .before .before .before .if1 .left) in
-    let r = race-of (settingOf (decode (now (c .before .before .before .before .before .before .before .before .before .before .before .before .before .before .before .before .before .before .before .before .args .recs)))) (c .before .before .before .before .before .before .before .before .before .before .before .before .before .before .before .before .before .before .before .before .args .a) (c .before .before .before .before .before .before .before .before .before .before .before .before .before .before .before .before .before .before .before .before .args .b) (subst T (sym e) tt) in
-    let m : 2 * rows (decode (now (c .before .before .before .before .before .before .before .before .before .before .before .before .before .before .before .before .before .before .before .before .args .recs))) ≤ length (now (c .before .before .before .before .before .before .before .before .before .before .before .before .before .before .before .before .before .before .before .before .args .list)) = omega (arith, c .before .before .before .before .before .before .before .before .if2 .left, c .before .before .before .before .before .before .before .before .before .before .before .before .before .before .before .before .before .before .before .before .pre .1 .events-are) in
-    ((rw (c .before .before .before .before .before .before .before .before .before .before .before .before .fill-ranks .ensures) (c .before .before .before .before .before .before .before .before .before .before .before .before .before .before .before .before .before .before .before .before .pre .0 .0), marks-of (c .before .before .before .before .before .before .before .before .before .before .before .before .before .before .before .before .before .before .before .before .pre .0 .0 .acceptable) (c .before .before .before .before .before .before .before .before .before .before .before .before .before .before .before .before .before .before .before .before .pre .1) (c .before .before .before .before .before .before .before .before .before .before .before .before .before .before .before .before .before .before .before .before .args .b) _ (c .before .before .before .before .before .mark-leading .ensures) (race-second (decode (now (c .before .before .before .before .before .before .before .before .before .before .before .before .before .before .before .before .before .before .before .before .args .recs))) (c .before .before .before .before .before .before .before .before .before .before .before .before .before .before .before .before .before .before .before .before .args .a) (c .before .before .before .before .before .before .before .before .before .before .before .before .before .before .before .before .before .before .before .before .args .b) (subst T (sym e) tt)) (c .before .before .before .before .before .before .before .before .before .before .before .before .fill-ranks .last .1 .0) (c .before .before .before .before .before .before .before .before .before .before .before .before .fill-ranks .ensures)), (r, m))
+    let e : raceb (settingOf (decode (now (c .before .before .before .before .before .before .before .before .before .before .before .before .before .before .before .args .recs)))) (c .before .before .before .before .before .before .before .before .before .before .before .before .before .before .before .args .a) (c .before .before .before .before .before .before .before .before .before .before .before .before .before .before .before .args .b) ≡ true = sym (c .before .before .before .before .before .before .before .before .is-race-in-order .ensures) ∙ not-false (c .before .before .before .before .before .before .before .before .is-race-in-order .result) (c .before .before .before .before .before .before .before .if1 .left) in
+    let r = race-of (settingOf (decode (now (c .before .before .before .before .before .before .before .before .before .before .before .before .before .before .before .args .recs)))) (c .before .before .before .before .before .before .before .before .before .before .before .before .before .before .before .args .a) (c .before .before .before .before .before .before .before .before .before .before .before .before .before .before .before .args .b) (subst T (sym e) tt) in
+    let m : 2 * rows (decode (now (c .before .before .before .before .before .before .before .before .before .before .before .before .before .before .before .args .recs))) ≤ length (now (c .before .before .before .before .before .before .before .before .before .before .before .before .before .before .before .args .list)) = omega (arith, c .before .before .before .before .before .before .if2 .left, c .before .before .before .before .before .before .before .before .before .before .before .before .before .before .before .pre .1 .events-are) in
+    ((c .before .before .before .before .before .before .before .before .before .before .before .before .before .before .before .pre .0 .0, marks-of (c .before .before .before .before .before .before .before .before .before .before .before .before .before .before .before .pre .0 .0 .acceptable) (c .before .before .before .before .before .before .before .before .before .before .before .before .before .before .before .pre .1) (c .before .before .before .before .before .before .before .before .before .before .before .before .before .before .before .args .b) _ (c .before .before .before .before .mark-leading .ensures) (race-second (decode (now (c .before .before .before .before .before .before .before .before .before .before .before .before .before .before .before .args .recs))) (c .before .before .before .before .before .before .before .before .before .before .before .before .before .before .before .args .a) (c .before .before .before .before .before .before .before .before .before .before .before .before .before .before .before .args .b) (subst T (sym e) tt)) (now (c .before .before .before .before .before .before .before .before .before .before .before .before .before .before .before .args .all)) (c .before .before .before .before .before .before .before .before .before .before .before .before .before .before .before .pre .0 .0 .ranks-are)), (r, m))
 
 clear-marks-requires : tie.Need-clear-marks-requires
-clear-marks-requires c κs = omega (arith, c .before .before .before .before .before .before .before .before .before .before .before .before .before .before .before .before .before .before .before .before .before .before .before .before .pre .1 .work-room, c .before .before .before .before .before .before .before .before .before .before .before .before .before .before .before .before .before .before .before .before .before .before .before .before .pre .1 .events-are, leading-kept (c .before .before .before .before .before .before .before .before .before .mark-leading .ensures))
+clear-marks-requires c κs = omega (arith, c .before .before .before .before .before .before .before .before .before .before .before .before .before .before .before .before .before .before .before .pre .1 .work-room, c .before .before .before .before .before .before .before .before .before .before .before .before .before .before .before .before .before .before .before .pre .1 .events-are, leading-kept (c .before .before .before .before .before .before .before .before .mark-leading .ensures))
 
 same-length : tie.Need-same-length
 same-length c = search needs
@@ -73,24 +57,19 @@ same-length-2 c = search needs
 
 returns-3 : tie.Need-returns-3
 returns-3 c =
-    let e : raceb (settingOf (decode (now (c .before .before .before .before .before .before .before .before .before .before .before .before .before .before .before .before .before .before .before .before .before .before .before .before .before .before .before .args .recs)))) (c .before .before .before .before .before .before .before .before .before .before .before .before .before .before .before .before .before .before .before .before .before .before .before .before .before .before .before .args .a) (c .before .before .before .before .before .before .before .before .before .before .before .before .before .before .before .before .before .before .before .before .before .before .before .before .before .before .before .args .b) ≡ true = sym (c .before .before .before .before .before .before .before .before .before .before .before .before .before .before .before .before .before .is-race-in-order .ensures) ∙ not-false (c .before .before .before .before .before .before .before .before .before .before .before .before .before .before .before .before .before .is-race-in-order .result) (c .before .before .before .before .before .before .before .before .before .before .before .before .before .before .before .before .if1 .left) in
-    (race-answered (decode (now (c .before .before .before .before .before .before .before .before .before .before .before .before .before .before .before .before .before .before .before .before .before .before .before .before .before .before .before .args .recs))) (c .before .before .before .before .before .before .before .before .before .before .before .before .before .before .before .before .before .before .before .before .before .before .before .before .before .before .before .args .events) (c .before .before .before .before .before .before .before .before .before .before .before .before .before .before .before .before .before .before .before .before .before .before .before .before .before .before .before .args .a) (c .before .before .before .before .before .before .before .before .before .before .before .before .before .before .before .before .before .before .before .before .before .before .before .before .before .before .before .args .b) (now (c .before .before .before .before .before .before .before .before .before .before .before .before .before .before .before .before .before .before .before .before .before .before .before .before .before .before .before .args .list)) (c .before .before .before .before .before .before .put-entries .result) e (c .before .before .before .before .before .before .before .before .before .before .before .before .before .before .before .if2 .left) _ (c .before .before .before .before .before .before .put-entries .ensures), clear-again (c .before .before .before .before .before .before .before .before .before .before .before .before .before .before .before .before .before .before .before .before .before .before .before .before .before .before .before .pre .1) (c .before .before .before .before .before .before .before .before .before .before .before .before .mark-leading .ensures) _ (c .before .before .clear-marks .ensures))
+    let e : raceb (settingOf (decode (now (c .before .before .before .before .before .before .before .before .before .before .before .before .before .before .before .before .before .before .before .before .before .before .args .recs)))) (c .before .before .before .before .before .before .before .before .before .before .before .before .before .before .before .before .before .before .before .before .before .before .args .a) (c .before .before .before .before .before .before .before .before .before .before .before .before .before .before .before .before .before .before .before .before .before .before .args .b) ≡ true = sym (c .before .before .before .before .before .before .before .before .before .before .before .before .before .before .before .is-race-in-order .ensures) ∙ not-false (c .before .before .before .before .before .before .before .before .before .before .before .before .before .before .before .is-race-in-order .result) (c .before .before .before .before .before .before .before .before .before .before .before .before .before .before .if1 .left) in
+    (race-answered (decode (now (c .before .before .before .before .before .before .before .before .before .before .before .before .before .before .before .before .before .before .before .before .before .before .args .recs))) (c .before .before .before .before .before .before .before .before .before .before .before .before .before .before .before .before .before .before .before .before .before .before .args .events) (c .before .before .before .before .before .before .before .before .before .before .before .before .before .before .before .before .before .before .before .before .before .before .args .a) (c .before .before .before .before .before .before .before .before .before .before .before .before .before .before .before .before .before .before .before .before .before .before .args .b) (now (c .before .before .before .before .before .before .before .before .before .before .before .before .before .before .before .before .before .before .before .before .before .before .args .list)) (c .before .before .before .before .before .before .put-entries .result) e (c .before .before .before .before .before .before .before .before .before .before .before .before .before .if2 .left) _ (c .before .before .before .before .before .before .put-entries .ensures), clear-again (c .before .before .before .before .before .before .before .before .before .before .before .before .before .before .before .before .before .before .before .before .before .before .pre .1) (c .before .before .before .before .before .before .before .before .before .before .before .mark-leading .ensures) _ (c .before .before .clear-marks .ensures))
 
 pub ask-filled-spec : {M : Type 1} → statement M
 ask-filled-spec =
     tie.close
     (tie.spec
-    no-ranks-requires
-    fill-ranks-requires
-    slice-aggregate-is-race-in-order
     is-race-in-order-requires
     refused-requires
     returns
     refused-requires-2
     returns-2
-    slice-aggregate-mark-leading
     mark-leading-requires
-    slice-aggregate-put-entries
     put-entries-requires
     clear-marks-requires
     same-length
