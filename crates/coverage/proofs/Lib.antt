@@ -9,6 +9,7 @@ pub mod Entries
 pub mod Kept
 pub mod Short
 pub mod Pairs
+pub mod Listed
 pub mod Bound
 pub mod Total
 pub mod Spelled

@@ -111,6 +111,22 @@ module _ (t : Setting) (l : Laws t) (s : Cells) (means : (a b : ℕ) → t .conf
   of : (a b : ℕ) → Conflict s a b → T (t .conf a b)
   of a b c = subst T (sym (means a b)) (of-conflict s a b c)
 
+  means-of : {a b : ℕ} → Race t a b → T (conflicts s a b)
+  means-of {a} {b} r = subst T (means a b) (r .conflict)
+
+  -- A write between the two of a race conflicts with both.
+  pub parted : (a b : ℕ) → Race t a b → T (writeBetween s a b) → (w : ℕ) × (a < w) × (w < b) × T (t .conf a w) × T (t .conf w b)
+  parted a b r f =
+      let (w, v) = between s a b f in
+      let c = conflict-of s a b (means-of r) in
+      let aw = of a w (record { access-a = c .access-a; access-b = v .access; same = c .same ∙ sym (v .same); written = or-right (s .isWrite a) (s .isWrite w) (v .write) }) in
+      let wb = of w b (record { access-a = v .access; access-b = c .access-b; same = v .same; written = or-left (s .isWrite w) (s .isWrite b) (v .write) }) in
+      (w, v .left, v .right, aw, wb)
+
+  -- Where there is none, the two are neighbours.
+  pub unparted : (a b : ℕ) → Race t a b → (T (writeBetween s a b) → ⊥) → T (neighbour s a b)
+  unparted a b r n = neighbour-of s a b (r .first) (means-of r) n
+
   abbrev Found : ℕ → ℕ → Type 0
   Found a b = (p : ℕ) × (a ≤ p) × T (neighbour s p b) × Race t p b × Open t p b
 
@@ -118,19 +134,13 @@ module _ (t : Setting) (l : Laws t) (s : Cells) (means : (a b : ℕ) → t .conf
   narrow zero a b h r o = absurd (omega (arith, r .first))
   narrow (suc k) a b h r o = go (decide (writeBetween s a b)) (narrow k)
     where
-      m : T (conflicts s a b)
-      m = subst T (means a b) (r .conflict)
-
       go : T (writeBetween s a b) ⊎ (T (writeBetween s a b) → ⊥) → ((x y : ℕ) → y ≤ x + k → Race t x y → Open t x y → Found x y) → Found a b
       go (inl f) ih =
-          let (w, v) = between s a b f in
-          let c = conflict-of s a b m in
-          let aw = of a w (record { access-a = c .access-a; access-b = v .access; same = c .same ∙ sym (v .same); written = or-right (s .isWrite a) (s .isWrite w) (v .write) }) in
-          let wb = of w b (record { access-a = v .access; access-b = c .access-b; same = v .same; written = or-left (s .isWrite w) (s .isWrite b) (v .write) }) in
-          let g = open-between t l a w b r o (v .left) (v .right) aw wb in
-          let z = ih w b (omega (arith, v .left)) (g .0) (g .1) in
-          (z .0, omega (arith, v .left, z .1), z .2, z .3, z .4)
-      go (inr n) ih = (a, omega arith, neighbour-of s a b (r .first) m n, r, o)
+          let (w, left, right, aw, wb) = parted a b r f in
+          let g = open-between t l a w b r o left right aw wb in
+          let z = ih w b (omega arith) (g .0) (g .1) in
+          (z .0, omega (arith, z .1), z .2, z .3, z .4)
+      go (inr n) ih = (a, omega arith, unparted a b r n, r, o)
 
   -- An open race has neighbours with the same second, so on the same cell, that are an open race
   pub short-list : (a b : ℕ) → Race t a b → Open t a b → (p : ℕ) × (a ≤ p) × T (neighbour s p b) × Race t p b × Open t p b
