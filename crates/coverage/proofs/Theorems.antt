@@ -28,6 +28,8 @@ use Rattle.coverage.proofs.Kept
 use Rattle.coverage.proofs.Short
 use Rattle.coverage.proofs.Some
 use Rattle.coverage.proofs.Pairs
+use Rattle.coverage.proofs.Listed.{Enough}
+use Rattle.coverage.proofs.Listed as On
 use Rattle.coverage.proofs.Bound
 
 module _ (t : Setting) where
@@ -96,6 +98,10 @@ module _ (t : Setting) (w : Laws t) where
   pub cover-next : (b u : ℕ) → b < t .size → T (leads t b u) → (T (t .le u (t .ev b)) → ⊥) → (c d : ℕ) × Race t c d × T (t .le u (t .ev c)) × (d < b) × (T (before t d b) ⊎ (T (leads t b (t .ev d)) × (T (t .le (t .ev d) (t .ev b)) → ⊥)))
   cover-next = Leading.cover-next t w
 
+  -- The next race can be taken from the list of all races, and, below, from the short list.
+  pub all-enough : Enough t (allRaces t)
+  all-enough = On.all-enough t w
+
   -- What leads to b, but for ev(b), stands wholly before b.
   pub leads-ahead : (b x : ℕ) → b < t .size → x < t .size → t .ev x ≢ t .ev b → T (leads t b (t .ev x)) → x < b
   leads-ahead = Leading.leads-ahead t w
@@ -132,6 +138,9 @@ module _ (t : Setting) (w : Laws t) (s : Cells) (means : (a b : ℕ) → t .conf
   -- An open race has neighbours with the same second that are an open race.
   pub open-neighbours : (a b : ℕ) → Race t a b → Open t a b → (p : ℕ) × (a ≤ p) × T (neighbour s p b) × Race t p b × Open t p b
   open-neighbours = Short.short-list t w s means
+
+  pub short-enough : Enough t (shortList t s)
+  short-enough = On.short-enough t w s means
 
   -- "For every cell, the short list names it as open exactly when some race on that cell, listed there or not, is open."
   pub open-cells : OpenCells t s

@@ -56,7 +56,7 @@ module _ (tr : List Record) where
   entry-mark a b = refl
 
   -- a pair of the list stands at some place of it
-  place-of : (a b : ℕ) (ps : List (ℕ × ℕ)) → Listed a b ps → (k : ℕ) × (k < length ps) × (getD ps k (0, 0) ≡ (a, b))
+  pub place-of : (a b : ℕ) (ps : List (ℕ × ℕ)) → Listed a b ps → (k : ℕ) × (k < length ps) × (getD ps k (0, 0) ≡ (a, b))
   place-of a b [] m = absurd (List·Memᴰ·not-nil m)
   place-of a b (p ∷ ps) m = go (List·Memᴰ·cases-cons m) (place-of a b ps)
     where

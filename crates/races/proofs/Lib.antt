@@ -13,6 +13,7 @@ pub mod ListLaws
 pub mod EntryStores
 pub mod DemandLaws
 pub mod MarkingLaws
+pub mod FewLaws
 pub mod ListEnds
 pub mod Spaces
 pub mod PairEntries

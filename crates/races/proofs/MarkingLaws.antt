@@ -36,19 +36,19 @@ use Rattle.races.proofs.WorkLaws.{zeros-front}
 
 -- Entries without marks, and with the marks of those below some place.
 module _ (tr : List Record) where
-  abbrev nth : List (ℕ × ℕ) → ℕ → ℕ × ℕ
+  abbrev pub nth : List (ℕ × ℕ) → ℕ → ℕ × ℕ
   nth ps i = getD ps i (0, 0)
 
   five : (i j : ℕ) → 5 * suc i + j ≡ suc (suc (suc (suc (suc (5 * i + j)))))
   five i j = omega arith
 
-  raws-first : (ps : List (ℕ × ℕ)) (rest : List ℕ) (i : ℕ) → i < length ps → first (raws tr ps ++ rest) i ≡ nth ps i .0 + 1
+  pub raws-first : (ps : List (ℕ × ℕ)) (rest : List ℕ) (i : ℕ) → i < length ps → first (raws tr ps ++ rest) i ≡ nth ps i .0 + 1
   unfolding raws raw
   raws-first [] rest i h = absurd (omega arith)
   raws-first ((a, b) ∷ ps) rest zero h = refl
   raws-first ((a, b) ∷ ps) rest (suc i) h = let e : 5 * suc i ≡ suc (suc (suc (suc (suc (5 * i))))) = omega arith in rw e (raws-first ps rest i (omega arith))
 
-  raws-second : (ps : List (ℕ × ℕ)) (rest : List ℕ) (i : ℕ) → i < length ps → second (raws tr ps ++ rest) i ≡ nth ps i .1 + 1
+  pub raws-second : (ps : List (ℕ × ℕ)) (rest : List ℕ) (i : ℕ) → i < length ps → second (raws tr ps ++ rest) i ≡ nth ps i .1 + 1
   unfolding raws raw
   raws-second [] rest i h = absurd (omega arith)
   raws-second ((a, b) ∷ ps) rest zero h = refl
@@ -164,7 +164,7 @@ module _ (tr : List Record) where
         go (inl n) f = omega (arith, ap (λ (p : ℕ × ℕ). p .1) (parts b k .low n), ap (λ (p : ℕ × ℕ). p .1) (parts b i .low (omega arith)), f n)
         go (inr n) f = omega (arith, parts b k .high n h, below-second (suc b) i (omega arith))
 
-    below-race : (k : ℕ) → k < length (pairsBelow tr short (length tr)) → Race (settingOf tr) (nth (pairsBelow tr short (length tr)) k .0) (nth (pairsBelow tr short (length tr)) k .1)
+    pub below-race : (k : ℕ) → k < length (pairsBelow tr short (length tr)) → Race (settingOf tr) (nth (pairsBelow tr short (length tr)) k .0) (nth (pairsBelow tr short (length tr)) k .1)
     unfolding pairsOf
     below-race k h = go short (subst (Listed (nth ps k .0) (nth ps k .1)) (pairs-below tr short) (at-place tr ps k h))
       where

@@ -8,6 +8,7 @@ pub mod Paper
 pub mod Candidates
 pub mod ListPass
 pub mod Marking
+pub mod Few
 pub mod Pair
 pub mod PairSearch
 pub mod Demand

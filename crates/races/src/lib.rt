@@ -1,6 +1,7 @@
 // Races of a trace: the event actions that lead to an access.
 mod candidates;
 mod cover;
+mod few;
 mod leading;
 mod lists;
 mod marking;

@@ -5,6 +5,7 @@ use crate::candidates::next_access;
 use crate::candidates::no_starts;
 use crate::candidates::note_access;
 use crate::candidates::way_to;
+use crate::few;
 use crate::marking;
 use crate::racing::is_race;
 use crate::workspace;
@@ -286,6 +287,10 @@ fn write_all(
     ensures { λ r. ⌜ ListsAll (decode (now (recs .entry))) short (now (list .entry)) (now (list .exit)) r × (now (work .exit) ≡ now (work .entry)) ⌝ }
 {
     let found = list_all(recs, ranks, of, width, clocks, list, short, true);
+    if found <= 64 {
+        few::mark_few(recs, ranks, of, width, clocks, list, found);
+        return found;
+    }
     marking::mark_all(recs, ranks, work, events, list, found);
     found
 }
