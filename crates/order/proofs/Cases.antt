@@ -10,6 +10,7 @@ use Rattle.trace.specs.Rule.{situation, owner, numbered, wellFormed, misplaced,
 use Rattle.trace.specs.Reading.{demand, orElse, closing, walk, distance, trailerReply, frameReply, recordsIn, recordsReply, readReply}
 use Rattle.trace.specs.Encoding.{encode, trailer}
 use Rattle.trace.proofs.Cases.{recordsT, forked, trailerT}
+use Rattle.clocks.specs.Rows.{spaceFor}
 use Rattle.order.specs.Links.{within, along, some, leq}
 use Rattle.order.specs.Chains.{firstFrom, pick, put, lasts, chain, used, needs}
 use Rattle.order.specs.Schedule as schedule
@@ -18,7 +19,7 @@ use Rattle.order.specs.Clocks.{largest, table, flat, entry, clocksOf}
 use Rattle.ranks.specs.Said.{opOf}
 use Rattle.order.specs.HappensBefore.{rankIn, rank, opAt}
 use Rattle.order.specs.Fill as fill
-use Rattle.order.specs.Fill.{FillReply, refused, filled, eventsIn, beginPosition, shortRow, chainsUsed, traceClocks, spaceFor, fillTrace, fillRead, fillReply, clocksAfterTrace, clocksAfterRead, clocksAfter}
+use Rattle.order.specs.Fill.{FillReply, refused, filled, eventsIn, beginPosition, shortRow, chainsUsed, traceClocks, fillTrace, fillRead, fillReply, clocksAfterTrace, clocksAfterRead, clocksAfter}
 
 -- what filling is lent, and what document 01 gives for it
 pub record Case : Type 0 where

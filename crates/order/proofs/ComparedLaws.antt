@@ -9,9 +9,10 @@ use lib.Dec.{T, leb}
 use lib.ListN.{List·getD-append}
 use Rattle.records.specs.declared.Record.{Record}
 use Rattle.trace.specs.Reading.{Acceptable}
+use Rattle.clocks.specs.Rows.{compareIn}
 use Rattle.order.specs.Links.{leq, _⊢_≼_}
 use Rattle.order.specs.Chains.{used}
-use Rattle.order.specs.Clocks.{chainOf, clocksOf, compareIn}
+use Rattle.order.specs.Clocks.{chainOf, clocksOf}
 use Rattle.order.specs.HappensBefore.{rank, traceLinks, happensBefore}
 use Rattle.order.specs.Compared.{compared}
 use Rattle.order.specs.Fill.{eventsIn, shortRow, traceClocks}

@@ -12,7 +12,8 @@ use lib.ListN.{length, drop, replicate}
 use Rattle.records.specs.declared.Record.{Record}
 use Rattle.trace.specs.Reading.{Acceptable}
 use Rattle.ranks.specs.Ranks.{ranksOf}
-use Rattle.order.specs.Fill.{eventsIn, beginPosition, shortRow, chainsUsed, chainTable, traceClocks, noChains, FillReply, refused, filled, demand, spaceFor, fillTrace, clocksAfterTrace, chainsAfterReply}
+use Rattle.clocks.specs.Rows.{spaceFor}
+use Rattle.order.specs.Fill.{eventsIn, beginPosition, shortRow, chainsUsed, chainTable, traceClocks, noChains, FillReply, refused, filled, demand, fillTrace, clocksAfterTrace, chainsAfterReply}
 use Rattle.order.specs.declared.Filling.{Filling}
 use Rattle.order.specs.Paper.{fillPaper, FillsTrace}
 use Rattle.order.specs.PassEnds.{Ready, Whole, Short, Passes}

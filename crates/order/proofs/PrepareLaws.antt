@@ -14,8 +14,9 @@ use Rattle.records.specs.Bytes.{part}
 use Rattle.trace.specs.Reading as reading
 use Rattle.trace.specs.Reading.{Reply, recordsIn, readReply}
 use Rattle.ranks.specs.Ranks.{ranksOf}
+use Rattle.clocks.specs.Rows.{spaceFor}
 use Rattle.order.specs.declared.Filling.{Filling}
-use Rattle.order.specs.Fill.{refused, demand, spaceFor, fillTrace, fillRead, fillReply, pickList, clocksAfterTrace, clocksAfterRead, clocksAfter, noChains, chainsAfterReply}
+use Rattle.order.specs.Fill.{refused, demand, fillTrace, fillRead, fillReply, pickList, clocksAfterTrace, clocksAfterRead, clocksAfter, noChains, chainsAfterReply}
 use Rattle.order.specs.Prepare.{prepareTrace, prepareRead, prepareReply, clocksPreparedRead, clocksPrepared, chainsPreparedRead, chainsPrepared, ranksPreparedRead, ranksPrepared, noTrace, pickTrace, tracePreparedRead, tracePrepared}
 use Rattle.order.specs.Paper.{fillPaper, Fills, FillsTrace, Prepares}
 use Rattle.order.proofs.EntryLaws.{read-acceptable, read-events}

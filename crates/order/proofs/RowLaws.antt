@@ -8,8 +8,9 @@ use native.Mathlib.Nat.{suc-mul, zero-mul, mul-zero, mul-le-mul-right, div-add-m
 use lib.Dec.{leb}
 use lib.ListN.{length, getD, set, replicate, length-append, length-set, length-replicate, getD-replicate, List·getD-append}
 use lib.Seq.{getD-append-add, getD-append-seam, getD-set-same, getD-set-other, ext-getD}
+use Rattle.clocks.specs.Rows.{compareIn}
 use Rattle.order.specs.Links.{Links}
-use Rattle.order.specs.Clocks.{table, flat, chainOf, entry, clocksOf, compare, compareIn}
+use Rattle.order.specs.Clocks.{table, flat, chainOf, entry, clocksOf, compare}
 use Rattle.coverage.proofs.Tests.{decide-eq}
 use Rattle.order.proofs.Tests.{decide-lt}
 

@@ -5,9 +5,10 @@ use mathlib.Core.Logic.{_⊎_, inl, inr, _↔_}
 use native.Mathlib.Omega.{arith}
 use lib.Dec.{T}
 use lib.ListN.{getD, List·getD-eq-default}
+use Rattle.clocks.specs.Rows.{compareIn}
 use Rattle.order.specs.Links.{Links, Forward, _⊢_≼_, leq}
 use Rattle.order.specs.Chains.{lasts, used}
-use Rattle.order.specs.Clocks.{chainOf, clocksOf, compareIn}
+use Rattle.order.specs.Clocks.{chainOf, clocksOf}
 use Rattle.order.proofs.Tests.{decide-lt}
 use Rattle.order.proofs.CountLaws.{First}
 use Rattle.order.proofs.OrderLaws.{≼→leq, leq→≼}

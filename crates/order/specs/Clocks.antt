@@ -43,7 +43,3 @@ module _ (l : Links) where
   -- "compares t's entry at t's chain in both rows"
   unfoldable pub compare : ℕ → ℕ → Bool
   compare t u = leb (entry t (chainOf t)) (entry u (chainOf t))
-
--- the same comparison in any clocks, where c is t's chain
-unfoldable pub compareIn : List ℕ → ℕ → ℕ → ℕ → ℕ → Bool
-compareIn clocks width c t u = leb (getD clocks (t * width + c) 0) (getD clocks (u * width + c) 0)

@@ -3,7 +3,8 @@ use Prim.Native.Nat.{ℕ, _-_}
 use mathlib.Core.Bool.{Bool}
 use mathlib.Core.List.{List}
 use Rattle.records.specs.declared.Record.{Record}
-use Rattle.order.specs.Clocks.{chainOf, compareIn}
+use Rattle.clocks.specs.Rows.{compareIn}
+use Rattle.order.specs.Clocks.{chainOf}
 use Rattle.order.specs.HappensBefore.{rank, traceLinks}
 
 -- the comparison of the rows of events t and u

@@ -9,6 +9,7 @@ use Rattle.records.specs.declared.Record.{Record}
 use Rattle.records.specs.Records.{at, past, isBegin, begins}
 use Rattle.trace.specs.Reading as reading
 use Rattle.trace.specs.Reading.{Reply, recordsIn, readReply}
+use Rattle.clocks.specs.Rows.{spaceFor}
 use Rattle.order.specs.Links.{leq}
 use Rattle.order.specs.Chains.{first, used, needs}
 use Rattle.order.specs.Clocks.{table, chainOf, clocksOf}
@@ -47,10 +48,6 @@ pub data FillReply : Type 0 where
 unfoldable pub demand : Bool → ℕ → ℕ → FillReply → FillReply
 demand true n p next = next
 demand false n p next = refused n p
-
--- "21: clock width not 1 to 1,024, or clock space shorter than event actions × width."
-unfoldable pub spaceFor : ℕ → ℕ → ℕ → Bool
-spaceFor width events space = (leb 1 width && leb width 1024) && leb (events * width) space
 
 -- an accepted trace of that many event actions
 unfoldable pub fillTrace : List Record → ℕ → ℕ → ℕ → FillReply

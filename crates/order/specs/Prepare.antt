@@ -9,7 +9,8 @@ use Rattle.records.specs.declared.Trace.{Trace}
 use Rattle.trace.specs.Reading as reading
 use Rattle.trace.specs.Reading.{Reply, recordsIn, readReply}
 use Rattle.ranks.specs.Ranks.{ranksOf}
-use Rattle.order.specs.Fill.{FillReply, refused, filled, demand, beginPosition, shortRow, chainsUsed, spaceFor, pickList, clocksAfterTrace, noChains, chainsAfterReply}
+use Rattle.clocks.specs.Rows.{spaceFor}
+use Rattle.order.specs.Fill.{FillReply, refused, filled, demand, beginPosition, shortRow, chainsUsed, pickList, clocksAfterTrace, noChains, chainsAfterReply}
 
 -- an accepted trace of that many event actions: 21, then "22: .. work space shorter in bytes than the number of event actions.", then 23
 unfoldable pub prepareTrace : List Record → ℕ → ℕ → ℕ → ℕ → FillReply

@@ -1,8 +1,7 @@
 // Happens-before, chains and vector clocks.
 mod clear;
-pub mod comparison;
 mod merge;
-pub mod rows;
+mod rows;
 
 use records::Trace;
 use records::access;
@@ -42,7 +41,7 @@ pub fn prepare(
         return rows::unfilled(trace::refusal_of(reading));
     };
     let events = t.events;
-    if !rows::has_space(width, events, clocks.len()) {
+    if !clocks::has_space(width, events, clocks.len()) {
         return rows::unfilled(Refusal {
             number: trace::CLOCK_SPACE,
             place: Operation(0),

@@ -17,7 +17,8 @@ ghost use Rattle.records.specs.Records.{at};
 ghost use Rattle.ranks.specs.Ranks.{noRanks};
 ghost use Rattle.ranks.specs.Said.{opOf};
 ghost use Rattle.trace.specs.Reading.{Acceptable};
-ghost use Rattle.order.specs.Fill.{eventsIn, noChains, spaceFor};
+ghost use Rattle.clocks.specs.Rows.{spaceFor};
+ghost use Rattle.order.specs.Fill.{eventsIn, noChains};
 ghost use Rattle.order.specs.Prepare.{noTrace};
 ghost use Rattle.order.specs.Paper.{FillsTrace};
 ghost use Rattle.order.specs.PassEnds.{Ready, Passes};
@@ -134,19 +135,6 @@ pub(crate) fn unfilled(why: Refusal) -> Prepared
             events: 0,
         },
     }
-}
-
-// Whether the width is in range and that many rows fit the clock space.
-pub fn has_space(width: usize, events: usize, space: usize) -> bool
-    ensures { λ r. ⌜ r ≡ spaceFor width events space ⌝ }
-{
-    if width < 1 {
-        return false;
-    }
-    if 1024 < width {
-        return false;
-    }
-    events <= space / width
 }
 
 // The rows of an accepted trace that has the space for them, the chain of each row, all 0 after 23, and the ranks of all events.

@@ -11,9 +11,10 @@ use borrow.Author.Tests.{eq-eqb, ne-eqb}
 use lib.ListN.{length, getD, replicate, List·getD-append}
 use Rattle.records.specs.declared.Record.{Record}
 use Rattle.trace.specs.Reading.{Acceptable}
-use Rattle.order.specs.Clocks.{chainOf, compareIn}
+use Rattle.clocks.specs.Rows.{spaceFor, compareIn}
+use Rattle.order.specs.Clocks.{chainOf}
 use Rattle.order.specs.HappensBefore.{rank, traceLinks}
-use Rattle.order.specs.Fill.{eventsIn, beginPosition, shortRow, chainTable, spaceFor}
+use Rattle.order.specs.Fill.{eventsIn, beginPosition, shortRow, chainTable}
 use Rattle.order.specs.Compared.{compared}
 use Rattle.question.specs.ChainPass.{PassesChains}
 use Rattle.question.specs.Question.{OrderReply, refused, answered, demand, bothBegin, orderTrace}

@@ -12,9 +12,10 @@ use Rattle.records.specs.declared.Record.{Record}
 use Rattle.trace.specs.Reading as reading
 use Rattle.trace.specs.Reading.{Acceptable, recordsIn, readReply}
 use Rattle.trace.proofs.Accepted.{accepts}
+use Rattle.clocks.specs.Rows.{spaceFor}
 use Rattle.order.specs.Clocks.{clocksOf}
 use Rattle.order.specs.HappensBefore.{Begins, HappensBefore, rank, traceLinks, happensBefore}
-use Rattle.order.specs.Fill.{eventsIn, shortRow, traceClocks, FillReply, filled, demand, spaceFor, fillTrace, fillRead, fillReply, clocksAfterTrace, clocksAfterRead, clocksAfter}
+use Rattle.order.specs.Fill.{eventsIn, shortRow, traceClocks, FillReply, filled, demand, fillTrace, fillRead, fillReply, clocksAfterTrace, clocksAfterRead, clocksAfter}
 use Rattle.order.specs.Compared.{compared}
 use Rattle.question.specs.Question as question
 use Rattle.question.specs.Question.{orderTrace, orderRead, orderReply, bothBegin, answered, YesExactly}

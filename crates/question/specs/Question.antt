@@ -12,9 +12,10 @@ use Rattle.trace.specs.Reading as reading
 use Rattle.trace.specs.Reading.{Reply, recordsIn, readReply}
 use Rattle.question.specs.declared.Answer.{Answer}
 use Rattle.question.specs.declared.Answer.the-variants.{Yes, No, Refused}
+use Rattle.clocks.specs.Rows.{spaceFor}
 use Rattle.order.specs.HappensBefore.{HappensBefore, rank}
 use Rattle.order.specs.Compared.{compared}
-use Rattle.order.specs.Fill.{beginPosition, shortRow, spaceFor}
+use Rattle.order.specs.Fill.{beginPosition, shortRow}
 
 -- a refusal's number and place, or the comparison
 pub data OrderReply : Type 0 where

@@ -1,8 +1,8 @@
 // The order question on an accepted trace.
 use crate::Answer;
 use crate::chains::chain_pass;
-use order::comparison::compare;
-use order::rows::has_space;
+use clocks::compare;
+use clocks::has_space;
 use records::access;
 use trace::EventId;
 use trace::Operation;

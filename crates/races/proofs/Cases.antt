@@ -15,6 +15,7 @@ use Rattle.trace.specs.Reading as reading
 use Rattle.trace.specs.Reading.{Reply, orElse, closing, walk, distance, trailerReply, frameReply, recordsIn, recordsReply, readReply}
 use Rattle.trace.specs.Encoding.{encode, trailer}
 use Rattle.trace.proofs.Cases.{rec, recordsT, exchanged, forked, oneCell, trailerT}
+use Rattle.clocks.specs.Rows.{spaceFor}
 use Rattle.order.specs.Links.{within, along, leq}
 use Rattle.order.specs.Links as links
 use Rattle.order.specs.Chains.{firstFrom, pick, put, lasts, chain, used, needs}
@@ -23,7 +24,7 @@ use Rattle.order.specs.Schedule.{linked}
 use Rattle.ranks.specs.Said.{opOf}
 use Rattle.order.specs.HappensBefore.{rankIn, rank, opAt, happensBefore}
 use Rattle.order.specs.Fill as fill
-use Rattle.order.specs.Fill.{eventsIn, beginPosition, shortRow, chainsUsed, traceClocks, spaceFor, fillTrace, fillRead, fillReply, clocksAfterTrace, clocksAfterRead, clocksAfter}
+use Rattle.order.specs.Fill.{eventsIn, beginPosition, shortRow, chainsUsed, traceClocks, fillTrace, fillRead, fillReply, clocksAfterTrace, clocksAfterRead, clocksAfter}
 use Rattle.coverage.specs.Below.{some, upto, pairs}
 use native.Mathlib.Omega.{arith}
 use Rattle.coverage.specs.Race.{before, raceb}

@@ -12,7 +12,8 @@ use lib.ListN.{length, getD, replicate, length-append, length-replicate}
 use Rattle.records.specs.declared.Record.{Record}
 use Rattle.records.specs.Records.{at, eventOf}
 use Rattle.ranks.proofs.RankLaws.{ranks-many}
-use Rattle.order.specs.Clocks.{table, chainOf, compareIn}
+use Rattle.clocks.specs.Rows.{compareIn}
+use Rattle.order.specs.Clocks.{table, chainOf}
 use Rattle.order.specs.HappensBefore.{rank, traceLinks, happensBefore}
 use Rattle.order.specs.Fill.{eventsIn, chainTable}
 use Rattle.order.specs.Compared.{compared}

@@ -15,8 +15,9 @@ use Rattle.records.specs.declared.Trace.{Trace}
 use Rattle.records.specs.Bytes.{decode, part}
 use Rattle.trace.specs.Reading as reading
 use Rattle.trace.specs.Reading.{Reply, recordsIn, readReply}
+use Rattle.clocks.specs.Rows.{spaceFor}
 use Rattle.order.specs.Fill as fill
-use Rattle.order.specs.Fill.{shortRow, beginPosition, chainsUsed, spaceFor}
+use Rattle.order.specs.Fill.{shortRow, beginPosition, chainsUsed}
 use Rattle.order.specs.Prepare.{prepareTrace}
 use Rattle.order.specs.Paper.{fillPaper, Prepares}
 use Rattle.order.specs.declared.Filling.{Filling}

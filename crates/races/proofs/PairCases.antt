@@ -14,12 +14,13 @@ use Rattle.trace.specs.Reading as reading
 use Rattle.trace.specs.Reading.{orElse, closing, walk, distance, trailerReply, frameReply, recordsIn, recordsReply, readReply}
 use Rattle.trace.specs.Encoding.{encode, trailer, traceOf}
 use Rattle.trace.proofs.Cases.{recordsT, exchanged, oneCell}
+use Rattle.clocks.specs.Rows.{spaceFor}
 use Rattle.order.specs.Links.{within, along, some, leq}
 use Rattle.order.specs.Schedule.{linked}
 use Rattle.ranks.specs.Said.{opOf}
 use Rattle.order.specs.HappensBefore.{rankIn, rank, opAt, happensBefore}
 use Rattle.order.specs.Chains.{firstFrom, pick, put, lasts, chain, needs}
-use Rattle.order.specs.Fill.{eventsIn, beginPosition, shortRow, spaceFor}
+use Rattle.order.specs.Fill.{eventsIn, beginPosition, shortRow}
 use Rattle.coverage.specs.Below as below
 use Rattle.coverage.specs.Race.{before, Race, raceb}
 use Rattle.coverage.specs.Neighbours.{conflicts}

@@ -11,12 +11,13 @@ use Rattle.records.specs.declared.Record.{Record}
 use Rattle.records.specs.declared.Trace.{Trace}
 use Rattle.trace.specs.Reading as reading
 use Rattle.trace.specs.Reading.{readReply}
+use Rattle.clocks.specs.Rows.{spaceFor}
 use Rattle.order.specs.declared.Filling.{Filling}
 use Rattle.order.specs.declared.Filling.the-variants.{Filled, Refused}
 use Rattle.order.proofs.Filling.{enum}
 use denote.Enum.Declared.{tagOf, declared}
 use Rattle.order.specs.Fill as fill
-use Rattle.order.specs.Fill.{shortRow, beginPosition, chainsUsed, spaceFor}
+use Rattle.order.specs.Fill.{shortRow, beginPosition, chainsUsed}
 use Rattle.order.specs.Prepare.{prepareTrace}
 use Rattle.order.specs.Paper.{fillPaper, Prepares}
 use Rattle.order.proofs.PrepareLaws.{accepted-reply}

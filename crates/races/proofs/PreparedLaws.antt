@@ -13,7 +13,8 @@ use Rattle.trace.specs.Reading as reading
 use Rattle.trace.specs.Reading.{Reply, recordsIn, readReply}
 use Rattle.trace.proofs.Accepted.{accepts}
 use Rattle.ranks.specs.Ranks.{ranksOf}
-use Rattle.order.specs.Fill.{filled, demand, eventsIn, shortRow, beginPosition, chainsUsed, chainTable, traceClocks, spaceFor, clocksAfterTrace, chainsAfterReply, pickList}
+use Rattle.clocks.specs.Rows.{spaceFor}
+use Rattle.order.specs.Fill.{filled, demand, eventsIn, shortRow, beginPosition, chainsUsed, chainTable, traceClocks, clocksAfterTrace, chainsAfterReply, pickList}
 use Rattle.order.specs.Prepare.{prepareTrace, noTrace, pickTrace}
 use Rattle.order.specs.Paper.{fillPaper, Prepares}
 use Rattle.order.specs.declared.Filling.{Filling}

@@ -9,7 +9,7 @@ use lib.ListN.{length}
 use Rattle.records.specs.declared.Record.{Record}
 use Rattle.trace.specs.Reading.{Acceptable}
 use Rattle.trace.proofs.Events.{few-events}
-use Rattle.order.specs.Fill.{spaceFor}
+use Rattle.clocks.specs.Rows.{spaceFor}
 use Rattle.coverage.specs.Lists.{shortList}
 use Rattle.coverage.proofs.Total.{short-total}
 use Rattle.races.specs.Traces.{cellsOf, settingOf}

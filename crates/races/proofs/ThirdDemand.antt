@@ -13,7 +13,8 @@ use Rattle.records.specs.Records.{at}
 use Rattle.trace.specs.Reading as reading
 use Rattle.trace.specs.Reading.{Acceptable, recordsIn, readReply}
 use Rattle.trace.proofs.Accepted.{accepts}
-use Rattle.order.specs.Fill.{shortRow, beginPosition, chainsUsed, spaceFor}
+use Rattle.clocks.specs.Rows.{spaceFor}
+use Rattle.order.specs.Fill.{shortRow, beginPosition, chainsUsed}
 use Rattle.coverage.specs.Below as below
 use Rattle.coverage.specs.Race.{Race, raceb}
 use Rattle.coverage.specs.Cover.{Open}

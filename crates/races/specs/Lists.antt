@@ -9,7 +9,8 @@ use Rattle.records.specs.declared.Record.{Record}
 use Rattle.records.specs.Records.{at, isWrite}
 use Rattle.trace.specs.Reading as reading
 use Rattle.trace.specs.Reading.{Reply, recordsIn, readReply}
-use Rattle.order.specs.Fill.{beginPosition, shortRow, chainsUsed, spaceFor, clocksAfterTrace, pickList}
+use Rattle.clocks.specs.Rows.{spaceFor}
+use Rattle.order.specs.Fill.{beginPosition, shortRow, chainsUsed, clocksAfterTrace, pickList}
 use Rattle.coverage.specs.Leading.{coveredb}
 use Rattle.coverage.specs.Lists.{allRaces, shortList}
 use Rattle.races.specs.Traces.{cellsOf, settingOf}

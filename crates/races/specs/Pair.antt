@@ -8,7 +8,8 @@ use lib.ListN.{length, drop}
 use Rattle.records.specs.declared.Record.{Record}
 use Rattle.trace.specs.Reading as reading
 use Rattle.trace.specs.Reading.{Reply, recordsIn, readReply}
-use Rattle.order.specs.Fill.{shortRow, beginPosition, spaceFor, pickList}
+use Rattle.clocks.specs.Rows.{spaceFor}
+use Rattle.order.specs.Fill.{shortRow, beginPosition, pickList}
 use Rattle.coverage.specs.Race.{raceb}
 use Rattle.coverage.specs.Cover.{Covers}
 use Rattle.coverage.specs.Leading.{coveredb, entries}

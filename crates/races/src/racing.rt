@@ -1,6 +1,6 @@
 // Which accesses race, by the clocks.
 use crate::leading::is_access;
-use order::comparison::compare;
+use clocks::compare;
 use ranks::rank_of;
 use records::Record;
 use records::access;

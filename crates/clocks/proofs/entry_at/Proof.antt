@@ -1,11 +1,11 @@
--- `order::comparison::entry_at` meets its contract.
+-- `clocks::entry_at` meets its contract.
 -- Assumes nothing.
 use lib.ListN.{List·getD-eq-default}
 use mathlib.Core.Path.{sym}
 use denote.Ref.{now}
 use borrow.Author.Needs.{needs}
-use Rattle.order.proofs.comparison.entry_at.Statement.{statement}
-use Rattle.order.proofs.comparison.entry_at.Tie as tie
+use Rattle.clocks.proofs.entry_at.Statement.{statement}
+use Rattle.clocks.proofs.entry_at.Tie as tie
 
 mul-result : tie.Need-mul-result
 mul-result c = search needs

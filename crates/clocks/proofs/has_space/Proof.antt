@@ -1,12 +1,12 @@
--- `order::rows::has_space` meets its contract.
+-- `clocks::has_space` meets its contract.
 -- Assumes nothing.
-use Rattle.order.proofs.SpaceLaws.{rows-fit}
-use Rattle.order.specs.Fill.{spaceFor}
+use Rattle.clocks.proofs.Places.{rows-fit}
+use Rattle.clocks.specs.Rows.{spaceFor}
 use borrow.Author.Tests.{le-leb, lt-leb}
 use mathlib.Core.Path.{_∙_}
 use borrow.Author.Needs.{needs}
-use Rattle.order.proofs.rows.has_space.Statement.{statement}
-use Rattle.order.proofs.rows.has_space.Tie as tie
+use Rattle.clocks.proofs.has_space.Statement.{statement}
+use Rattle.clocks.proofs.has_space.Tie as tie
 
 returns : tie.Need-returns
 unfolding spaceFor

@@ -1,11 +1,11 @@
--- `order::comparison::compare` meets its contract.
+-- `clocks::compare` meets its contract.
 -- Assumes nothing.
-use Rattle.order.proofs.SpaceLaws.{place-fits}
-use Rattle.order.specs.Clocks.{compareIn}
+use Rattle.clocks.proofs.Places.{place-fits}
+use Rattle.clocks.specs.Rows.{compareIn}
 use native.Mathlib.Omega.{arith}
 use borrow.Author.Needs.{needs}
-use Rattle.order.proofs.comparison.compare.Statement.{statement}
-use Rattle.order.proofs.comparison.compare.Tie as tie
+use Rattle.clocks.proofs.compare.Statement.{statement}
+use Rattle.clocks.proofs.compare.Tie as tie
 
 mul-entry-at : tie.Need-mul-entry-at
 mul-entry-at c = omega (arith, place-fits (c .before .args .t) (c .before .args .width) (c .before .args .c) (c .before .fits .t .fits) (c .before .fits .width .fits) (c .before .fits .c .fits))

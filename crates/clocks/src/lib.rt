@@ -1,7 +1,20 @@
-// The comparison by which order is told, over any clocks.
+// The lent clocks: whether they have space for the rows, and the comparison of two rows by which order is told.
 ghost use mathlib.Core.Path.{_≡_};
 ghost use lib.ListN.{getD};
-ghost use Rattle.order.specs.Clocks.{compareIn};
+ghost use Rattle.clocks.specs.Rows.{spaceFor, compareIn};
+
+// Whether the width is in range and that many rows fit the clock space.
+pub fn has_space(width: usize, events: usize, space: usize) -> bool
+    ensures { λ r. ⌜ r ≡ spaceFor width events space ⌝ }
+{
+    if width < 1 {
+        return false;
+    }
+    if 1024 < width {
+        return false;
+    }
+    events <= space / width
+}
 
 fn entry_at(clocks: &[u16], at: usize) -> u16
     ensures { λ r. ⌜ r ≡ getD (now (clocks .entry)) at 0 ⌝ }
