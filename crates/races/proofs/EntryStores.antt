@@ -2,7 +2,7 @@
 -- Assumes nothing.
 use Prim.Native.Nat.{ℕ, zero, suc, _+_, _*_, _-_, _≤_, _<_}
 use mathlib.Core.Path.{_≡_, refl, sym, ap, ap₂, _∙_, subst}
-use mathlib.Core.Bool.{Bool, true, false, cond}
+use mathlib.Core.Bool.{Bool, true, false, cond, _&&_}
 use mathlib.Core.List.{List, [], _∷_, _++_, append-assoc, append-nil, map}
 use mathlib.Core.Logic.{_⊎_, inl, inr}
 use Rattle.records.proofs.Positions.{lt-or-ge}
@@ -92,70 +92,78 @@ pub raw-stores : (tr : List Record) (l : List ℕ) (i a b x y : ℕ) → x ≡ a
 unfolding raw
 raw-stores tr l i a b x y p q = five-stores l i (a + 1) (b + 1) x y 0 ∙ rw (p, q)
 
--- The loop over the first accesses of one second access, turn by turn.
-pub record Writing (tr : List Record) (b from k : ℕ) (list₀ list : List ℕ) (next a : ℕ) : Type 0 where
+-- The loop over the first accesses of one second access, turn by turn; entries are written or only counted.
+pub record Writing (writing : Bool) (tr : List Record) (b from k : ℕ) (list₀ list : List ℕ) (next a : ℕ) : Type 0 where
   pub next-is : next ≡ k + length (firsts tr from b a)
-  pub list-is : list ≡ sets list₀ (5 * k) (raws tr (withSecond tr b (firsts tr from b a)))
+  pub list-is : list ≡ cond writing (sets list₀ (5 * k) (raws tr (withSecond tr b (firsts tr from b a)))) list₀
   pub low : from ≤ a
   pub high : a ≤ b
 
-pub writing-start : (tr : List Record) (b from k : ℕ) (list : List ℕ) → from ≤ b → Writing tr b from k list list k from
-writing-start tr b from k list h = record {
+pub writing-start : (writing : Bool) (tr : List Record) (b from k : ℕ) (list : List ℕ) → from ≤ b → Writing writing tr b from k list list k from
+writing-start writing tr b from k list h = record {
   next-is = omega (arith, ap length (firsts-start tr from b));
-  list-is = written-start tr b from k list;
+  list-is = go writing;
   low = omega arith;
   high = h;
 }
+  where
+    go : (t : Bool) → list ≡ cond t (sets list (5 * k) (raws tr (withSecond tr b (firsts tr from b from)))) list
+    go true = written-start tr b from k list
+    go false = refl
 
-module _ {tr : List Record} {b from k : ℕ} {list₀ list : List ℕ} {next a : ℕ} (w : Writing tr b from k list₀ list next a) where
+module _ {writing : Bool} {tr : List Record} {b from k : ℕ} {list₀ list : List ℕ} {next a : ℕ} (w : Writing writing tr b from k list₀ list next a) where
   pub writing-size : length list ≡ length list₀
-  writing-size = ap length (w .list-is) ∙ length-sets list₀ (5 * k) (raws tr (withSecond tr b (firsts tr from b a)))
-
-  pub writing-room : a < b → 5 * (k + length (firsts tr from b b)) ≤ length list₀ → raceb (settingOf tr) a b ≡ true → 5 * next + 5 ≤ length list
-  writing-room l h e = omega (arith, h, writing-size, w .next-is, firsts-grow tr from b a b l (w .low) e)
-
-  writing-yes : a < b → raceb (settingOf tr) a b ≡ true → Writing tr b from k list₀ (sets list (5 * next) (raw tr a b)) (next + 1) (a + 1)
-  writing-yes l e = record {
-    next-is = omega (arith, w .next-is, ap length (firsts-yes tr from b a (w .low) e), length-append (firsts tr from b a) (a ∷ []));
-    list-is = sym (written-yes tr b from k list₀ a (w .low) e ∙ rw (← w .next-is, ← w .list-is) refl);
-    low = omega (arith, w .low);
-    high = omega arith;
-  }
-
-  writing-no : a < b → raceb (settingOf tr) a b ≡ false → Writing tr b from k list₀ list next (a + 1)
-  writing-no l e = record {
-    next-is = w .next-is ∙ ap (λ xs. k + length xs) (sym (firsts-no tr from b a e));
-    list-is = w .list-is ∙ sym (written-no tr b from k list₀ a e);
-    low = omega (arith, w .low);
-    high = omega arith;
-  }
-
-  pub writing-one : a < b → (list′ : List ℕ) (r : ℕ) → OneWrites tr a b next list list′ r → Writing tr b from k list₀ list′ r (a + 1)
-  writing-one l list′ r o = go (raceb (settingOf tr) a b) refl (o .next) (o .list-is)
+  writing-size = go writing (w .list-is)
     where
-      go : (t : Bool) → raceb (settingOf tr) a b ≡ t → r ≡ cond t (next + 1) next → list′ ≡ entryIf t tr a b next list → Writing tr b from k list₀ list′ r (a + 1)
-      go true e p q = rw (p, q) (writing-yes l e)
-      go false e p q = rw (p, q) (writing-no l e)
+      go : (t : Bool) → list ≡ cond t (sets list₀ (5 * k) (raws tr (withSecond tr b (firsts tr from b a)))) list₀ → length list ≡ length list₀
+      go true e = ap length e ∙ length-sets list₀ (5 * k) (raws tr (withSecond tr b (firsts tr from b a)))
+      go false e = ap length e
+
+  pub writing-few : k ≤ 4096 * b → next ≤ 4096 * b + a
+  writing-few h = omega (arith, w .next-is, firsts-length tr from b a)
+
+  pub writing-room : a < b → RoomIf writing tr b from k list₀ → T writing → raceb (settingOf tr) a b ≡ true → 5 * next + 5 ≤ length list
+  writing-room l h t e = omega (arith, h .space t, writing-size, w .next-is, firsts-grow tr from b a b l (w .low) e)
+
+  -- one more first access, a race or not
+  writing-next-is : (t : Bool) → raceb (settingOf tr) a b ≡ t → cond t (next + 1) next ≡ k + length (firsts tr from b (a + 1))
+  writing-next-is true e = omega (arith, w .next-is, ap length (firsts-yes tr from b a (w .low) e), length-append (firsts tr from b a) (a ∷ []))
+  writing-next-is false e = w .next-is ∙ ap (λ xs. k + length xs) (sym (firsts-no tr from b a e))
+
+  writing-list-is : (t : Bool) → raceb (settingOf tr) a b ≡ t → (u : Bool) → list ≡ cond u (sets list₀ (5 * k) (raws tr (withSecond tr b (firsts tr from b a)))) list₀
+      → entryIf (t && u) tr a b next list ≡ cond u (sets list₀ (5 * k) (raws tr (withSecond tr b (firsts tr from b (a + 1))))) list₀
+  writing-list-is true e true q = sym (written-yes tr b from k list₀ a (w .low) e ∙ rw (← w .next-is, ← q) refl)
+  writing-list-is false e true q = q ∙ sym (written-no tr b from k list₀ a e)
+  writing-list-is true e false q = q
+  writing-list-is false e false q = q
+
+  pub writing-one : a < b → (list′ : List ℕ) (r : ℕ) → OneWrites writing tr a b next list list′ r → Writing writing tr b from k list₀ list′ r (a + 1)
+  writing-one l list′ r o = record {
+    next-is = o .next ∙ writing-next-is (raceb (settingOf tr) a b) refl;
+    list-is = o .list-is ∙ writing-list-is (raceb (settingOf tr) a b) refl writing (w .list-is);
+    low = omega (arith, w .low);
+    high = omega arith;
+  }
 
   -- on to the next access of the cell
-  pub writing-jump : {p : ℕ} → a ≡ p + 1 → {r : ℕ} → Jump tr b p r → Writing tr b from k list₀ list next r
+  pub writing-jump : {p : ℕ} → a ≡ p + 1 → {r : ℕ} → Jump tr b p r → Writing writing tr b from k list₀ list next r
   writing-jump {p} e {r} j =
       let l = j .ahead in
       let m = w .low in
       let f = firsts-skip tr from b a r (omega arith) (λ x u v. j .none x (omega arith) v) in
       record {
         next-is = w .next-is ∙ ap (λ xs. k + length xs) (sym f);
-        list-is = w .list-is ∙ ap (λ xs. sets list₀ (5 * k) (raws tr (withSecond tr b xs))) (sym f);
+        list-is = w .list-is ∙ ap (λ xs. cond writing (sets list₀ (5 * k) (raws tr (withSecond tr b xs))) list₀) (sym f);
         low = omega arith;
         high = j .high;
       }
 
-  pub writing-end : {to : ℕ} → to ≤ a → Range tr b from to → Writes true tr b from k list₀ list next
+  pub writing-end : {to : ℕ} → to ≤ a → Range tr b from to → Writes writing tr b from k list₀ list next
   writing-end {to} h g =
       let f = firsts-skip tr from b a b (w .high) (λ x l m. g .none x (omega arith) m) in
-      record { next = w .next-is ∙ ap (λ xs. k + length xs) (sym f); list-is = w .list-is ∙ ap (λ xs. sets list₀ (5 * k) (raws tr (withSecond tr b xs))) (sym f) }
+      record { next = w .next-is ∙ ap (λ xs. k + length xs) (sym f); list-is = w .list-is ∙ ap (λ xs. cond writing (sets list₀ (5 * k) (raws tr (withSecond tr b xs))) list₀) (sym f) }
 
-pub writing-next : {tr : List Record} {b from k : ℕ} {list₀ list : List ℕ} {next a : ℕ} → Writing tr b from k list₀ list next a → a < b → (list′ : List ℕ) (r : ℕ) → OneWrites tr a b next list list′ r → (a′ : ℕ) → Jump tr b a a′ → Writing tr b from k list₀ list′ r a′
+pub writing-next : {writing : Bool} {tr : List Record} {b from k : ℕ} {list₀ list : List ℕ} {next a : ℕ} → Writing writing tr b from k list₀ list next a → a < b → (list′ : List ℕ) (r : ℕ) → OneWrites writing tr a b next list list′ r → (a′ : ℕ) → Jump tr b a a′ → Writing writing tr b from k list₀ list′ r a′
 writing-next w l list′ r o a′ j = writing-jump (writing-one w l list′ r o) refl j
 
 -- a second access without races has no entries

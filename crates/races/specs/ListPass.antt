@@ -56,26 +56,21 @@ pub record Ranges (tr : List Record) (short : Bool) (b from to : ℕ) : Type 0 w
   pub range : Range tr b from to
   pub firsts-are : firsts tr (fromOf tr short b) b b ≡ firsts tr from b b
 
--- what one pair of records asks for, and what becomes of entry k
-pub record OneRoom (tr : List Record) (ranks of : List ℕ) (width : ℕ) (clocks : List ℕ) (a b k : ℕ) (list : List ℕ) : Type 0 where
+-- what one pair of records asks for, and what becomes of entry k, written or only counted
+pub record OneRoom (writing : Bool) (tr : List Record) (ranks of : List ℕ) (width : ℕ) (clocks : List ℕ) (a b k : ℕ) (list : List ℕ) : Type 0 where
   pub filled : Filled tr ranks of width clocks
   pub earlier : a < b
   pub inside : b < length tr
-  pub space : raceb (settingOf tr) a b ≡ true → 5 * k + 5 ≤ length list
+  pub few : k ≤ 4096 * b + a
+  pub space : T writing → raceb (settingOf tr) a b ≡ true → 5 * k + 5 ≤ length list
 
 abbrev pub entryIf : Bool → List Record → ℕ → ℕ → ℕ → List ℕ → List ℕ
 entryIf true tr a b k list = sets list (5 * k) (raw tr a b)
 entryIf false tr a b k list = list
 
-pub record OneWrites (tr : List Record) (a b k : ℕ) (list list′ : List ℕ) (r : ℕ) : Type 0 where
+pub record OneWrites (writing : Bool) (tr : List Record) (a b k : ℕ) (list list′ : List ℕ) (r : ℕ) : Type 0 where
   pub next : r ≡ cond (raceb (settingOf tr) a b) (k + 1) k
-  pub list-is : list′ ≡ entryIf (raceb (settingOf tr) a b) tr a b k list
-
--- what a turn over one second access asks for: filled clocks, and list space for its entries from entry k on
-pub record Room (tr : List Record) (ranks of : List ℕ) (width : ℕ) (clocks : List ℕ) (b from k : ℕ) (list : List ℕ) : Type 0 where
-  pub filled : Filled tr ranks of width clocks
-  pub inside : b < length tr
-  pub space : 5 * (k + length (firsts tr from b b)) ≤ length list
+  pub list-is : list′ ≡ entryIf (raceb (settingOf tr) a b && writing) tr a b k list
 
 -- list space for its entries from entry k on, where they are written
 pub record RoomIf (writing : Bool) (tr : List Record) (b from k : ℕ) (list : List ℕ) : Type 0 where

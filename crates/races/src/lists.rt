@@ -24,37 +24,9 @@ ghost use Rattle.ranks.specs.Ranks.{noRanks};
 ghost use Rattle.order.specs.Fill.{chainsUsed, noChains};
 ghost use Rattle.races.specs.Lists.{shapeOf, ListReply};
 ghost use Rattle.races.specs.Paper.{listPaper, ListsFilled, Lists};
-ghost use Rattle.races.specs.ListPass.{fromOf, firsts, pairsBelow, raw, OneRoom, OneWrites, Clear, Room, RoomIf, Writes, WritesAll, Counts, ListsAll};
+ghost use Rattle.races.specs.ListPass.{fromOf, pairsBelow, raw, OneRoom, OneWrites, Clear, RoomIf, Writes, WritesAll, Counts, ListsAll};
 ghost use Rattle.races.specs.Candidates.{Range, Starts, Lasts};
 ghost use Rattle.races.specs.Filled.{Filled};
-
-// How many records on the way to b race with b.
-fn count_at(
-    recs: &[u8],
-    ranks: &[u16],
-    of: &[u16],
-    width: usize,
-    clocks: &[u16],
-    from: usize,
-    to: usize,
-    b: usize,
-) -> usize
-    requires { ⌜ Filled (decode (now recs)) (now ranks) (now of) width (now clocks) ⌝ }
-    requires { ⌜ Range (decode (now recs)) b from to × (b < length (decode (now recs))) ⌝ }
-    ensures { λ r. ⌜ (r ≡ length (firsts (decode (now (recs .entry))) from b b)) × (r ≤ b) ⌝ }
-{
-    let c = access::second_at(recs, b);
-    let reads = access::kind_at(recs, b) == 5;
-    let mut found = 0;
-    let mut a = from;
-    while a < to {
-        if is_race(recs, ranks, of, width, clocks, a, b) {
-            found += 1;
-        }
-        a = next_access(recs, a, to, c, reads);
-    }
-    found
-}
 
 // 1 for ww, 2 for wr, 3 for rw.
 fn shape_of(recs: &[u8], a: usize, b: usize) -> u16
@@ -82,8 +54,8 @@ fn put_entry(recs: &[u8], a: usize, b: usize, list: &mut [u16], k: usize)
     list[at + 4] = 0;
 }
 
-// Records a and b: entry k where they are a race. The next entry.
-fn write_race(
+// Records a and b: entry k where they are a race, written or only counted. The next entry.
+fn list_race(
     recs: &[u8],
     ranks: &[u16],
     of: &[u16],
@@ -93,47 +65,23 @@ fn write_race(
     b: usize,
     list: &mut [u16],
     k: usize,
+    writing: bool,
 ) -> usize
-    requires { ⌜ OneRoom (decode (now recs)) (now ranks) (now of) width (now clocks) a b k (now list) ⌝ }
-    ensures { λ r. ⌜ OneWrites (decode (now (recs .entry))) a b k (now (list .entry)) (now (list .exit)) r ⌝ }
+    requires { ⌜ OneRoom writing (decode (now recs)) (now ranks) (now of) width (now clocks) a b k (now list) ⌝ }
+    ensures { λ r. ⌜ OneWrites writing (decode (now (recs .entry))) a b k (now (list .entry)) (now (list .exit)) r ⌝ }
 {
-    if is_race(recs, ranks, of, width, clocks, a, b) {
+    if !is_race(recs, ranks, of, width, clocks, a, b) {
+        return k;
+    }
+    if writing {
         put_entry(recs, a, b, list, k);
         return k + 1;
     }
-    k
+    k + 1
 }
 
-// The races on the way to b, from entry k on.
-fn write_races(
-    recs: &[u8],
-    ranks: &[u16],
-    of: &[u16],
-    width: usize,
-    clocks: &[u16],
-    from: usize,
-    to: usize,
-    b: usize,
-    list: &mut [u16],
-    k: usize,
-) -> usize
-    requires { ⌜ Room (decode (now recs)) (now ranks) (now of) width (now clocks) b from k (now list) ⌝ }
-    requires { ⌜ Range (decode (now recs)) b from to ⌝ }
-    ensures { λ r. ⌜ Writes true (decode (now (recs .entry))) b from k (now (list .entry)) (now (list .exit)) r ⌝ }
-{
-    let c = access::second_at(recs, b);
-    let reads = access::kind_at(recs, b) == 5;
-    let mut next = k;
-    let mut a = from;
-    while a < to {
-        next = write_race(recs, ranks, of, width, clocks, a, b, list, next);
-        a = next_access(recs, a, to, c, reads);
-    }
-    next
-}
-
-// The entries of second access b, from entry k on, written or only counted.
-fn list_at(
+// The races on the way to b, from entry k on, written or only counted.
+fn list_way(
     recs: &[u8],
     ranks: &[u16],
     of: &[u16],
@@ -150,10 +98,15 @@ fn list_at(
     requires { ⌜ RoomIf writing (decode (now recs)) b from k (now list) ⌝ }
     ensures { λ r. ⌜ Writes writing (decode (now (recs .entry))) b from k (now (list .entry)) (now (list .exit)) r ⌝ }
 {
-    if writing {
-        return write_races(recs, ranks, of, width, clocks, from, to, b, list, k);
+    let c = access::second_at(recs, b);
+    let reads = access::kind_at(recs, b) == 5;
+    let mut next = k;
+    let mut a = from;
+    while a < to {
+        next = list_race(recs, ranks, of, width, clocks, a, b, list, next, writing);
+        a = next_access(recs, a, to, c, reads);
     }
-    k + count_at(recs, ranks, of, width, clocks, from, to, b)
+    next
 }
 
 // The entries of record b where it is an access, from entry k on, written or only counted; the next entry. Takes the access into account.
@@ -180,19 +133,17 @@ fn list_record(
     }
     let way = way_to(recs, ranks, of, width, clocks, starts, lasts, short, b);
     note_access(recs, short, way.quiet, b, starts, lasts);
-    let from = way.from;
-    let to = way.to;
-    if to <= from {
+    if way.to <= way.from {
         return k;
     }
-    list_at(
+    list_way(
         recs,
         ranks,
         of,
         width,
         clocks,
-        from,
-        to,
+        way.from,
+        way.to,
         b,
         list,
         k,

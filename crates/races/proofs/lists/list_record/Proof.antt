@@ -32,10 +32,10 @@ same-length-2 : tie.Need-same-length-2
 same-length-2 c = search needs
 
 returns-2 : tie.Need-returns-2
-returns-2 c = (way-over (c .before .before .before .before .before .before .before .before .way-to .ensures .0) (c .if2 .taken) (c .before .before .before .before .before .before .before .before .before .before .before .before .before .before .before .before .before .before .before .before .args .writing) (c .before .before .before .before .before .before .before .before .before .before .before .before .before .before .before .before .before .before .before .before .args .k) (now (c .before .before .before .before .before .before .before .before .before .before .before .before .before .before .before .before .before .before .before .before .args .list)), c .before .before .before .before .before .note-access .ensures .0, c .before .before .before .before .before .note-access .ensures .1)
+returns-2 c = (way-over (c .before .before .before .before .before .before .before .before .before .way-to .ensures .0) (c .if2 .taken) (c .before .before .before .before .before .before .before .before .before .before .before .before .before .before .before .before .before .before .before .before .before .args .writing) (c .before .before .before .before .before .before .before .before .before .before .before .before .before .before .before .before .before .before .before .before .before .args .k) (now (c .before .before .before .before .before .before .before .before .before .before .before .before .before .before .before .before .before .before .before .before .before .args .list)), c .before .before .before .before .before .before .note-access .ensures .0, c .before .before .before .before .before .before .note-access .ensures .1)
 
-list-at-requires : tie.Need-list-at-requires
-list-at-requires c κs = ((c .before .before .before .before .before .before .before .before .before .before .before .before .before .before .before .before .before .before .before .before .before .pre .0 .0, c .before .before .before .before .before .before .before .before .before .before .before .before .before .before .before .before .before .before .before .before .before .pre .0 .1, c .before .before .before .before .before .before .before .before .before .way-to .ensures .0 .range), way-room (c .before .before .before .before .before .before .before .before .before .way-to .ensures .0) (c .before .before .before .before .before .before .before .before .before .before .before .before .before .before .before .before .before .before .before .before .before .pre .0 .2))
+list-way-requires : tie.Need-list-way-requires
+list-way-requires c κs = ((c .before .before .before .before .before .before .before .before .before .before .before .before .before .before .before .before .before .before .before .before .before .before .pre .0 .0, c .before .before .before .before .before .before .before .before .before .before .before .before .before .before .before .before .before .before .before .before .before .before .pre .0 .1, c .before .before .before .before .before .before .before .before .before .before .way-to .ensures .0 .range), way-room (c .before .before .before .before .before .before .before .before .before .before .way-to .ensures .0) (c .before .before .before .before .before .before .before .before .before .before .before .before .before .before .before .before .before .before .before .before .before .before .pre .0 .2))
 
 same-length-3 : tie.Need-same-length-3
 same-length-3 c = search needs
@@ -47,7 +47,7 @@ same-length-5 : tie.Need-same-length-5
 same-length-5 c = search needs
 
 returns-3 : tie.Need-returns-3
-returns-3 c = (way-writes (c .before .before .before .before .before .before .before .before .before .before .before .before .way-to .ensures .0) (c .before .before .list-at .ensures), c .before .before .before .before .before .before .before .before .before .note-access .ensures .0, c .before .before .before .before .before .before .before .before .before .note-access .ensures .1)
+returns-3 c = (way-writes (c .before .before .before .before .before .before .before .before .before .before .before .before .before .way-to .ensures .0) (c .before .before .list-way .ensures), c .before .before .before .before .before .before .before .before .before .before .note-access .ensures .0, c .before .before .before .before .before .before .before .before .before .before .note-access .ensures .1)
 
 pub list-record-spec : {M : Type 1} → statement M
 list-record-spec =
@@ -60,7 +60,7 @@ list-record-spec =
     same-length
     same-length-2
     returns-2
-    list-at-requires
+    list-way-requires
     same-length-3
     same-length-4
     same-length-5
