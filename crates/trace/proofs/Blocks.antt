@@ -1,24 +1,23 @@
 -- The laws of acceptable traces: the records of one event action stand together, and links stand between the event actions that they order.
 -- Assumes nothing.
 use Prim.Native.Nat.{ℕ, zero, suc, _+_, _-_, _<_, _≤_}
-use mathlib.Core.Path.{_≡_, refl, sym, ap, _∙_, subst}
-use mathlib.Core.Bool.{Bool, true, false, cond, not, _&&_, _||_, and-eq-true-iff}
+use mathlib.Core.Path.{_≡_, refl, sym, ap, _∙_}
+use mathlib.Core.Bool.{Bool, true, false, cond, not, _&&_, _||_}
 use mathlib.Core.List.{List, [], _∷_}
-use mathlib.Core.Logic.{_≢_, _⊎_, inl, inr, ⊎-elim}
+use mathlib.Core.Logic.{_≢_, _⊎_, inl, inr}
 use native.Mathlib.Omega.{arith}
 use native.Mathlib.Nat.{not-suc-le-zero, eq-or-lt-of-le, le-of-suc-le-suc}
 use native.Mathlib.Decide.{ℕ-discrete}
-use borrow.Author.Tests.{eq-eqb, ne-eqb, eqb-true, eqb-false, leb-true, not-false, not-true, lt-ltb, le-ltb}
-use lib.Dec.{eqb, leb, ltb}
+use borrow.Author.Tests.{eq-eqb, ne-eqb, eqb-true, not-false}
+use lib.Dec.{eqb}
 use lib.ListN.{length}
 use Rattle.records.specs.declared.Record.{Record}
-use Rattle.records.specs.Records.{at, past, isBegin, isEnd, isFork, isJoin, isRead, isWrite, eventOf, has, begun, ended}
+use Rattle.records.specs.Records.{at, past, isBegin, isEnd, eventOf, has, begun, ended}
 use Rattle.trace.specs.Place.{between, unknownKind, outOfPlace, place}
-use Rattle.trace.specs.Rule.{situation, owner, numbered, wellFormed, misplaced, again, early, judge, rule}
+use Rattle.trace.specs.Rule.{situation, owner, wellFormed, misplaced, again, early, judge, rule}
 use Rattle.trace.specs.Reading.{Acceptable}
-use Rattle.records.proofs.Positions.{decide, true-not-false, or-cases, or-first, or-second, Found, has-found, has-intro, has-later, lt-or-ge}
+use Rattle.records.proofs.Positions.{true-not-false, or-second, Found, has-found, has-intro, has-later, lt-or-ge}
 use Rattle.trace.proofs.PlaceRule.{Outside, begins, joins, Inside, ends, forks, reads, writes, outside, inside}
-use Rattle.trace.proofs.Marked.{formed}
 
 over : (t : Bool) (n y : ℕ) → cond t (suc n) y ≡ 0 → (t ≡ false) × (y ≡ 0)
 over true n y e = absurd (omega arith)
@@ -61,7 +60,7 @@ passing before r h =
     own false e q = let z : _≡_ {A = ℕ} 0 1 = cc in absurd (omega arith)
 
 -- begin and join: the event has not begun. Fork: the event started has not begun. Join: the event waited for has ended.
-again-start : (r : Record) (x y : Bool) → (r .kind ≡ 1) ⊎ (r .kind ≡ 4) → again r x y ≡ false → x ≡ false
+pub again-start : (r : Record) (x y : Bool) → (r .kind ≡ 1) ⊎ (r .kind ≡ 4) → again r x y ≡ false → x ≡ false
 unfolding again
 again-start r x y (inl k) h = rw k at h
 again-start r x y (inr k) h = rw k at h
@@ -73,6 +72,42 @@ again-fork r x y k h = rw k at h
 early-join : (r : Record) (x : Bool) → r .kind ≡ 4 → early r x ≡ false → x ≡ true
 unfolding early
 early-join r x k h = not-false x (rw k at h)
+
+-- Inside an event action its event has begun.
+abbrev pub Running : List Record → Type 0
+Running before = 2 ≤ situation before → begun (owner before) before ≡ true
+
+pub running-start : Running []
+unfolding situation
+running-start l = absurd (omega arith)
+
+module _ {before : List Record} {r : Record} (p : Passes before r) (going : Running before) where
+  inside-begun : 2 ≤ situation before → begun (r .first) before ≡ true
+  inside-begun l = rw (p .owned (λ e. omega arith)) (going l)
+
+  -- any record but a begin and a join
+  pub body-begun : r .kind ≢ 1 → r .kind ≢ 4 → begun (r .first) before ≡ true
+  body-begun n m = go (lt-or-ge (situation before) 2)
+    where
+      off : Outside (r .kind) (place (situation before) (r .kind)) → ⊥
+      off (begins k q) = n k
+      off (joins k q) = m k
+
+      go : (situation before < 2) ⊎ (2 ≤ situation before) → begun (r .first) before ≡ true
+      go (inl l) = absurd (off (outside (situation before) (r .kind) (p .known) (p .placed) l))
+      go (inr l) = inside-begun l
+
+  pub running-next : Running (r ∷ before)
+  unfolding situation owner begun has
+  running-next l = go (lt-or-ge (situation before) 2)
+    where
+      entered : Outside (r .kind) (place (situation before) (r .kind)) → begun (r .first) (r ∷ before) ≡ true
+      entered (begins k q) = simp (k, eq-eqb (r .first) (r .first) refl)
+      entered (joins k q) = absurd (omega arith)
+
+      go : (situation before < 2) ⊎ (2 ≤ situation before) → begun (r .first) (r ∷ before) ≡ true
+      go (inl m) = entered (outside (situation before) (r .kind) (p .known) (p .placed) m)
+      go (inr m) = or-second (isBegin r && eqb (r .first) (r .first)) (begun (r .first) before) (inside-begun m)
 
 module _ {tr : List Record} (a : Acceptable tr) where
   abbrev ev : ℕ → ℕ
@@ -102,7 +137,7 @@ module _ {tr : List Record} (a : Acceptable tr) where
   -- before the record at position i
   record Started (i : ℕ) : Type 0 where
     low : sit i ≤ 2
-    running : sit i ≡ 2 → begun (owner (past tr i)) (past tr i) ≡ true
+    running : Running (past tr i)
     all : (x : ℕ) → x < i → (begun (ev x) (past tr i) ≡ true) ⊎ ((sit i ≡ 1) × (owner (past tr i) ≡ ev x))
 
   begun-here : (i : ℕ) → kind i ≡ 1 → begun (ev i) (past tr (suc i)) ≡ true
@@ -115,10 +150,14 @@ module _ {tr : List Record} (a : Acceptable tr) where
 
   -- one record more
   module _ (i : ℕ) (h : i < length tr) (s : Started i) where
+    still : Running (past tr (suc i))
+    unfolding past
+    still = running-next (passes-at i h) (s .running)
+
     after-begin : kind i ≡ 1 → sit (suc i) ≡ 2 → Started (suc i)
     after-begin k q = record {
       low = omega arith;
-      running = λ e. rw (owner-after i) (begun-here i k);
+      running = still;
       all = λ x l. inl (earlier x (eq-or-lt-of-le (le-of-suc-le-suc l)));
     }
       where
@@ -135,7 +174,7 @@ module _ {tr : List Record} (a : Acceptable tr) where
     after-join : kind i ≡ 4 → sit (suc i) ≡ 1 → Started (suc i)
     after-join k q = record {
       low = omega arith;
-      running = λ e. absurd (omega arith);
+      running = still;
       all = λ x l. earlier x (eq-or-lt-of-le (le-of-suc-le-suc l));
     }
       where
@@ -150,12 +189,12 @@ module _ {tr : List Record} (a : Acceptable tr) where
     after-inside : sit i ≡ 2 → sit (suc i) ≤ 2 → Started (suc i)
     after-inside t q = record {
       low = q;
-      running = λ e. rw (owner-after i) mine;
+      running = still;
       all = λ x l. inl (earlier x (eq-or-lt-of-le (le-of-suc-le-suc l)));
     }
       where
         mine : begun (ev i) (past tr (suc i)) ≡ true
-        mine = begun-later (ev i) i (rw (passes-at i h .owned (λ e. omega (arith, t))) (s .running t))
+        mine = begun-later (ev i) i (inside-begun (passes-at i h) (s .running) (omega arith))
 
         known : (x : ℕ) → (begun (ev x) (past tr i) ≡ true) ⊎ ((sit i ≡ 1) × (owner (past tr i) ≡ ev x)) → begun (ev x) (past tr (suc i)) ≡ true
         known x (inl b) = begun-later (ev x) i b
@@ -181,7 +220,7 @@ module _ {tr : List Record} (a : Acceptable tr) where
 
   nothing : Started 0
   unfolding situation past
-  nothing = record { low = omega arith; running = λ e. absurd (omega arith); all = λ x l. absurd (not-suc-le-zero l) }
+  nothing = record { low = omega arith; running = running-start; all = λ x l. absurd (not-suc-le-zero l) }
 
   started : (i : ℕ) → i ≤ length tr → Started i
   started zero h = nothing
@@ -260,18 +299,7 @@ module _ {tr : List Record} (a : Acceptable tr) where
 
   pub body-after-begin : (i : ℕ) → i < length tr → kind i ≢ 1 → kind i ≢ 4 → Found tr isBegin (ev i) i
   unfolding begun
-  body-after-begin i h n m = has-found tr isBegin (ev i) i (go (lt-or-ge (sit i) 2))
-    where
-      off : Outside (kind i) (sit (suc i)) → ⊥
-      off (begins k q) = n k
-      off (joins k q) = m k
-
-      go : (sit i < 2) ⊎ (2 ≤ sit i) → begun (ev i) (past tr i) ≡ true
-      go (inl l) = absurd (off (outside-at i h l))
-      go (inr l) =
-          let s = started i (omega arith) in
-          let t = s .low in
-          rw (passes-at i h .owned (λ e. omega arith)) (s .running (omega arith))
+  body-after-begin i h n m = has-found tr isBegin (ev i) i (body-begun (passes-at i h) (started i (omega arith) .running) n m)
 
   -- an end is its event action's last record
   pub end-last : (i x : ℕ) → i < length tr → x < length tr → kind i ≡ 2 → ev i ≡ ev x → x ≤ i

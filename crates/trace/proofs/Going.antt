@@ -1,9 +1,10 @@
 -- The walk over the records, turn by turn: what the reader's loop keeps, and what each way out of it shows.
 -- Assumes nothing.
-use Prim.Native.Nat.{ℕ, zero, suc, _+_, _-_, _<_, _≤_}
-use mathlib.Core.Path.{_≡_, refl, sym, ap, _∙_}
-use mathlib.Core.Bool.{Bool, true, false, cond, _&&_, and-eq-true-iff}
+use Prim.Native.Nat.{ℕ, zero, suc, _+_, _<_, _≤_}
+use mathlib.Core.Path.{_≡_, refl, sym, _∙_}
+use mathlib.Core.Bool.{Bool, true, false, cond, and-eq-true-iff}
 use mathlib.Core.List.{List, [], _∷_}
+use mathlib.Core.Logic.{inl}
 use native.Mathlib.Omega.{arith}
 use native.Mathlib.Numerals.{add-one}
 use borrow.Author.Tests.{leb-true, eq-eqb, ne-eqb, le-ltb}
@@ -11,16 +12,17 @@ use lib.Dec.{eqb, leb}
 use lib.ListN.{length, drop, drop-of-length-le}
 use lib.Seq.{drop-cons}
 use Rattle.records.specs.declared.Record.{Record}
-use Rattle.records.specs.Records.{noRecord, at, past, begun, ended, begins}
-use Rattle.records.specs.Marks.{isMarked, noMarks, noted}
+use Rattle.records.specs.Records.{noRecord, at, past, begins}
+use Rattle.records.specs.Marks.{noMarks}
 use Rattle.trace.specs.Place.{between, inside, place}
 use Rattle.trace.specs.Rule.{situation, owner, numbered, wellFormed, misplaced, again, early, judge, rule}
+use Rattle.trace.specs.Status.{hasBegun, hasEnded, noted}
 use Rattle.trace.specs.Inner.{Inner, Accesses, none, more}
 use Rattle.trace.specs.Reading.{Reply, refused, accepted, demand, closing, orElse, walk}
-use Rattle.trace.specs.Paper.{Verdict, passes, fails, verdict}
 use Rattle.records.proofs.Records.{past-more, past-length}
-use Rattle.trace.proofs.Marked.{Tracks, tracks-start, tracks-next, formed, judge-same}
-use Rattle.trace.proofs.Blocks.{passing}
+use Rattle.trace.proofs.Marked.{formed, judge-same}
+use Rattle.trace.proofs.StatusLaws.{Tracks, tracks-start, tracks-next}
+use Rattle.trace.proofs.Blocks.{passing, again-start, Running, running-start, running-next, body-begun}
 
 -- a fault is what the walk stops at
 pub stops : (n op : ℕ) (y : Reply) → (n ≡ 0 → ⊥) → refused n op ≡ orElse n op y
@@ -35,19 +37,19 @@ walk-step : (tr : List Record) (start m i : ℕ) → i < length tr
 unfolding walk past
 walk-step tr start m i h = rw (drop-cons tr i noRecord h, past-length tr i, add-one i)
 
--- Before the record at position i the walk over all records has come to the rest of them; situation, event, number of begins and marks are those after the records before.
-pub record Going (tr : List Record) (start m s e f i : ℕ) (b d : List ℕ) : Type 0 where
+-- Before the record at position i the walk over all records has come to the rest of them; situation, event, number of begins and each event's status are those after the records before.
+pub record Going (tr : List Record) (start m s e f i : ℕ) (st : List ℕ) : Type 0 where
   pub within : i ≤ length tr
   pub stands : s ≡ situation (past tr i)
   pub owns : e ≡ owner (past tr i)
   pub counts : f ≡ begins (past tr i)
   pub few : f ≤ i
   pub named : s ≡ inside → numbered e ≡ true
-  pub begins : Tracks b 1 (past tr i)
-  pub ends : Tracks d 2 (past tr i)
+  pub running : Running (past tr i)
+  pub tracks : Tracks st (past tr i)
   pub comes : walk start m [] tr ≡ walk start m (past tr i) (drop i tr)
 
-pub going-start : (tr : List Record) (start m : ℕ) → Going tr start m 0 0 0 0 noMarks noMarks
+pub going-start : (tr : List Record) (start m : ℕ) → Going tr start m 0 0 0 0 noMarks
 unfolding situation owner past begins
 going-start tr start m = record {
   within = omega arith;
@@ -56,8 +58,8 @@ going-start tr start m = record {
   counts = refl;
   few = omega arith;
   named = λ z. absurd (omega arith);
-  begins = tracks-start 1;
-  ends = tracks-start 2;
+  running = running-start;
+  tracks = tracks-start;
   comes = refl;
 }
 
@@ -69,7 +71,7 @@ pub in-range : (x : ℕ) → numbered x ≡ true → x < 1025
 unfolding numbered
 in-range x h = let p = leb-true x 1024 (and-eq-true-iff (leb 1 x) (leb x 1024) .0 h .1) in omega arith
 
-module _ {tr : List Record} {start m s e f i : ℕ} {b d : List ℕ} (g : Going tr start m s e f i b d) where
+module _ {tr : List Record} {start m s e f i : ℕ} {st : List ℕ} (g : Going tr start m s e f i st) where
   -- the walk's end, after k records
   pub going-end : {k : ℕ} → k ≡ length tr → k ≤ i → walk start m [] tr ≡ demand (eqb s between) 9 k (demand (eqb f m) 10 0 (accepted start k f))
   unfolding walk closing
@@ -79,38 +81,40 @@ module _ {tr : List Record} {start m s e f i : ℕ} {b d : List ℕ} (g : Going 
       g .comes ∙ simp (drop-of-length-le tr {i = i} (omega arith), past-length, ← g .stands, ← g .counts, q)
 
   module _ (h : i < length tr) (r : Record) (er : r ≡ at tr i) where
-    -- the facts that the marks give are the records' own
-    judged : rule (past tr i) r ≡ judge s e r (isMarked b (r .first)) (isMarked b (r .second)) (isMarked d (r .second))
-    unfolding rule begun ended
+    -- the facts that the status of events gives are the records' own
+    judged : rule (past tr i) r ≡ judge s e r (hasBegun st (r .first)) (hasBegun st (r .second)) (hasEnded st (r .second))
+    unfolding rule
     judged =
         rw (← g .stands, ← g .owns) (judge-same s e r _ _ _ _ _ _
-        (λ k. sym (g .begins .tells (r .first) (in-range (r .first) k)))
-        (λ k. (sym (g .begins .tells (r .second) (in-range (r .second) k)), sym (g .ends .tells (r .second) (in-range (r .second) k)))))
+        (λ k. sym (g .tracks .begins (r .first) (in-range (r .first) k)))
+        (λ k. (sym (g .tracks .begins (r .second) (in-range (r .second) k)), sym (g .tracks .ends (r .second) (in-range (r .second) k)))))
 
     turn : walk start m [] tr
-        ≡ orElse (judge s e r (isMarked b (r .first)) (isMarked b (r .second)) (isMarked d (r .second))) (i + 1) (walk start m (past tr (i + 1)) (drop (i + 1) tr))
+        ≡ orElse (judge s e r (hasBegun st (r .first)) (hasBegun st (r .second)) (hasEnded st (r .second))) (i + 1) (walk start m (past tr (i + 1)) (drop (i + 1) tr))
     turn = g .comes ∙ walk-step tr start m i h ∙ simp (← er, judged)
 
-    module _ (k : ℕ) (v : k ≡ judge s e r (isMarked b (r .first)) (isMarked b (r .second)) (isMarked d (r .second))) where
+    module _ (k : ℕ) (v : k ≡ judge s e r (hasBegun st (r .first)) (hasBegun st (r .second)) (hasEnded st (r .second))) where
       -- the record has a fault: that is the walk's reply
       pub going-refused : (k ≡ 0 → ⊥) → refused k (i + 1) ≡ walk start m [] tr
       going-refused h = stops k (i + 1) (walk start m (past tr (i + 1)) (drop (i + 1) tr)) h ∙ simp v (sym turn)
 
       -- it has none: so the walk goes on
       pub going-next : k ≡ 0 → (next : ℕ) → next ≡ place s (r .kind) → (f′ : ℕ) → f′ ≡ cond (eqb (r .kind) 1) (f + 1) f
-          → Going tr start m next (r .first) f′ (i + 1) (noted b 1 r) (noted d 2 r)
+          → Going tr start m next (r .first) f′ (i + 1) (noted st r)
       unfolding situation owner begins orElse
       going-next z next q f′ c =
           let more : past tr (i + 1) ≡ r ∷ past tr i = past-more tr i ∙ simp (← er) in
+          let p = passing (past tr i) r (judged ∙ sym v ∙ z) in
+          let own = formed r (p .well-formed) .0 in
           record {
             within = omega arith;
             stands = q ∙ simp (more, ← g .stands);
             owns = simp more;
             counts = c ∙ simp (more, ← g .counts);
             few = rw c (at-most-one (eqb (r .kind) 1) (g .few));
-            named = λ t. formed r (passing (past tr i) r (judged ∙ sym v ∙ z) .well-formed) .0;
-            begins = rw more (tracks-next r (g .begins));
-            ends = rw more (tracks-next r (g .ends));
+            named = λ t. own;
+            running = rw more (running-next p (g .running));
+            tracks = rw more (tracks-next (g .tracks) r (in-range (r .first) own) (λ k. again-start r _ _ (inl k) (p .fresh)) (λ k. body-begun p (g .running) (λ q. omega arith) (λ q. omega arith)));
             comes = turn ∙ simp (← v, z);
           }
 
@@ -121,8 +125,8 @@ inner-passes {e} {r} n t a b c =
     let k = n .access in
     simp (n .placed, n .own, t, n .cell, eq-eqb e e refl, le-ltb (r .kind) 3 (omega arith), ne-eqb (r .kind) 1 (λ p. omega arith), ne-eqb (r .kind) 3 (λ p. omega arith), ne-eqb (r .kind) 4 (λ p. omega arith))
 
-module _ {tr : List Record} {start m s e f : ℕ} {b d : List ℕ} where
-  going-inner : {i : ℕ} → Going tr start m s e f i b d → s ≡ inside → i < length tr → Inner e (at tr i) → Going tr start m s e f (i + 1) b d
+module _ {tr : List Record} {start m s e f : ℕ} {st : List ℕ} where
+  going-inner : {i : ℕ} → Going tr start m s e f i st → s ≡ inside → i < length tr → Inner e (at tr i) → Going tr start m s e f (i + 1) st
   unfolding noted
   going-inner {i} g q h n =
       let k = n .access in
@@ -130,7 +134,7 @@ module _ {tr : List Record} {start m s e f : ℕ} {b d : List ℕ} where
       rw q (simp (n .own, ne-eqb (r .kind) 1 (λ p. omega arith), ne-eqb (r .kind) 2 (λ p. omega arith))
       at (going-next g h r refl 0 (rw q (inner-passes n (g .named q) _ _ _)) refl 2 (sym (rw q (n .placed))) f (simp (ne-eqb (r .kind) 1 (λ p. omega arith)))))
 
-  pub going-along : {i j : ℕ} → Accesses tr s e i j → Going tr start m s e f i b d → Going tr start m s e f j b d
+  pub going-along : {i j : ℕ} → Accesses tr s e i j → Going tr start m s e f i st → Going tr start m s e f j st
   going-along none g = g
   going-along (more a q h n) g = going-inner (going-along a g) q h n
 

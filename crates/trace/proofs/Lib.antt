@@ -1,6 +1,7 @@
 pub mod Table
 pub mod Upward
 pub mod Marked
+pub mod StatusLaws
 pub mod Faults
 pub mod Going
 pub mod Accepted

@@ -1,6 +1,7 @@
 pub mod Place
 pub mod Rule
 pub mod Inner
+pub mod Status
 pub mod Reading
 pub mod Paper
 pub mod Encoding

@@ -3,6 +3,7 @@ mod frame;
 mod place;
 pub mod rule;
 mod scan;
+mod status;
 
 use records::Trace;
 use records::access;

@@ -5,6 +5,7 @@ use crate::accept;
 use crate::place;
 use crate::refuse;
 use crate::rule;
+use crate::status;
 use records::Record;
 use records::access::count;
 use records::access::record_at;
@@ -16,10 +17,10 @@ ghost use Prim.Native.Nat.{ℕ, _+_, _/_, _%_, _≤_, _<_};
 ghost use lib.Dec.{eqb};
 ghost use lib.ListN.{length, getD};
 ghost use Rattle.records.specs.Bytes.{decode};
-ghost use Rattle.records.specs.Marks.{isMarked, noted};
 ghost use Rattle.trace.specs.Place.{place};
 ghost use Rattle.trace.specs.Rule.{again, early};
 ghost use Rattle.trace.specs.Inner.{Inner, Accesses};
+ghost use Rattle.trace.specs.Status.{hasBegun, hasEnded, noted};
 ghost use Rattle.trace.specs.Reading.{accepted, demand, walk};
 ghost use Rattle.trace.specs.Paper.{paper};
 
@@ -37,28 +38,28 @@ fn finish(records: usize, start: usize, events: usize, now_in: u8, found: usize)
     accept(start, records, found)
 }
 
-// The number of the first of refusals 7 and 8 that applies to record r, or 0, where what has begun and ended before is marked. A begin or an end that passes marks its
-// event.
-fn admit(begun: &mut [u8; 1025], ended: &mut [u8; 1025], r: Record) -> u16
-    ensures { λ n. ⌜ (n ≡ cond (again r (isMarked (now (begun .entry)) (r .first)) (isMarked (now (begun .entry)) (r .second))) 7 (cond (early r (isMarked (now (ended .entry)) (r .second))) 8 0)) × (n ≡ 0 → (now (begun .exit) ≡ noted (now (begun .entry)) 1 r) × (now (ended .exit) ≡ noted (now (ended .entry)) 2 r)) ⌝ }
+// The number of the first of refusals 7 and 8 that applies to record r, or 0, by what has begun and ended before. A begin or an end that passes is noted in its event's
+// status.
+fn admit(status: &mut [u8; 1025], r: Record) -> u16
+    ensures { λ n. ⌜ (n ≡ cond (again r (hasBegun (now (status .entry)) (r .first)) (hasBegun (now (status .entry)) (r .second))) 7 (cond (early r (hasEnded (now (status .entry)) (r .second))) 8 0)) × (n ≡ 0 → now (status .exit) ≡ noted (now (status .entry)) r) ⌝ }
 {
     let kind = r.kind;
     if kind == 1 {
-        if marks::is_marked(begun, r.first) {
+        if status::has_begun(status, r.first) {
             return crate::BEGUN_ALREADY;
         }
-        marks::mark(begun, r.first);
+        status::note(status, r.first, status::BEGUN);
         return 0;
     }
     if kind == 2 {
-        marks::mark(ended, r.first);
+        status::note(status, r.first, status::ENDED);
         return 0;
     }
     rule::order_fault(
         r,
-        marks::is_marked(begun, r.first),
-        marks::is_marked(begun, r.second),
-        marks::is_marked(ended, r.second),
+        status::has_begun(status, r.first),
+        status::has_begun(status, r.second),
+        status::has_ended(status, r.second),
     )
 }
 
@@ -116,8 +117,7 @@ pub(crate) fn scan(recs: &[u8], start: usize, events: usize) -> Reading
 {
     let records = count(recs);
     let places = place::table();
-    let mut begun = marks::none();
-    let mut ended = marks::none();
+    let mut status = marks::none();
     let mut now_in: u8 = 0;
     let mut owner: u16 = 0;
     let mut found = 0;
@@ -129,7 +129,7 @@ pub(crate) fn scan(recs: &[u8], start: usize, events: usize) -> Reading
         if misplaced != 0 {
             return refuse(misplaced, i + 1);
         }
-        let number = admit(&mut begun, &mut ended, r);
+        let number = admit(&mut status, r);
         if number != 0 {
             return refuse(number, i + 1);
         }

@@ -3,67 +3,65 @@
 use mathlib.Core.Path.{_∙_}
 use borrow.Author.Tests.{ne-eqb}
 use native.Mathlib.Omega.{arith}
-use Rattle.records.specs.Marks.{noted}
 use Rattle.trace.specs.Rule.{again, early}
+use Rattle.trace.specs.Status.{noted}
 use borrow.Author.Needs.{needs}
 use Rattle.trace.proofs.scan.admit.Statement.{statement}
 use Rattle.trace.proofs.scan.admit.Tie as tie
 
-is-marked-requires : tie.Need-is-marked-requires
-is-marked-requires c κs = search needs
+has-begun-requires : tie.Need-has-begun-requires
+has-begun-requires c κs = search needs
 
 returns : tie.Need-returns
 unfolding again
-returns c = (simp (c .before .before .before .before .if1 .taken, ← c .before .is-marked .ensures, c .if2 .taken), λ z. absurd (omega arith))
+returns c = (simp (c .before .before .before .before .if1 .taken, ← c .before .has-begun .ensures, c .if2 .taken), λ z. absurd (omega arith))
 
-mark-requires : tie.Need-mark-requires
-mark-requires c κs = search needs
+note-requires : tie.Need-note-requires
+note-requires c κs = search needs
 
 returns-2 : tie.Need-returns-2
 unfolding again early noted
 returns-2 c =
     let is = c .before .before .before .before .before .before .if1 .taken in
-    (simp (is, ← c .before .before .before .is-marked .ensures, c .before .before .if2 .left), λ z. (c .mark .ensures ∙ simp is, simp is))
+    (simp (is, ← c .before .before .before .has-begun .ensures, c .before .before .if2 .left), λ z. c .note .ensures ∙ simp is)
 
-mark-requires-2 : tie.Need-mark-requires-2
-mark-requires-2 c κs = search needs
+note-requires-2 : tie.Need-note-requires-2
+note-requires-2 c κs = search needs
 
 returns-3 : tie.Need-returns-3
 unfolding again early noted
 returns-3 c =
     let is = c .before .before .if3 .taken in
-    (simp is, λ z. (simp is, c .mark2 .ensures ∙ simp is))
+    (simp is, λ z. c .note2 .ensures ∙ simp is)
 
-is-marked-requires-2 : tie.Need-is-marked-requires-2
-is-marked-requires-2 c κs = search needs
+has-begun-requires-2 : tie.Need-has-begun-requires-2
+has-begun-requires-2 c κs = search needs
 
-is-marked-requires-3 : tie.Need-is-marked-requires-3
-is-marked-requires-3 c κs = search needs
+has-begun-requires-3 : tie.Need-has-begun-requires-3
+has-begun-requires-3 c κs = search needs
 
-is-marked-requires-4 : tie.Need-is-marked-requires-4
-is-marked-requires-4 c κs = search needs
+has-ended-requires : tie.Need-has-ended-requires
+has-ended-requires c κs = search needs
 
 order-fault-requires : tie.Need-order-fault-requires
 order-fault-requires c κs = search needs
 
 returns-4 : tie.Need-returns-4
 unfolding noted
-returns-4 c =
-    let e = c .before .before .before .before .before .before .before .before .before .before in
-    (simp (← c .before .before .before .before .before .before .before .is-marked2 .ensures, ← c .before .before .before .before .is-marked3 .ensures, ← c .before .is-marked4 .ensures) (c .order-fault .ensures), λ z. (simp (ne-eqb _ _ (e .before .if1 .left)), simp (ne-eqb _ _ (e .if3 .left))))
+returns-4 c = (simp (← c .before .before .before .before .before .before .before .has-begun2 .ensures, ← c .before .before .before .before .has-begun3 .ensures, ← c .before .has-ended .ensures) (c .order-fault .ensures), λ z. simp (ne-eqb _ _ (c .before .before .before .before .before .before .before .before .before .before .before .if1 .left), ne-eqb _ _ (c .before .before .before .before .before .before .before .before .before .before .if3 .left)))
 
 pub admit-spec : {M : Type 1} → statement M
 admit-spec =
     tie.close
     (tie.spec
-    is-marked-requires
+    has-begun-requires
     returns
-    mark-requires
+    note-requires
     returns-2
-    mark-requires-2
+    note-requires-2
     returns-3
-    is-marked-requires-2
-    is-marked-requires-3
-    is-marked-requires-4
+    has-begun-requires-2
+    has-begun-requires-3
+    has-ended-requires
     order-fault-requires
     returns-4)

@@ -13,11 +13,11 @@ use Rattle.trace.proofs.scan.scan.Statement.{statement}
 use Rattle.trace.proofs.scan.scan.Tie as tie
 
 abbrev Inv-loop : tie.InvT-loop
-Inv-loop recs start events records places begun₀ ended₀ now-in₀ owner₀ found₀ i₀ begun ended now-in owner found i =
-    Going (decode recs) start events now-in owner found i begun ended
+Inv-loop recs start events records places status₀ now-in₀ owner₀ found₀ i₀ status now-in owner found i =
+    Going (decode recs) start events now-in owner found i status
 
 abbrev μ-loop : tie.MeasureT-loop
-μ-loop recs start events records places begun₀ ended₀ now-in₀ owner₀ found₀ i₀ begun ended now-in owner found i =
+μ-loop recs start events records places status₀ now-in₀ owner₀ found₀ i₀ status now-in owner found i =
     records - i
 
 count-requires : tie.Need-count-requires Inv-loop μ-loop
@@ -29,19 +29,16 @@ table-requires c κs = search needs
 none-requires : tie.Need-none-requires Inv-loop μ-loop
 none-requires c κs = search needs
 
-none-requires-2 : tie.Need-none-requires-2 Inv-loop μ-loop
-none-requires-2 c κs = search needs
-
 loop-holds : tie.Need-loop-holds Inv-loop μ-loop
 loop-holds c =
-    let a = c .before .before .before .before .before .args in
-    rw (c .before .none .ensures, c .none2 .ensures) (going-start (decode (now (a .recs))) (a .start) (a .events))
+    let a = c .before .before .before .before .args in
+    rw (c .none .ensures) (going-start (decode (now (a .recs))) (a .start) (a .events))
 
 record-at-requires : tie.Need-record-at-requires Inv-loop μ-loop
 record-at-requires c κs = search needs
 
 next-requires : tie.Need-next-requires Inv-loop μ-loop
-next-requires c κs = c .before .before .before .before .before .before .table .ensures
+next-requires c κs = c .before .before .before .before .before .table .ensures
 
 place-fault-requires : tie.Need-place-fault-requires Inv-loop μ-loop
 place-fault-requires c κs = c .next .ensures
@@ -52,8 +49,8 @@ add-refuse c = omega arith
 refuse-requires : tie.Need-refuse-requires Inv-loop μ-loop
 refuse-requires c κs =
     let l = c .before .before .before .before .before .before in
-    let p = l .before .before .before .before .before .before .pre in
-    let n = l .before .before .before .before .count .ensures in
+    let p = l .before .before .before .before .before .pre in
+    let n = l .before .before .before .count .ensures in
     omega arith
 
 returns : tie.Need-returns Inv-loop μ-loop
@@ -61,8 +58,8 @@ returns c =
     let l = c .before .before .before .before .before .before .before in
     let r = c .before .before .before .before .before .record-at in
     let f = c .before .before .place-fault .ensures in
-    let n = l .before .before .before .before .count .ensures in
-    let less : l .loop .i < length (decode (now (l .before .before .before .before .before .before .args .recs))) = omega arith in
+    let n = l .before .before .before .count .ensures in
+    let less : l .loop .i < length (decode (now (l .before .before .before .before .before .args .recs))) = omega arith in
     c .refuse .ensures ∙ going-refused (l .loop .inv) less (r .result) (r .ensures) _ (by-place _ _ _ _ _ _ f (c .before .if1 .taken)) (c .before .if1 .taken)
 
 admit-requires : tie.Need-admit-requires Inv-loop μ-loop
@@ -73,25 +70,25 @@ add-refuse-2 c = omega arith
 
 refuse-requires-2 : tie.Need-refuse-requires-2 Inv-loop μ-loop
 refuse-requires-2 c κs =
-    let l = c .before .before .before .before .before .before .before .before .before .before in
-    let p = l .before .before .before .before .before .before .pre in
-    let n = l .before .before .before .before .count .ensures in
+    let l = c .before .before .before .before .before .before .before .before .before in
+    let p = l .before .before .before .before .before .pre in
+    let n = l .before .before .before .count .ensures in
     omega arith
 
 returns-2 : tie.Need-returns-2 Inv-loop μ-loop
 returns-2 c =
-    let l = c .before .before .before .before .before .before .before .before .before .before .before in
-    let r = c .before .before .before .before .before .before .before .before .before .record-at in
-    let f = c .before .before .before .before .before .before .place-fault .ensures in
-    let n = l .before .before .before .before .count .ensures in
-    let less : l .loop .i < length (decode (now (l .before .before .before .before .before .before .args .recs))) = omega arith in
-    c .refuse2 .ensures ∙ going-refused (l .loop .inv) less (r .result) (r .ensures) _ (by-order _ _ _ _ _ _ f (c .before .before .before .before .before .if1 .left) (c .before .before .admit .ensures .0)) (c .before .if2 .taken)
+    let l = c .before .before .before .before .before .before .before .before .before .before in
+    let r = c .before .before .before .before .before .before .before .before .record-at in
+    let f = c .before .before .before .before .before .place-fault .ensures in
+    let n = l .before .before .before .count .ensures in
+    let less : l .loop .i < length (decode (now (l .before .before .before .before .before .args .recs))) = omega arith in
+    c .refuse2 .ensures ∙ going-refused (l .loop .inv) less (r .result) (r .ensures) _ (by-order _ _ _ _ _ _ f (c .before .before .before .before .if1 .left) (c .before .before .admit .ensures .0)) (c .before .if2 .taken)
 
 one-more-requires : tie.Need-one-more-requires Inv-loop μ-loop
 one-more-requires c κs =
-    let l = c .before .before .before .before .before .before .before .before .before .before in
-    let p = l .before .before .before .before .before .before .pre in
-    let n = l .before .before .before .before .count .ensures in
+    let l = c .before .before .before .before .before .before .before .before .before in
+    let p = l .before .before .before .before .before .pre in
+    let n = l .before .before .before .count .ensures in
     let f = l .loop .inv .few in
     omega arith
 
@@ -99,7 +96,7 @@ add-pass-accesses : tie.Need-add-pass-accesses Inv-loop μ-loop
 add-pass-accesses c = omega arith
 
 pass-accesses-requires : tie.Need-pass-accesses-requires Inv-loop μ-loop
-pass-accesses-requires c κs = c .before .before .before .before .before .before .before .before .before .before .before .before .before .before .before .table .ensures
+pass-accesses-requires c κs = c .before .before .before .before .before .before .before .before .before .before .before .before .before .table .ensures
 
 loop-less : tie.Need-loop-less Inv-loop μ-loop
 loop-less c =
@@ -108,26 +105,26 @@ loop-less c =
 
 loop-again : tie.Need-loop-again Inv-loop μ-loop
 loop-again c =
-    let l = c .before .before .before .before .before .before .before .before .before .before .before .before .before in
-    let r = c .before .before .before .before .before .before .before .before .before .before .before .record-at in
-    let f = c .before .before .before .before .before .before .before .before .place-fault .ensures in
+    let l = c .before .before .before .before .before .before .before .before .before .before .before .before in
+    let r = c .before .before .before .before .before .before .before .before .before .before .record-at in
+    let f = c .before .before .before .before .before .before .before .place-fault .ensures in
     let a = c .before .before .before .before .admit .ensures in
     let z = c .before .before .before .if2 .left in
-    let n = l .before .before .before .before .count .ensures in
-    let less : l .loop .i < length (decode (now (l .before .before .before .before .before .before .args .recs))) = omega arith in
+    let n = l .before .before .before .count .ensures in
+    let less : l .loop .i < length (decode (now (l .before .before .before .before .before .args .recs))) = omega arith in
     let o = c .before .before .one-more in
-    let x = c .before .before .before .before .before .before .before .before .before .next in
-    going-along (c .pass-accesses .ensures) (rw (a .1 z .0, a .1 z .1)
-    (going-next (l .loop .inv) less (r .result) (r .ensures) _ (by-order _ _ _ _ _ _ f (c .before .before .before .before .before .before .before .if1 .left) (a .0)) z (x .result) (x .ensures) (o .result) (o .ensures)))
+    let x = c .before .before .before .before .before .before .before .before .next in
+    going-along (c .pass-accesses .ensures) (rw (a .1 z)
+    (going-next (l .loop .inv) less (r .result) (r .ensures) _ (by-order _ _ _ _ _ _ f (c .before .before .before .before .before .before .if1 .left) (a .0)) z (x .result) (x .ensures) (o .result) (o .ensures)))
 
 finish-requires : tie.Need-finish-requires Inv-loop μ-loop
 finish-requires c κs =
-    let p = c .before .before .before .before .before .before .before .pre in
-    let n = c .before .before .before .before .before .count .ensures in
+    let p = c .before .before .before .before .before .before .pre in
+    let n = c .before .before .before .before .count .ensures in
     omega arith
 
 returns-3 : tie.Need-returns-3 Inv-loop μ-loop
-returns-3 c = c .finish .ensures ∙ sym (going-end (c .before .before .loop .inv) (c .before .before .before .before .before .before .count .ensures) (c .before .loop-test .left))
+returns-3 c = c .finish .ensures ∙ sym (going-end (c .before .before .loop .inv) (c .before .before .before .before .before .count .ensures) (c .before .loop-test .left))
 
 pub scan-spec : {M : Type 1} → statement M
 scan-spec =
@@ -138,7 +135,6 @@ scan-spec =
     count-requires
     table-requires
     none-requires
-    none-requires-2
     loop-holds
     record-at-requires
     next-requires

@@ -1,0 +1,16 @@
+-- `trace::status::has_begun` meets its contract.
+-- Assumes nothing.
+use Rattle.trace.specs.Status.{hasBegun}
+use borrow.Author.Needs.{needs}
+use Rattle.trace.proofs.status.has_begun.Statement.{statement}
+use Rattle.trace.proofs.status.has_begun.Tie as tie
+
+status-of-requires : tie.Need-status-of-requires
+status-of-requires c κs = search needs
+
+returns : tie.Need-returns
+unfolding hasBegun
+returns c = simp (c .status-of .ensures)
+
+pub has-begun-spec : {M : Type 1} → statement M
+has-begun-spec = tie.close (tie.spec status-of-requires returns)
