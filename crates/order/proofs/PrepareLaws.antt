@@ -5,7 +5,7 @@ use mathlib.Core.Path.{_≡_, refl, sym, ap, _∙_, subst}
 use mathlib.Core.Bool.{Bool, true, false, _&&_}
 use mathlib.Core.List.{List}
 use native.Mathlib.Omega.{arith}
-use borrow.Author.Tests.{le-leb, lt-leb}
+use borrow.Author.Tests.{le-leb, lt-leb, leb-true, leb-false}
 use lib.Dec.{leb}
 use lib.ListN.{length}
 use Rattle.records.specs.declared.Record.{Record}
@@ -17,13 +17,13 @@ use Rattle.ranks.specs.Ranks.{ranksOf}
 use Rattle.clocks.specs.Rows.{spaceFor}
 use Rattle.order.specs.declared.Filling.{Filling}
 use Rattle.order.specs.Fill.{refused, demand, fillTrace, fillRead, fillReply, pickList, clocksAfterTrace, clocksAfterRead, clocksAfter, noChains, chainsAfterReply}
-use Rattle.order.specs.Prepare.{prepareTrace, prepareRead, prepareReply, clocksPreparedRead, clocksPrepared, chainsPreparedRead, chainsPrepared, ranksPreparedRead, ranksPrepared, noTrace, pickTrace, tracePreparedRead, tracePrepared}
+use Rattle.order.specs.Prepare.{within, readWithin, prepareTrace, prepareRead, prepareReply, clocksPreparedRead, clocksPrepared, chainsPreparedRead, chainsPrepared, ranksPreparedRead, ranksPrepared, noTrace, pickTrace, tracePreparedRead, tracePrepared}
 use Rattle.order.specs.Paper.{fillPaper, Fills, FillsTrace, Prepares}
 use Rattle.order.proofs.EntryLaws.{read-acceptable, read-events}
 use Rattle.order.proofs.TableLaws.{events-few}
 
 -- 1 to 10
-pub unread : (b : List ℕ) (w room : ℕ) (cs of all : List ℕ) (n p : ℕ) → readReply b ≡ reading.refused n p → (r : Filling) (t : Trace) → fillPaper r ≡ refused n p → t ≡ noTrace → of ≡ noChains → Prepares b w room cs cs of all all r t
+unread : (b : List ℕ) (w room : ℕ) (cs of all : List ℕ) (n p : ℕ) → readReply b ≡ reading.refused n p → (r : Filling) (t : Trace) → fillPaper r ≡ refused n p → t ≡ noTrace → of ≡ noChains → Prepares b w room cs cs of all all r t
 unfolding prepareReply prepareRead clocksPrepared clocksPreparedRead chainsPrepared chainsPreparedRead ranksPrepared ranksPreparedRead tracePrepared tracePreparedRead
 unread b w room cs of all n p e r t a i o = record { answer = rw e a; trace-is = rw e i; clocks-after = rw e refl; chains-after = rw e o; ranks-after = rw e refl }
 
@@ -47,7 +47,7 @@ module _ (b : List ℕ) (s n m : ℕ) (e : reading.accepted s n m ≡ readReply 
   by cs′ of all′ r t a i c o k = record { answer = rw (← e) a; trace-is = rw (← e) i; clocks-after = rw (← e) c; chains-after = rw (← e) o; ranks-after = rw (← e) k }
 
   -- 21
-  pub no-space : spaceFor w m (length cs) ≡ false → (of : List ℕ) (r : Filling) (t : Trace) → fillPaper r ≡ refused 21 0 → t ≡ noTrace → of ≡ noChains → Prepares b w room cs cs of all all r t
+  no-space : spaceFor w m (length cs) ≡ false → (of : List ℕ) (r : Filling) (t : Trace) → fillPaper r ≡ refused 21 0 → t ≡ noTrace → of ≡ noChains → Prepares b w room cs cs of all all r t
   unfolding prepareTrace clocksAfterTrace chainsAfterReply demand
   no-space h of r t a i o = by cs of all r t (rw h a) (rw h i) (rw h (same (leb m room))) (rw h o) (rw h refl)
     where
@@ -57,7 +57,7 @@ module _ (b : List ℕ) (s n m : ℕ) (e : reading.accepted s n m ≡ readReply 
 
   module _ (space : spaceFor w m (length cs) ≡ true) where
     -- 22
-    pub no-room : room < m → (of : List ℕ) (r : Filling) (t : Trace) → fillPaper r ≡ refused 22 0 → t ≡ noTrace → of ≡ noChains → Prepares b w room cs cs of all all r t
+    no-room : room < m → (of : List ℕ) (r : Filling) (t : Trace) → fillPaper r ≡ refused 22 0 → t ≡ noTrace → of ≡ noChains → Prepares b w room cs cs of all all r t
     unfolding prepareTrace chainsAfterReply demand
     no-room h of r t a i o =
         let f = lt-leb m room h in
@@ -74,6 +74,49 @@ module _ (b : List ℕ) (s n m : ℕ) (e : reading.accepted s n m ≡ readReply 
           let l = le-leb m room h in
           let f = subst (λ (x : List Record). FillsTrace x m w cs cs′ r of all′) q g in
           by cs′ of all′ r t (f .answer ∙ sym filling-on) (rw (space, l) i) (rw l (f .clocks-after)) (f .chains-after ∙ sym (ap (chainsAfterReply tr) filling-on)) (rw (space, l) (f .ranks-after))
+
+-- A reading within the spaces that is refused: by the reader, by 21 or by 22.
+module _ (b : List ℕ) (w room : ℕ) (cs of all : List ℕ) (n p : ℕ) (r : Filling) (t : Trace) (a : fillPaper r ≡ refused n p) (i : t ≡ noTrace) (o : of ≡ noChains) where
+  stopped-by : (s k m : ℕ) → reading.accepted s k m ≡ readReply b → (x y : Bool) → spaceFor w m (length cs) ≡ x → leb m room ≡ y
+      → reading.demand x 21 0 (reading.demand y 22 0 (reading.accepted s k m)) ≡ reading.refused n p → Prepares b w room cs cs of all all r t
+  unfolding reading.demand
+  stopped-by s k m e false y f g q = no-space b s k m e w room cs all f of r t (cc) i o
+  stopped-by s k m e true false f g q = no-room b s k m e w room cs all f (leb-false m room g) of r t (cc) i o
+  stopped-by s k m e true true f g q = let z : _≡_ {A = ℕ} 0 1 = cc in absurd (omega arith)
+
+  stopped-after : (x : Reply) → x ≡ readReply b → within x w (length cs) room ≡ reading.refused n p → Prepares b w room cs cs of all all r t
+  unfolding within
+  stopped-after (reading.refused k q) e h = unread b w room cs of all k q (sym e) r t (cc) i o
+  stopped-after (reading.accepted s k m) e h = stopped-by s k m e (spaceFor w m (length cs)) (leb m room) refl refl h
+
+  pub stopped : readWithin b w (length cs) room ≡ reading.refused n p → Prepares b w room cs cs of all all r t
+  unfolding readWithin
+  stopped h = stopped-after (readReply b) refl h
+
+-- and one that is accepted
+module _ (b : List ℕ) (w space room s n m : ℕ) where
+  pub record Fitting : Type 0 where
+    pub read : reading.accepted s n m ≡ readReply b
+    pub has-space : spaceFor w m space ≡ true
+    pub has-room : m ≤ room
+
+  fitting-by : (s′ n′ m′ : ℕ) → reading.accepted s′ n′ m′ ≡ readReply b → (x y : Bool) → spaceFor w m′ space ≡ x → leb m′ room ≡ y
+      → reading.accepted s n m ≡ reading.demand x 21 0 (reading.demand y 22 0 (reading.accepted s′ n′ m′)) → Fitting
+  unfolding reading.demand
+  fitting-by s′ n′ m′ e true true f g q =
+      let z : m ≡ m′ = cc in
+      record { read = q ∙ e; has-space = rw z f; has-room = rw z (leb-true m′ room g) }
+  fitting-by s′ n′ m′ e true false f g q = let z : _≡_ {A = ℕ} 0 1 = cc in absurd (omega arith)
+  fitting-by s′ n′ m′ e false y f g q = let z : _≡_ {A = ℕ} 0 1 = cc in absurd (omega arith)
+
+  fitting-after : (x : Reply) → x ≡ readReply b → reading.accepted s n m ≡ within x w space room → Fitting
+  unfolding within
+  fitting-after (reading.refused k q) e h = let z : _≡_ {A = ℕ} 0 1 = cc in absurd (omega arith)
+  fitting-after (reading.accepted s′ n′ m′) e h = fitting-by s′ n′ m′ e (spaceFor w m′ space) (leb m′ room) refl refl h
+
+  pub fitting : reading.accepted s n m ≡ readWithin b w space room → Fitting
+  unfolding readWithin
+  fitting h = fitting-after (readReply b) refl h
 
 -- With room for 1,024 event actions preparing is filling.
 module _ (b : List ℕ) (w : ℕ) where

@@ -12,6 +12,14 @@ use Rattle.ranks.specs.Ranks.{ranksOf}
 use Rattle.clocks.specs.Rows.{spaceFor}
 use Rattle.order.specs.Fill.{FillReply, refused, filled, demand, beginPosition, shortRow, chainsUsed, pickList, clocksAfterTrace, noChains, chainsAfterReply}
 
+-- the reading for a call that is lent that many clocks and bytes of work space: 21 and 22 too
+unfoldable pub within : Reply → ℕ → ℕ → ℕ → Reply
+within (reading.refused n p) width space room = reading.refused n p
+within (reading.accepted start n m) width space room = reading.demand (spaceFor width m space) 21 0 (reading.demand (leb m room) 22 0 (reading.accepted start n m))
+
+unfoldable pub readWithin : List ℕ → ℕ → ℕ → ℕ → Reply
+readWithin b width space room = within (readReply b) width space room
+
 -- an accepted trace of that many event actions: 21, then "22: .. work space shorter in bytes than the number of event actions.", then 23
 unfoldable pub prepareTrace : List Record → ℕ → ℕ → ℕ → ℕ → FillReply
 prepareTrace tr events width space room =

@@ -9,6 +9,8 @@ use trace::Operation;
 use trace::Reading;
 use trace::Refusal;
 ghost use mathlib.Core.Path.{_≡_};
+ghost use Rattle.trace.specs.Paper.{paper};
+ghost use Rattle.order.specs.Prepare.{readWithin};
 ghost use Rattle.order.specs.Paper.{Fills, Prepares};
 
 // What filling finds: the number of chains used, or why it is refused.
@@ -21,6 +23,29 @@ pub enum Filling {
 pub struct Prepared {
     pub answer: Filling,
     pub trace: Trace,
+}
+
+// Reads the trace for a call that is lent `space` clocks and `room` bytes: 21 where the rows do not fit the clocks, 22 where there are more event actions than bytes.
+fn read_within(bytes: &[u8], width: usize, space: usize, room: usize) -> Reading
+    ensures { λ r. ⌜ paper r ≡ readWithin (now (bytes .entry)) width space room ⌝ }
+{
+    let reading = trace::read(bytes);
+    let Reading::Accepted(t) = reading else {
+        return reading;
+    };
+    if !clocks::has_space(width, t.events, space) {
+        return Reading::Refused(Refusal {
+            number: trace::CLOCK_SPACE,
+            place: Operation(0),
+        });
+    }
+    if room < t.events {
+        return Reading::Refused(Refusal {
+            number: trace::WORK_SPACE,
+            place: Operation(0),
+        });
+    }
+    reading
 }
 
 // Reads the trace once and fills the lent clocks, for a call that has a work space of `room` bytes: 22 comes between 21 and 23. Gives the chain of each row in `of`, and the
@@ -36,24 +61,11 @@ pub fn prepare(
     ensures { λ r. ⌜ Prepares (now (bytes .entry)) width room (now (clocks .entry)) (now (clocks .exit)) (now (of .exit)) (now (all .entry)) (now (all .exit)) (r .answer) (r .trace) ⌝ }
 {
     clear::clear(of, 1024);
-    let reading = trace::read(bytes);
+    let reading = read_within(bytes, width, clocks.len(), room);
     let Reading::Accepted(t) = reading else {
         return rows::unfilled(trace::refusal_of(reading));
     };
-    let events = t.events;
-    if !clocks::has_space(width, events, clocks.len()) {
-        return rows::unfilled(Refusal {
-            number: trace::CLOCK_SPACE,
-            place: Operation(0),
-        });
-    }
-    if room < events {
-        return rows::unfilled(Refusal {
-            number: trace::WORK_SPACE,
-            place: Operation(0),
-        });
-    }
-    let answer = rows::fill_rows(access::records(bytes, t), events, width, clocks, of, all);
+    let answer = rows::fill_rows(access::records(bytes, t), t.events, width, clocks, of, all);
     Prepared {
         answer: answer,
         trace: t,
@@ -64,7 +76,18 @@ pub fn prepare(
 pub fn fill(bytes: &[u8], width: usize, clocks: &mut [u16]) -> Filling
     ensures { λ r. ⌜ Fills (now (bytes .entry)) width (now (clocks .entry)) (now (clocks .exit)) r ⌝ }
 {
+    let reading = read_within(bytes, width, clocks.len(), 1024);
+    let Reading::Accepted(t) = reading else {
+        return Filling::Refused(trace::refusal_of(reading));
+    };
     let mut of = rows::no_chains();
     let mut all = rows::no_ranks();
-    prepare(bytes, width, 1024, clocks, &mut of, &mut all).answer
+    rows::fill_rows(
+        access::records(bytes, t),
+        t.events,
+        width,
+        clocks,
+        &mut of,
+        &mut all,
+    )
 }

@@ -1,9 +1,34 @@
 -- `order::fill` meets its contract.
 -- Assumes nothing.
-use Rattle.order.proofs.PrepareLaws.{fills}
+use Rattle.order.proofs.PrepareLaws.{stopped, fitting, passed, fills}
+use Rattle.order.proofs.EntryLaws.{records-are, read-acceptable, read-events}
+use Rattle.order.specs.Fill.{noChains}
+use Rattle.order.specs.Prepare.{noTrace}
+use Rattle.trace.specs.Paper.{paper}
+use Rattle.trace.proofs.Upward.{upward}
+use mathlib.Core.Path.{refl, sym, ap, _∙_}
+use mathlib.Core.List.{[]}
+use denote.Ref.{now}
 use borrow.Author.Needs.{needs}
 use Rattle.order.proofs.fill.Statement.{statement}
 use Rattle.order.proofs.fill.Tie as tie
+
+read-within-requires : tie.Need-read-within-requires
+read-within-requires c κs = search needs
+
+enum-known-reading : tie.Need-enum-known-reading
+enum-known-reading c = search needs
+
+enum-told : tie.Need-enum-told
+enum-told c = search needs
+
+refusal-of-requires : tie.Need-refusal-of-requires
+refusal-of-requires c κs = search needs
+
+returns : tie.Need-returns
+returns c =
+    let e = sym (c .before .before .before .read-within .ensures) ∙ sym (upward (c .before .before .before .read-within .result) (c .before .before .match .keys2)) in
+    fills _ _ _ _ noChains [] [] _ noTrace (stopped _ _ _ _ _ _ _ _ _ _ (simp (c .refusal-of .ensures)) refl refl e)
 
 no-chains-requires : tie.Need-no-chains-requires
 no-chains-requires c κs = search needs
@@ -11,14 +36,46 @@ no-chains-requires c κs = search needs
 no-ranks-requires : tie.Need-no-ranks-requires
 no-ranks-requires c κs = search needs
 
-prepare-requires : tie.Need-prepare-requires
-prepare-requires c κs = search needs
+records-requires : tie.Need-records-requires
+records-requires c κs = search needs
+
+slice-aggregate-fill-rows : tie.Need-slice-aggregate-fill-rows
+slice-aggregate-fill-rows c = search needs
+
+fill-rows-requires : tie.Need-fill-rows-requires
+fill-rows-requires c κs =
+    let t = c .before .before .before .before .before .before .before .reading .given .0 .0 in
+    let b = now (c .before .before .before .before .before .before .before .before .before .before .before .before .args .bytes) in
+    let g = fitting b _ _ _ (t .start) (t .records) (t .events) (sym (ap paper (c .before .before .before .before .before .before .before .reading .given .1)) ∙ c .before .before .before .before .before .before .before .before .before .read-within .ensures) in (
+      read-acceptable b (t .start) (t .records) (t .events) (g .read) _ (c .before .before .before .records .ensures),
+      read-events b (t .start) (t .records) (t .events) (g .read) _ (c .before .before .before .records .ensures),
+      g .has-space,
+      c .before .before .before .before .before .no-chains .ensures,
+    )
 
 same-length : tie.Need-same-length
 same-length c = search needs
 
-returns : tie.Need-returns
-returns c = fills _ _ _ _ _ _ _ _ _ (c .before .before .prepare .ensures)
+returns-2 : tie.Need-returns-2
+returns-2 c =
+    let t = c .before .before .before .before .before .before .before .before .before .before .before .reading .given .0 .0 in
+    let b = now (c .before .before .before .before .before .before .before .before .before .before .before .before .before .before .before .before .args .bytes) in
+    let g = fitting b _ _ _ (t .start) (t .records) (t .events) (sym (ap paper (c .before .before .before .before .before .before .before .before .before .before .before .reading .given .1)) ∙ c .before .before .before .before .before .before .before .before .before .before .before .before .before .read-within .ensures) in
+    fills _ _ _ _ _ [] _ _ _ (passed b (t .start) (t .records) (t .events) (g .read) _ _ (now (c .before .before .before .before .before .before .before .before .before .before .before .before .before .before .before .before .args .clocks)) _ (g .has-space) (g .has-room) _ _ _ _ _ _ (records-are b (t .start) (t .records) (t .events) (g .read) _ (c .before .before .before .before .before .before .before .records .ensures)) (c .before .before .before .fill-rows .ensures) refl)
 
 pub fill-spec : {M : Type 1} → statement M
-fill-spec = tie.close (tie.spec no-chains-requires no-ranks-requires prepare-requires same-length returns)
+fill-spec =
+    tie.close
+    (tie.spec
+    read-within-requires
+    enum-known-reading
+    enum-told
+    refusal-of-requires
+    returns
+    no-chains-requires
+    no-ranks-requires
+    records-requires
+    slice-aggregate-fill-rows
+    fill-rows-requires
+    same-length
+    returns-2)

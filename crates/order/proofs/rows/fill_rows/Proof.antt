@@ -5,7 +5,7 @@ use Rattle.order.proofs.SpaceLaws.{has-room, no-chains-length, cleared-
 use Rattle.records.specs.Bytes.{decode}
 use lib.ListN.{length}
 use native.Mathlib.Omega.{arith}
-use mathlib.Core.Path.{_≡_, refl, ap, _∙_}
+use mathlib.Core.Path.{refl, ap, _∙_}
 use Prim.Native.Nat.{_≤_, _<_}
 use denote.Ref.{now}
 use borrow.Author.Needs.{needs}
