@@ -1,15 +1,15 @@
 -- The pass finds the event actions that lead to b. Assumes nothing.
-use Prim.Native.Nat.{ℕ, suc, _-_, _≤_, _<_}
+use Prim.Native.Nat.{ℕ, zero, suc, _-_, _≤_, _<_}
 use mathlib.Core.Path.{_≡_, refl, sym, _∙_, subst}
-use mathlib.Core.Logic.{_≢_, _⊎_, inl, inr}
+use mathlib.Core.Logic.{_≢_, _⊎_, inl, inr, _↔_}
 use mathlib.Core.Bool.{Bool, true, false, cond, _&&_, _||_}
 use mathlib.Core.List.{List}
 use native.Mathlib.Omega.{arith}
 use borrow.Author.Tests.{le-ltb, eqb-true, ne-eqb}
-use lib.Dec.{T, leb, eqb, eqb→eq, le→leb}
+use lib.Dec.{T, eqb, eqb→eq}
 use lib.ListN.{length}
 use Rattle.records.specs.declared.Record.{Record}
-use Rattle.records.specs.Records.{at, past, begins, isFork, isRead, isWrite, eventOf}
+use Rattle.records.specs.Records.{at, isFork, isJoin, isRead, isWrite, eventOf}
 use Rattle.trace.specs.Reading.{Acceptable}
 use Rattle.records.specs.Marks.{isMarked}
 use Rattle.records.proofs.Positions.{lt-or-ge}
@@ -27,19 +27,16 @@ use Rattle.coverage.proofs.Tests.{both, and, either, or-left, or-right, decide-
 use Rattle.coverage.proofs.Steps.{Onward, leads-closed, leads-onward}
 use Rattle.coverage.proofs.Leads.{leads-ahead}
 use Rattle.races.specs.Traces.{isAccess, cellsOf, settingOf}
-use Rattle.races.specs.Leading.{mark}
-use Rattle.races.specs.LeadingPass.{markedEvent, leadsOn, Starts, Led, Kept, Marked, Passed}
+use Rattle.races.specs.Leading.{mark, rows}
+use Rattle.races.specs.LeadingPass.{markedEvent, leadsOn, Starts, Led, Kept, Passed}
 use Rattle.races.proofs.Instance.{laws, links, access-kind, access-inside}
 use Rattle.races.proofs.NoteLaws.{starts-parted}
 
 -- marks and tests
-pub mark-on : (x : Bool) → T x → mark x ≡ 1
-mark-on true h = refl
-mark-on false h = absurd h
-
-pub mark-off : (x : Bool) → (T x → ⊥) → mark x ≡ 0
-mark-off true h = absurd (h tt)
-mark-off false h = refl
+pub mark-bit : (x : ℕ) → x < 2 → x ≡ mark (eqb x 1)
+mark-bit zero l = refl
+mark-bit (suc zero) l = refl
+mark-bit (suc (suc x)) l = absurd (omega arith)
 
 pub mark-test : (x : Bool) → eqb (mark x) 1 ≡ x
 mark-test true = refl
@@ -99,20 +96,18 @@ module _ (tr : List Record) where
 
 module _ {tr : List Record} (a : Acceptable tr) where
   -- numbers are in range
-  pub first-low : (x : ℕ) → x < length tr → at tr x .first < 1025
-  first-low x h = in-range (at tr x .first) (formed (at tr x) (passes-at a x h .well-formed) .0)
-
   second-low : (x : ℕ) → x < length tr → 3 ≤ at tr x .kind → at tr x .second < 1025
   second-low x h k = in-range (at tr x .second) (rw (le-ltb (at tr x .kind) 3 k) at (formed (at tr x) (passes-at a x h .well-formed) .1))
 
   -- the row of an event action
-  rank-some : (x : ℕ) → x < length tr → 0 < rank tr (ev tr x)
+  pub rank-some : (x : ℕ) → x < length tr → 0 < rank tr (ev tr x)
   rank-some x h = omega (arith, begins-rank a (record-begins a x h))
 
-  pub row-low : (x : ℕ) → x < length tr → rank tr (ev tr x) - 1 < begins (past tr (length tr))
-  row-low x h =
-      let b = record-begins a x h in
-      omega (arith, begins-rank a b, counted-passes tr (b .position) (length tr) (b .inside) (begins-at a b))
+  pub begun-low : {e : ℕ} → Begins tr e → rank tr e - 1 < rows tr
+  begun-low b = omega (arith, begins-rank a b, counted-passes tr (b .position) (length tr) (b .inside) (begins-at a b))
+
+  pub row-low : (x : ℕ) → x < length tr → rank tr (ev tr x) - 1 < rows tr
+  row-low x h = begun-low (record-begins a x h)
 
   pub row-apart : (x y : ℕ) → x < length tr → y < length tr → ev tr x ≢ ev tr y → rank tr (ev tr x) - 1 ≢ rank tr (ev tr y) - 1
   row-apart x y h k n e =
@@ -153,12 +148,8 @@ module _ {tr : List Record} (a : Acceptable tr) (b : ℕ) (access : T (isAccess 
       go (inl q) = by (λ z. omega arith) (λ z. omega arith)
       go (inr q) = by (λ z. omega arith) (λ z. omega arith)
 
-  pub tells-mark : (hi : ℕ) (entry work : List ℕ) → Marked tr b hi entry work → (x : ℕ) → x < length tr → isMarked work (rank tr (ev tr x) - 1) ≡ (leb hi x && leads (settingOf tr) b (ev tr x))
-  unfolding isMarked
-  tells-mark hi entry work m x h = rw (m .byte x h) (mark-test (leb hi x && leads (settingOf tr) b (ev tr x)))
-
   -- One event action: records lo to i, where those after it are passed.
-  module _ {lo i : ℕ} (s : Starts tr lo i) {entry work accessed written named : List ℕ} (p : Passed tr b (suc i) entry work accessed written named) where
+  module _ {lo i : ℕ} (s : Starts tr lo i) {entry work accessed written : List ℕ} (p : Passed tr b (suc i) entry work accessed written) where
     pub lo-inside : lo < length tr
     lo-inside = omega (arith, inside, s .low, p .low)
 
@@ -169,7 +160,7 @@ module _ {tr : List Record} (a : Acceptable tr) (b : ℕ) (access : T (isAccess 
     apart-from-b = p .parted lo b (omega (arith, s .low)) (p .low) inside
 
     -- the records of this event action are just those
-    pub from-lo : (x : ℕ) → x < length tr → ev tr x ≡ ev tr lo → lo ≤ x
+    from-lo : (x : ℕ) → x < length tr → ev tr x ≡ ev tr lo → lo ≤ x
     from-lo x h e = go (lt-or-ge x lo)
       where
         go : (x < lo) ⊎ (lo ≤ x) → lo ≤ x
@@ -193,23 +184,35 @@ module _ {tr : List Record} (a : Acceptable tr) (b : ℕ) (access : T (isAccess 
     closed : ((v : ℕ) × Link tr (ev tr lo) v × Leading tr b v) ⊎ ((c d : ℕ) × (ev tr c ≡ ev tr lo) × (c < d) × (d < b) × T (conflicts (cellsOf tr) c d) × Leading tr b (ev tr d)) → Leading tr b (ev tr lo)
     closed h = leads-closed (settingOf tr) (laws a) (Link tr) (links a) b inside (ev tr lo) h
 
-    -- what is decided leads to b
-    marked-leads : (v : ℕ) → Begins tr v → T (markedEvent (ranksOf tr) work v) → Leading tr b v
-    marked-leads v g h =
-        let q = subst T (marked-begun a work v g) h in
-        let r = subst (λ (e : ℕ). T (isMarked work (rank tr e - 1))) (sym (g .of-event)) q in
-        subst (Leading tr b) (g .of-event) (both (leb (suc i) (g .position)) _ (subst T (tells-mark (suc i) entry work (p .marks) (g .position) (g .inside)) r) .1)
+    -- an event action linked to it is passed
+    linked-after : (v : ℕ) → Link tr (ev tr lo) v → (y : ℕ) → y < length tr → ev tr y ≡ v → suc i ≤ y
+    linked-after v l y k e =
+        let h = link-forward a l lo y lo-inside k refl e in
+        beyond y (omega arith) (λ q. link-apart a l (sym q ∙ e))
+
+    -- so that it is marked if it leads to b
+    linked-marked : (v : ℕ) → Link tr (ev tr lo) v → (g : Begins tr v) → markedEvent (ranksOf tr) work v ≡ leads (settingOf tr) b v
+    linked-marked v l g =
+        marked-begun a work v g
+        ∙ subst (λ (e : ℕ). isMarked work (rank tr e - 1) ≡ leads (settingOf tr) b e) (g .of-event) (p .marks .tells (g .position) (linked-after v l (g .position) (g .inside) (g .of-event)) (g .inside))
+
+    -- and this one is marked if it is waited for
+    pub own-marked : markedEvent (ranksOf tr) work (ev tr lo) ≡ isMarked work (rank tr (ev tr lo) - 1)
+    own-marked = marked-begun a work (ev tr lo) (record-begins a lo lo-inside)
+
+    own-waits : T (isMarked work (rank tr (ev tr lo) - 1)) ↔ Kept tr b isJoin (ev tr lo) (suc i)
+    own-waits = p .waits lo (omega (arith, s .low))
 
     raced : (j : ℕ) → lo ≤ j → j < suc i → (test : Record → Bool) → (k : Kept tr b test (at tr j .second) (suc i)) → T (isAccess (at tr j)) → T (isAccess (at tr (k .found .position))) → T (isWrite (at tr j)) ⊎ T (isWrite (at tr (k .found .position))) → Leading tr b (ev tr lo)
     raced j l m test k h h′ w =
         let d = k .found .position in
-        closed (inr (j, d, own j l m, omega (arith, k .found .from), k .found .below, conflict tr j d h h′ (sym (k .found .second)) w, k .leading))
+        closed (inr (j, d, own j l m, omega (arith, k .found .from), k .found .below, conflict tr j d h h′ (sym (k .found .place-is)) w, k .leading))
 
-    pub led-leads : Led tr (ranksOf tr) work accessed written named lo (suc i) → Leading tr b (ev tr lo)
+    pub led-leads : Led tr (ranksOf tr) work accessed written lo (suc i) → Leading tr b (ev tr lo)
     led-leads (inl h) =
-        let k = p .waits .tells (ev tr lo) (first-low a lo lo-inside) .0 h in
+        let k = own-waits .0 (subst T own-marked h) in
         let d = k .found .position in
-        closed (inl (ev tr d, join d (omega (arith, inside, k .found .below)) (k .found .passes) (k .found .second) refl, k .leading))
+        closed (inl (ev tr d, join d (omega (arith, inside, k .found .below)) (k .found .passes) (k .found .place-is) refl, k .leading))
     led-leads (inr (j, l, m, h)) = go (on-cases (ranksOf tr) work accessed written (at tr j) h)
       where
         j-inside : j < length tr
@@ -218,7 +221,8 @@ module _ {tr : List Record} (a : Acceptable tr) (b : ℕ) (access : T (isAccess 
         go : (T (isFork (at tr j)) × T (markedEvent (ranksOf tr) work (at tr j .second))) ⊎ ((T (isWrite (at tr j)) × T (isMarked accessed (at tr j .second))) ⊎ (T (isRead (at tr j)) × T (isMarked written (at tr j .second)))) → Leading tr b (ev tr lo)
         go (inl (k, q)) =
             let g = marked-begins a work (at tr j .second) q in
-            closed (inl (at tr j .second, fork j j-inside k (own j l m) refl g, marked-leads (at tr j .second) g q))
+            let f = fork j j-inside k (own j l m) refl g in
+            closed (inl (at tr j .second, f, subst T (linked-marked (at tr j .second) f g) q))
         go (inr (inl (k, q))) =
             let z = eqb→eq (at tr j .kind) 6 k in
             let s = p .accesses .tells (at tr j .second) (second-low a j j-inside (omega arith)) .0 q in
@@ -230,34 +234,25 @@ module _ {tr : List Record} (a : Acceptable tr) (b : ℕ) (access : T (isAccess 
             raced j l m isWrite s (or-left (isRead (at tr j)) (isWrite (at tr j)) k) (or-right (isRead (at tr d)) (isWrite (at tr d)) (s .found .passes)) (inr (s .found .passes))
 
     -- what leads to b is decided so
-    later : (y : ℕ) → lo < y → ev tr y ≢ ev tr lo → suc i ≤ y
-    later y l n = beyond y (omega arith) n
-
-    linked-led : (v : ℕ) → Link tr (ev tr lo) v → Leading tr b v → Led tr (ranksOf tr) work accessed written named lo (suc i)
+    linked-led : (v : ℕ) → Link tr (ev tr lo) v → Leading tr b v → Led tr (ranksOf tr) work accessed written lo (suc i)
     linked-led v l h = go l
       where
-        after : (y : ℕ) → y < length tr → ev tr y ≡ v → suc i ≤ y
-        after y k e = later y (link-forward a l lo y lo-inside k refl e) (λ q. link-apart a l (sym q ∙ e))
-
         early : (j : ℕ) → j < length tr → at tr j .kind ≡ 4 → ev tr j ≡ v → (v ≡ ev tr b) ⊎ (v ≢ ev tr b) → j < b
         early j k q e (inl z) = joins-early j k q (e ∙ z)
         early j k q e (inr n) = leads-ahead (settingOf tr) (laws a) b j inside k (λ z. n (sym e ∙ z)) (subst (Leading tr b) (sym e) h)
 
-        go : Link tr (ev tr lo) v → Led tr (ranksOf tr) work accessed written named lo (suc i)
+        go : Link tr (ev tr lo) v → Led tr (ranksOf tr) work accessed written lo (suc i)
         go (fork j k q e f g) =
-            let r = and (leb (suc i) (g .position)) (leads (settingOf tr) b (ev tr (g .position))) (le→leb (suc i) (g .position) (after (g .position) (g .inside) (g .of-event))) (subst (Leading tr b) (sym (g .of-event)) h) in
-            let m = subst T (sym (tells-mark (suc i) entry work (p .marks) (g .position) (g .inside))) r in
-            let n = subst (λ (u : ℕ). T (isMarked work (rank tr u - 1))) (g .of-event) m in
-            let o = subst (λ (u : ℕ). T (markedEvent (ranksOf tr) work u)) (sym f) (subst T (sym (marked-begun a work v g)) n) in
+            let o = subst (λ (u : ℕ). T (markedEvent (ranksOf tr) work u)) (sym f) (subst T (sym (linked-marked v l g)) h) in
             inr (j, from-lo j k e, to-i j k e, on-fork (ranksOf tr) work accessed written (at tr j) (eqb→eq (at tr j .kind) 3 q) o)
         go (join j k q e f) =
-            inl (p .waits .tells (ev tr lo) (first-low a lo lo-inside) .1
+            inl (subst T (sym own-marked) (own-waits .1
             (record {
-              found = record { position = j; from = after j k f; below = early j k (eqb→eq (at tr j .kind) 4 q) f (decide-eq v (ev tr b)); passes = q; second = e };
+              found = record { position = j; from = linked-after v l j k f; below = early j k (eqb→eq (at tr j .kind) 4 q) f (decide-eq v (ev tr b)); passes = q; place-is = e };
               leading = subst (Leading tr b) (sym f) h;
-            }))
+            })))
 
-    raced-led : (c d : ℕ) → ev tr c ≡ ev tr lo → c < d → d < b → T (conflicts (cellsOf tr) c d) → ev tr lo ≢ ev tr d → Leading tr b (ev tr d) → Led tr (ranksOf tr) work accessed written named lo (suc i)
+    raced-led : (c d : ℕ) → ev tr c ≡ ev tr lo → c < d → d < b → T (conflicts (cellsOf tr) c d) → ev tr lo ≢ ev tr d → Leading tr b (ev tr d) → Led tr (ranksOf tr) work accessed written lo (suc i)
     raced-led c d e l m f n h = go (access-kind (at tr c) (x .first)) (x .one)
       where
         x : Conflict tr c d
@@ -267,19 +262,19 @@ module _ {tr : List Record} (a : Acceptable tr) (b : ℕ) (access : T (isAccess 
         c-inside = omega (arith, inside)
 
         kept : (test : Record → Bool) → T (test (at tr d)) → Kept tr b test (at tr c .second) (suc i)
-        kept test q = record { found = record { position = d; from = beyond d (omega (arith, from-lo c c-inside e)) (λ z. n (sym z)); below = m; passes = q; second = sym (x .cell) }; leading = h }
+        kept test q = record { found = record { position = d; from = beyond d (omega (arith, from-lo c c-inside e)) (λ z. n (sym z)); below = m; passes = q; place-is = sym (x .cell) }; leading = h }
 
-        by-write : at tr c .kind ≡ 6 → Led tr (ranksOf tr) work accessed written named lo (suc i)
+        by-write : at tr c .kind ≡ 6 → Led tr (ranksOf tr) work accessed written lo (suc i)
         by-write k = inr (c, from-lo c c-inside e, to-i c c-inside e, on-write (ranksOf tr) work accessed written (at tr c) k (p .accesses .tells (at tr c .second) (second-low a c c-inside (omega arith)) .1 (kept isAccess (x .later))))
 
-        go : (at tr c .kind ≡ 5) ⊎ (at tr c .kind ≡ 6) → T (isWrite (at tr c)) ⊎ T (isWrite (at tr d)) → Led tr (ranksOf tr) work accessed written named lo (suc i)
+        go : (at tr c .kind ≡ 5) ⊎ (at tr c .kind ≡ 6) → T (isWrite (at tr c)) ⊎ T (isWrite (at tr d)) → Led tr (ranksOf tr) work accessed written lo (suc i)
         go (inr k) _ = by-write k
         go (inl k) (inl w) = by-write (eqb→eq (at tr c .kind) 6 w)
         go (inl k) (inr w) = inr (c, from-lo c c-inside e, to-i c c-inside e, on-read (ranksOf tr) work accessed written (at tr c) k (p .writes .tells (at tr c .second) (second-low a c c-inside (omega arith)) .1 (kept isWrite w)))
 
-    pub leads-led : Leading tr b (ev tr lo) → Led tr (ranksOf tr) work accessed written named lo (suc i)
+    pub leads-led : Leading tr b (ev tr lo) → Led tr (ranksOf tr) work accessed written lo (suc i)
     leads-led h = go (leads-onward (settingOf tr) (laws a) (Link tr) (links a) b inside (ev tr lo) apart-from-b h)
       where
-        go : Onward (settingOf tr) (Link tr) b (Leading tr b) (ev tr lo) → Led tr (ranksOf tr) work accessed written named lo (suc i)
+        go : Onward (settingOf tr) (Link tr) b (Leading tr b) (ev tr lo) → Led tr (ranksOf tr) work accessed written lo (suc i)
         go (inl (v, l, k)) = linked-led v l k
         go (inr (c, d, e, l, m, f, n, k)) = raced-led c d e l m f n k

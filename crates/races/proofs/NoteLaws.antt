@@ -1,4 +1,4 @@
--- Seconds of records, marked one record after the other; where an event action starts. Assumes nothing.
+-- Places of records, marked one record after the other; where an event action starts. Assumes nothing.
 use Prim.Native.Nat.{ℕ, zero, suc, _+_, _-_, _≤_, _<_}
 use mathlib.Core.Path.{_≡_, refl, sym, ap, _∙_, subst}
 use mathlib.Core.Logic.{_≢_, _⊎_, inl, inr, _↔_}
@@ -15,81 +15,81 @@ use Rattle.records.specs.Marks.{isMarked, withMark}
 use Rattle.trace.proofs.Blocks.{contiguous}
 use Rattle.trace.proofs.Marked.{marked-same, marked-other, marked-size}
 use Rattle.coverage.proofs.Tests.{decide-eq, either, or-left, or-right}
-use Rattle.races.specs.LeadingPass.{markIf, leadsOn, Starts, Second, Notes, OneLeads, Led}
+use Rattle.races.specs.LeadingPass.{markIf, markedEvent, leadsOn, Starts, Second, Notes, OneLeads, Led}
 
-module _ (tr : List Record) (test : Record → Bool) where
-  pub second-more : (c lo i : ℕ) → Second tr test c lo i → Second tr test c lo (suc i)
+module _ (tr : List Record) (test : Record → Bool) (place : Record → ℕ) where
+  pub second-more : (c lo i : ℕ) → Second tr test place c lo i → Second tr test place c lo (suc i)
   second-more c lo i s =
       let l = s .below in
-      record { position = s .position; from = s .from; below = omega arith; passes = s .passes; second = s .second }
+      record { position = s .position; from = s .from; below = omega arith; passes = s .passes; place-is = s .place-is }
 
   -- the last one is the one that was added, or it was there before
-  second-last : (c lo i : ℕ) → Second tr test c lo (suc i) → Second tr test c lo i ⊎ (T (test (at tr i)) × (at tr i .second ≡ c))
+  second-last : (c lo i : ℕ) → Second tr test place c lo (suc i) → Second tr test place c lo i ⊎ (T (test (at tr i)) × (place (at tr i) ≡ c))
   second-last c lo i s = go (decide-eq (s .position) i)
     where
-      go : (s .position ≡ i) ⊎ (s .position ≢ i) → Second tr test c lo i ⊎ (T (test (at tr i)) × (at tr i .second ≡ c))
-      go (inl e) = inr (rw e at (s .passes), rw e at (s .second))
-      go (inr n) = let l = s .below in inl (record { position = s .position; from = s .from; below = omega arith; passes = s .passes; second = s .second })
+      go : (s .position ≡ i) ⊎ (s .position ≢ i) → Second tr test place c lo i ⊎ (T (test (at tr i)) × (place (at tr i) ≡ c))
+      go (inl e) = inr (rw e at (s .passes), rw e at (s .place-is))
+      go (inr n) = let l = s .below in inl (record { position = s .position; from = s .from; below = omega arith; passes = s .passes; place-is = s .place-is })
 
-  pub notes-none : (lo : ℕ) (m : List ℕ) → Notes tr test lo lo m m
+  pub notes-none : (lo : ℕ) (m : List ℕ) → Notes tr test place lo lo m m
   notes-none lo m = record { size = refl; tells = λ c l. (λ h. inl h, λ h. go c h) }
     where
-      go : (c : ℕ) → T (isMarked m c) ⊎ Second tr test c lo lo → T (isMarked m c)
+      go : (c : ℕ) → T (isMarked m c) ⊎ Second tr test place c lo lo → T (isMarked m c)
       go c (inl h) = h
       go c (inr s) = let l = s .from in let k = s .below in absurd (omega arith)
 
-  module _ (lo i : ℕ) (l : lo ≤ i) (m m′ : List ℕ) (n : Notes tr test lo i m m′) where
-    here : T (test (at tr i)) → Second tr test (at tr i .second) lo (suc i)
-    here p = record { position = i; from = l; below = omega arith; passes = p; second = refl }
+  module _ (lo i : ℕ) (l : lo ≤ i) (m m′ : List ℕ) (n : Notes tr test place lo i m m′) where
+    here : T (test (at tr i)) → Second tr test place (place (at tr i)) lo (suc i)
+    here p = record { position = i; from = l; below = omega arith; passes = p; place-is = refl }
 
-    noted : T (test (at tr i)) → Notes tr test lo (suc i) m (withMark m′ (at tr i .second))
-    noted p = record { size = marked-size m′ (at tr i .second) ∙ n .size; tells = λ c k. (there c k (decide-eq c (at tr i .second)), λ h. back c k (decide-eq c (at tr i .second)) h) }
+    noted : T (test (at tr i)) → Notes tr test place lo (suc i) m (withMark m′ (place (at tr i)))
+    noted p = record { size = marked-size m′ (place (at tr i)) ∙ n .size; tells = λ c k. (there c k (decide-eq c (place (at tr i))), λ h. back c k (decide-eq c (place (at tr i))) h) }
       where
-        there : (c : ℕ) → c < length m → (c ≡ at tr i .second) ⊎ (c ≢ at tr i .second) → T (isMarked (withMark m′ (at tr i .second)) c) → T (isMarked m c) ⊎ Second tr test c lo (suc i)
+        there : (c : ℕ) → c < length m → (c ≡ place (at tr i)) ⊎ (c ≢ place (at tr i)) → T (isMarked (withMark m′ (place (at tr i))) c) → T (isMarked m c) ⊎ Second tr test place c lo (suc i)
         there c k (inl e) h = inr (rw e (here p))
-        there c k (inr d) h = go (n .tells c k .0 (subst T (marked-other m′ (at tr i .second) c d) h))
+        there c k (inr d) h = go (n .tells c k .0 (subst T (marked-other m′ (place (at tr i)) c d) h))
           where
-            go : T (isMarked m c) ⊎ Second tr test c lo i → T (isMarked m c) ⊎ Second tr test c lo (suc i)
+            go : T (isMarked m c) ⊎ Second tr test place c lo i → T (isMarked m c) ⊎ Second tr test place c lo (suc i)
             go (inl q) = inl q
             go (inr s) = inr (second-more c lo i s)
 
-        back : (c : ℕ) → c < length m → (c ≡ at tr i .second) ⊎ (c ≢ at tr i .second) → T (isMarked m c) ⊎ Second tr test c lo (suc i) → T (isMarked (withMark m′ (at tr i .second)) c)
-        back c k (inl e) h = let z = n .size in rw e (subst T (sym (marked-same m′ (at tr i .second) (omega arith))) tt)
-        back c k (inr d) h = subst T (sym (marked-other m′ (at tr i .second) c d)) (n .tells c k .1 (go h))
+        back : (c : ℕ) → c < length m → (c ≡ place (at tr i)) ⊎ (c ≢ place (at tr i)) → T (isMarked m c) ⊎ Second tr test place c lo (suc i) → T (isMarked (withMark m′ (place (at tr i))) c)
+        back c k (inl e) h = let z = n .size in rw e (subst T (sym (marked-same m′ (place (at tr i)) (omega arith))) tt)
+        back c k (inr d) h = subst T (sym (marked-other m′ (place (at tr i)) c d)) (n .tells c k .1 (go h))
           where
-            early : Second tr test c lo i ⊎ (T (test (at tr i)) × (at tr i .second ≡ c)) → T (isMarked m c) ⊎ Second tr test c lo i
+            early : Second tr test place c lo i ⊎ (T (test (at tr i)) × (place (at tr i) ≡ c)) → T (isMarked m c) ⊎ Second tr test place c lo i
             early (inl s) = inr s
             early (inr q) = absurd (d (sym (q .1)))
 
-            go : T (isMarked m c) ⊎ Second tr test c lo (suc i) → T (isMarked m c) ⊎ Second tr test c lo i
+            go : T (isMarked m c) ⊎ Second tr test place c lo (suc i) → T (isMarked m c) ⊎ Second tr test place c lo i
             go (inl q) = inl q
             go (inr s) = early (second-last c lo i s)
 
-    passed-by : (T (test (at tr i)) → ⊥) → Notes tr test lo (suc i) m m′
+    passed-by : (T (test (at tr i)) → ⊥) → Notes tr test place lo (suc i) m m′
     passed-by p = record { size = n .size; tells = λ c k. (λ h. there c (n .tells c k .0 h), λ h. n .tells c k .1 (back c h)) }
       where
-        there : (c : ℕ) → T (isMarked m c) ⊎ Second tr test c lo i → T (isMarked m c) ⊎ Second tr test c lo (suc i)
+        there : (c : ℕ) → T (isMarked m c) ⊎ Second tr test place c lo i → T (isMarked m c) ⊎ Second tr test place c lo (suc i)
         there c (inl q) = inl q
         there c (inr s) = inr (second-more c lo i s)
 
-        early : (c : ℕ) → Second tr test c lo i ⊎ (T (test (at tr i)) × (at tr i .second ≡ c)) → T (isMarked m c) ⊎ Second tr test c lo i
+        early : (c : ℕ) → Second tr test place c lo i ⊎ (T (test (at tr i)) × (place (at tr i) ≡ c)) → T (isMarked m c) ⊎ Second tr test place c lo i
         early c (inl s) = inr s
         early c (inr q) = absurd (p (q .0))
 
-        back : (c : ℕ) → T (isMarked m c) ⊎ Second tr test c lo (suc i) → T (isMarked m c) ⊎ Second tr test c lo i
+        back : (c : ℕ) → T (isMarked m c) ⊎ Second tr test place c lo (suc i) → T (isMarked m c) ⊎ Second tr test place c lo i
         back c (inl q) = inl q
         back c (inr s) = early c (second-last c lo i s)
 
     -- one record more
-    pub notes-more : Notes tr test lo (suc i) m (markIf (test (at tr i)) m′ (at tr i .second))
+    pub notes-more : Notes tr test place lo (suc i) m (markIf (test (at tr i)) m′ (place (at tr i)))
     notes-more = go (test (at tr i)) refl
       where
-        go : (x : Bool) → test (at tr i) ≡ x → Notes tr test lo (suc i) m (markIf x m′ (at tr i .second))
+        go : (x : Bool) → test (at tr i) ≡ x → Notes tr test place lo (suc i) m (markIf x m′ (place (at tr i)))
         go true e = noted (subst T (sym e) tt)
         go false e = passed-by (λ h. subst T e h)
 
   -- as the code makes it
-  pub notes-next : (lo i : ℕ) → lo ≤ i → (m m′ m″ : List ℕ) → Notes tr test lo i m m′ → (r : Record) → r ≡ at tr i → (x : Bool) → x ≡ test r → m″ ≡ markIf x m′ (r .second) → Notes tr test lo (i + 1) m m″
+  pub notes-next : (lo i : ℕ) → lo ≤ i → (m m′ m″ : List ℕ) → Notes tr test place lo i m m′ → (r : Record) → r ≡ at tr i → (x : Bool) → x ≡ test r → m″ ≡ markIf x m′ (place r) → Notes tr test place lo (i + 1) m m″
   notes-next lo i l m m′ m″ n r e x q p = rw (p, q, e, add-one) (notes-more lo i l m m′ n)
 
 -- Does one of the records from lo on lead on, looked for downwards?
@@ -118,16 +118,16 @@ module _ (tr : List Record) (ranks work accessed written : List ℕ) where
           go (inr n) = or-left x (on (lo - 1)) (s .1 (i, omega arith, k, u))
 
   -- and is its event action waited for?
-  pub says-led : (named : List ℕ) (lo hi : ℕ) (x : Bool) → Says x lo hi → (y : Bool) → y ≡ (x || isMarked named (eventOf (at tr lo))) → T y ↔ Led tr ranks work accessed written named lo hi
-  says-led named lo hi x s y e = (λ t. there (either x (isMarked named (eventOf (at tr lo))) (subst T e t)), λ w. subst T (sym e) (back w))
+  pub says-led : (lo hi : ℕ) (x : Bool) → Says x lo hi → (y : Bool) → y ≡ (x || markedEvent ranks work (eventOf (at tr lo))) → T y ↔ Led tr ranks work accessed written lo hi
+  says-led lo hi x s y e = (λ t. there (either x (markedEvent ranks work (eventOf (at tr lo))) (subst T e t)), λ w. subst T (sym e) (back w))
     where
-      there : T x ⊎ T (isMarked named (eventOf (at tr lo))) → Led tr ranks work accessed written named lo hi
+      there : T x ⊎ T (markedEvent ranks work (eventOf (at tr lo))) → Led tr ranks work accessed written lo hi
       there (inl t) = inr (s .0 t)
       there (inr t) = inl t
 
-      back : Led tr ranks work accessed written named lo hi → T (x || isMarked named (eventOf (at tr lo)))
-      back (inl t) = or-right x (isMarked named (eventOf (at tr lo))) t
-      back (inr w) = or-left x (isMarked named (eventOf (at tr lo))) (s .1 w)
+      back : Led tr ranks work accessed written lo hi → T (x || markedEvent ranks work (eventOf (at tr lo)))
+      back (inl t) = or-right x (markedEvent ranks work (eventOf (at tr lo))) t
+      back (inr w) = or-left x (markedEvent ranks work (eventOf (at tr lo))) (s .1 w)
 
 -- Where an event action starts, looked for downwards: records lo to i are of one event action.
 module _ (tr : List Record) (i : ℕ) where

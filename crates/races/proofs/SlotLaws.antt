@@ -1,15 +1,15 @@
 -- What the marks for several second accesses say of each of them. Assumes nothing.
 use Prim.Native.Nat.{ℕ, zero, suc, _+_, _-_, _*_, _/_, _%_, _^_, _≤_, _<_, max}
-use mathlib.Core.Path.{_≡_, refl, sym, ap, ap₂, _∙_, subst}
+use mathlib.Core.Path.{_≡_, refl, sym, ap, ap₂, _∙_}
 use mathlib.Core.Logic.{_≢_, _⊎_, inl, inr}
 use mathlib.Core.Bool.{Bool, true, false, cond, _&&_, _||_}
-use mathlib.Core.List.{List, [], _∷_, _++_, map}
+use mathlib.Core.List.{List, [], _∷_, map}
 use native.Mathlib.Omega.{arith}
 use native.Mathlib.Nat.{mod-lt, div-eq-of-lt, div-one, div-add-mod', mul-mod-left, one-mul, zero-add, pow-suc, zero-lt-suc}
 use lib.Arith.{digits-mod, bin-ind}
 use lib.Bits.{bitOr, or-step, or-shr}
 use lib.Pow.{pow-lt, pow-add, shl-shr, shr-shr, shr-le}
-use lib.Dec.{T, eqb}
+use lib.Dec.{eqb}
 use lib.ListN.{length, getD, set, drop, replicate, length-map, length-set, List·getD-map}
 use lib.Seq.{map-set-same, drop-set-lt}
 use borrow.Author.Tests.{eq-eqb}
@@ -20,7 +20,7 @@ use Rattle.records.specs.Marks.{noMarks, isMarked, withMark}
 use Rattle.races.specs.LeadingPass.{markIf, markedEvent, leadsOn}
 use Rattle.races.specs.Slots.{digit, on, slot, added, addIf, eventMarks, leadsFor}
 
-digit-low : (j x : ℕ) → digit j x < 2
+pub digit-low : (j x : ℕ) → digit j x < 2
 digit-low j x = mod-lt (x / 2 ^ j) (zero-lt-suc 1)
 
 two-values : (x : ℕ) → x < 2 → (x ≡ 0) ⊎ (x ≡ 1)
@@ -76,7 +76,7 @@ pub lowest : (x : ℕ) → ((j : ℕ) → digit (suc j) x ≡ 0) → x ≡ digit
 lowest x f = let q = digits-none (x / 2) (λ j. let e : 1 + j ≡ suc j = omega arith in ap (λ (y : ℕ). y % 2) (shr-shr x 1 j) ∙ (ap (λ (y : ℕ). digit y x) e ∙ f j)) in sym (div-add-mod' x 2) ∙ (ap (λ (y : ℕ). y * 2 + x % 2) q ∙ (zero-add (x % 2) ∙ ap (λ (y : ℕ). y % 2) (sym (div-one x))))
 
 module _ (j : ℕ) where
-  pub marked-slot : (m : List ℕ) (c : ℕ) → isMarked (slot j m) c ≡ on j (getD m c 0)
+  marked-slot : (m : List ℕ) (c : ℕ) → isMarked (slot j m) c ≡ on j (getD m c 0)
   unfolding isMarked slot
   marked-slot m c = ap (λ (x : ℕ). eqb x 1) (sym (ap (getD (map (digit j) m) c) (digit-zero j)) ∙ List·getD-map (digit j) m c 0)
 
@@ -101,11 +101,6 @@ module _ (j : ℕ) where
   pub slot-none : slot j noMarks ≡ noMarks
   unfolding slot noMarks
   slot-none = none-of 1025
-
-  pub slot-zeros : (n : ℕ) (rest : List ℕ) → slot j (replicate n 0 ++ rest) ≡ replicate n 0 ++ slot j rest
-  unfolding slot
-  slot-zeros zero rest = refl
-  slot-zeros (suc n) rest = ap₂ _∷_ (digit-zero j) (slot-zeros n rest)
 
   map-set : (m : List ℕ) (c v : ℕ) → map (digit j) (set m c v) ≡ set (map (digit j) m) c (digit j v)
   map-set [] c v = refl

@@ -10,13 +10,13 @@ ghost use lib.Dec.{T};
 ghost use mathlib.Core.List.{List};
 ghost use lib.ListN.{length, getD};
 ghost use Rattle.records.specs.Bytes.{decode};
-ghost use Rattle.records.specs.Records.{at, isJoin, isWrite, eventOf};
+ghost use Rattle.records.specs.Records.{at, isJoin, eventOf};
 ghost use Rattle.trace.specs.Reading.{Acceptable};
 ghost use Rattle.ranks.specs.Ranks.{ranksOf};
 ghost use Rattle.races.specs.Traces.{isAccess};
 ghost use Rattle.races.specs.Leading.{Ready};
 ghost use Rattle.races.specs.Slots.{on, slot, added, addIf, eventMarks, leadsFor};
-ghost use Rattle.races.specs.LeadingPass.{markedEvent, Starts, NotesIf, OneLeads, LeadingFrom, Goes, Rest, Lands, Seconds, Reached, LeadingGroup, Group};
+ghost use Rattle.races.specs.LeadingPass.{markedEvent, waitedRow, Starts, Noted, OneLeads, LeadingFrom, Goes, Rest, Lands, Seconds, Reached, LeadingGroup, Group};
 
 pub(crate) fn is_access(r: Record) -> bool
     ensures { λ x. ⌜ x ≡ isAccess r ⌝ }
@@ -93,25 +93,35 @@ fn add_if(set: &mut [u8], test: bool, c: u16, marks: u8)
     }
 }
 
-// Notes of the records from lo on, before hi, for the marked second accesses: the cells accessed, the cells written, the events waited for.
+// Marks the event action that a join waits for; no other record waits.
+fn mark_waited(ranks: &[u16], work: &mut [u8], r: Record, marks: u8)
+    ensures { λ u. ⌜ now (work .exit) ≡ addIf (isJoin r) (now (work .entry)) (waitedRow (now (ranks .entry)) r) marks ⌝ }
+{
+    if r.kind == 4 {
+        workspace::add_marks(work, row_of(ranks, r.second), marks);
+    }
+}
+
+// Notes of the records from lo on, before hi, for the marked second accesses: the cells accessed, the cells written; the event actions waited for are marked.
 fn keep(
     recs: &[u8],
+    ranks: &[u16],
     lo: usize,
     hi: usize,
     marks: u8,
+    work: &mut [u8],
     accessed: &mut [u8],
     written: &mut [u8],
-    named: &mut [u8],
 )
     requires { ⌜ lo ≤ hi ⌝ }
-    ensures { λ u. ⌜ ((j : ℕ) → NotesIf (decode (now (recs .entry))) (on j marks) isAccess lo hi (slot j (now (accessed .entry))) (slot j (now (accessed .exit))) × NotesIf (decode (now (recs .entry))) (on j marks) isWrite lo hi (slot j (now (written .entry))) (slot j (now (written .exit))) × NotesIf (decode (now (recs .entry))) (on j marks) isJoin lo hi (slot j (now (named .entry))) (slot j (now (named .exit)))) ⌝ }
+    ensures { λ u. ⌜ Noted (decode (now (recs .entry))) (now (ranks .entry)) marks lo hi (now (work .entry)) (now (accessed .entry)) (now (written .entry)) (now (work .exit)) (now (accessed .exit)) (now (written .exit)) ⌝ }
 {
     let mut i = lo;
     while i < hi {
         let r = access::record_at(recs, i);
         add_if(accessed, is_access(r), r.second, marks);
         add_if(written, r.kind == 6, r.second, marks);
-        add_if(named, r.kind == 4, r.second, marks);
+        mark_waited(ranks, work, r, marks);
         i += 1;
     }
 }
@@ -174,16 +184,16 @@ fn take_in(
     work: &mut [u8],
     accessed: &mut [u8],
     written: &mut [u8],
-    named: &mut [u8],
 )
     requires { ⌜ lo ≤ hi ⌝ }
-    ensures { λ u. ⌜ (now (work .exit) ≡ added (now (work .entry)) (getD (now (ranks .entry)) (eventOf (at (decode (now (recs .entry))) lo)) 0 - 1) marks) × ((j : ℕ) → NotesIf (decode (now (recs .entry))) (on j marks) isAccess lo hi (slot j (now (accessed .entry))) (slot j (now (accessed .exit))) × NotesIf (decode (now (recs .entry))) (on j marks) isWrite lo hi (slot j (now (written .entry))) (slot j (now (written .exit))) × NotesIf (decode (now (recs .entry))) (on j marks) isJoin lo hi (slot j (now (named .entry))) (slot j (now (named .exit)))) ⌝ }
+    ensures { λ u. ⌜ Noted (decode (now (recs .entry))) (now (ranks .entry)) marks lo hi (added (now (work .entry)) (getD (now (ranks .entry)) (eventOf (at (decode (now (recs .entry))) lo)) 0 - 1) marks) (now (accessed .entry)) (now (written .entry)) (now (work .exit)) (now (accessed .exit)) (now (written .exit)) ⌝ }
 {
     workspace::add_marks(work, row_of(ranks, access::first_at(recs, lo)), marks);
-    keep(recs, lo, hi, marks, accessed, written, named);
+    keep(recs, ranks, lo, hi, marks, work, accessed, written);
 }
 
-// Passes the event action whose last record stands before hi: it is marked and noted for each second access for which it leads on to what is marked or noted.
+// Passes the event action whose last record stands before hi: it is marked and noted for each second access for which it is waited for or leads on to what is
+// marked or noted.
 // Gives its first record.
 fn pass(
     recs: &[u8],
@@ -191,19 +201,18 @@ fn pass(
     work: &mut [u8],
     accessed: &mut [u8],
     written: &mut [u8],
-    named: &mut [u8],
     hi: usize,
 ) -> usize
     requires { ⌜ Acceptable (decode (now recs)) × (now ranks ≡ ranksOf (decode (now recs))) × (0 < hi) × (hi ≤ length (decode (now recs))) ⌝ }
-    ensures { λ r. ⌜ Starts (decode (now (recs .entry))) r (hi - 1) × Rest (decode (now (recs .entry))) (now (work .entry)) (now (work .exit)) × ((j : ℕ) → Goes (decode (now (recs .entry))) hi r (slot j (now (work .entry))) (slot j (now (accessed .entry))) (slot j (now (written .entry))) (slot j (now (named .entry))) (slot j (now (work .exit))) (slot j (now (accessed .exit))) (slot j (now (written .exit))) (slot j (now (named .exit)))) ⌝ }
+    ensures { λ r. ⌜ Starts (decode (now (recs .entry))) r (hi - 1) × Rest (decode (now (recs .entry))) (now (work .entry)) (now (work .exit)) × ((j : ℕ) → Goes (decode (now (recs .entry))) hi r (slot j (now (work .entry))) (slot j (now (accessed .entry))) (slot j (now (written .entry))) (slot j (now (work .exit))) (slot j (now (accessed .exit))) (slot j (now (written .exit)))) ⌝ }
 {
     let block = block_before(recs, ranks, work, accessed, written, hi);
     let lo = block.lo;
-    let led = block.led | workspace::marks_at(named, access::first_at(recs, lo) as usize);
+    let led = block.led | event_marks(ranks, work, access::first_at(recs, lo));
     if led == 0 {
         return lo;
     }
-    take_in(recs, ranks, lo, hi, led, work, accessed, written, named);
+    take_in(recs, ranks, lo, hi, led, work, accessed, written);
     lo
 }
 
@@ -214,16 +223,15 @@ fn pass_to(
     work: &mut [u8],
     accessed: &mut [u8],
     written: &mut [u8],
-    named: &mut [u8],
     to: usize,
     hi: usize,
 ) -> usize
     requires { ⌜ Acceptable (decode (now recs)) × (now ranks ≡ ranksOf (decode (now recs))) × (hi ≤ length (decode (now recs))) ⌝ }
-    ensures { λ r. ⌜ Lands (decode (now (recs .entry))) to hi r × Rest (decode (now (recs .entry))) (now (work .entry)) (now (work .exit)) × ((j : ℕ) → Goes (decode (now (recs .entry))) hi r (slot j (now (work .entry))) (slot j (now (accessed .entry))) (slot j (now (written .entry))) (slot j (now (named .entry))) (slot j (now (work .exit))) (slot j (now (accessed .exit))) (slot j (now (written .exit))) (slot j (now (named .exit)))) ⌝ }
+    ensures { λ r. ⌜ Lands (decode (now (recs .entry))) to hi r × Rest (decode (now (recs .entry))) (now (work .entry)) (now (work .exit)) × ((j : ℕ) → Goes (decode (now (recs .entry))) hi r (slot j (now (work .entry))) (slot j (now (accessed .entry))) (slot j (now (written .entry))) (slot j (now (work .exit))) (slot j (now (accessed .exit))) (slot j (now (written .exit)))) ⌝ }
 {
     let mut at = hi;
     while to < at {
-        at = pass(recs, ranks, work, accessed, written, named, at);
+        at = pass(recs, ranks, work, accessed, written, at);
     }
     at
 }
@@ -237,15 +245,14 @@ fn lead_to(
     work: &mut [u8],
     accessed: &mut [u8],
     written: &mut [u8],
-    named: &mut [u8],
     hi: usize,
 ) -> usize
     requires { ⌜ (now ranks ≡ ranksOf (decode (now recs))) × (hi ≤ length (decode (now recs))) × (j < 8) × (j < length (now seconds)) × Acceptable (decode (now recs)) ⌝ }
-    ensures { λ r. ⌜ ((count : ℕ) (entry : List ℕ) → Seconds (decode (now (recs .entry))) (now (seconds .entry)) count → j < count → Reached (decode (now (recs .entry))) (now (seconds .entry)) count (j + 1) hi entry (now (work .entry)) (now (accessed .entry)) (now (written .entry)) (now (named .entry)) → Reached (decode (now (recs .entry))) (now (seconds .entry)) count j r entry (now (work .exit)) (now (accessed .exit)) (now (written .exit)) (now (named .exit))) ⌝ }
+    ensures { λ r. ⌜ ((count : ℕ) (entry : List ℕ) → Seconds (decode (now (recs .entry))) (now (seconds .entry)) count → j < count → Reached (decode (now (recs .entry))) (now (seconds .entry)) count (j + 1) hi entry (now (work .entry)) (now (accessed .entry)) (now (written .entry)) → Reached (decode (now (recs .entry))) (now (seconds .entry)) count j r entry (now (work .exit)) (now (accessed .exit)) (now (written .exit))) ⌝ }
 {
     let second = seconds[j];
     let b = second as usize;
-    let lo = pass_to(recs, ranks, work, accessed, written, named, b, hi);
+    let lo = pass_to(recs, ranks, work, accessed, written, b, hi);
     take_in(
         recs,
         ranks,
@@ -255,7 +262,6 @@ fn lead_to(
         work,
         accessed,
         written,
-        named,
     );
     lo
 }
@@ -274,7 +280,6 @@ pub(crate) fn mark_group(
 {
     let mut accessed = marks::none();
     let mut written = marks::none();
-    let mut named = marks::none();
     let last = seconds[count - 1];
     let mut hi = (last as usize) + 1;
     let mut j = count;
@@ -287,21 +292,11 @@ pub(crate) fn mark_group(
             work,
             &mut accessed,
             &mut written,
-            &mut named,
             hi,
         );
         j -= 1;
     }
-    pass_to(
-        recs,
-        ranks,
-        work,
-        &mut accessed,
-        &mut written,
-        &mut named,
-        low,
-        hi,
-    );
+    pass_to(recs, ranks, work, &mut accessed, &mut written, low, hi);
 }
 
 // Marks the event actions with a record from low on that lead to record b, an access, in a work space that is 0 over their rows.

@@ -14,11 +14,8 @@ block-before-requires c κs = search needs
 first-at-requires : tie.Need-first-at-requires
 first-at-requires c κs = search needs
 
-cast-marks-at : tie.Need-cast-marks-at
-cast-marks-at c = search needs
-
-marks-at-requires : tie.Need-marks-at-requires
-marks-at-requires c κs = search needs
+event-marks-requires : tie.Need-event-marks-requires
+event-marks-requires c κs = search needs
 
 same-length : tie.Need-same-length
 same-length c = search needs
@@ -29,19 +26,19 @@ same-length-2 c = search needs
 same-length-3 : tie.Need-same-length-3
 same-length-3 c = search needs
 
-same-length-4 : tie.Need-same-length-4
-same-length-4 c = search needs
-
 returns : tie.Need-returns
 returns c =
     let block = c .before .before .before .before .before .block-before in
-    let p = c .before .before .before .before .before .before .before .before .before .before .before .before .before .before .before .pre in
-    let l : block .result .lo < c .before .before .before .before .before .before .before .before .before .before .before .before .before .before .before .args .hi = omega (arith, block .ensures .0 .low, p .2) in
-    let d = led-waits (decode (now (c .before .before .before .before .before .before .before .before .before .before .before .before .before .before .before .args .recs))) (now (c .before .before .before .before .before .before .before .before .before .before .before .before .before .before .before .args .ranks)) (now (c .before .before .before .before .before .before .before .before .before .before .before .before .before .before .before .args .work)) (now (c .before .before .before .before .before .before .before .before .before .before .before .before .before .before .before .args .accessed)) (now (c .before .before .before .before .before .before .before .before .before .before .before .before .before .before .before .args .written)) (now (c .before .before .before .before .before .before .before .before .before .before .before .before .before .before .before .args .named)) (block .result .lo) (c .before .before .before .before .before .before .before .before .before .before .before .before .before .before .before .args .hi) (block .result .led) (block .ensures .1) (c .before .before .before .first-at .result) (c .before .before .before .first-at .ensures) (c .before .before .marks-at .result) (c .before .before .marks-at .ensures) in
-    (block .ensures .0, rest-none _ _, goes-by (p .0) (now (c .before .before .before .before .before .before .before .before .before .before .before .before .before .before .before .args .ranks)) (p .1) (now (c .before .before .before .before .before .before .before .before .before .before .before .before .before .before .before .args .work)) (now (c .before .before .before .before .before .before .before .before .before .before .before .before .before .before .before .args .accessed)) (now (c .before .before .before .before .before .before .before .before .before .before .before .before .before .before .before .args .written)) (now (c .before .before .before .before .before .before .before .before .before .before .before .before .before .before .before .args .named)) (block .result .lo) (c .before .before .before .before .before .before .before .before .before .before .before .before .before .before .before .args .hi) (bitOr (block .result .led) (c .before .before .marks-at .result)) l (p .3) (block .ensures .0) d (c .if1 .taken))
+    let p = c .before .before .before .before .before .before .before .before .before .before .before .before .before .before .pre in
+    let l : block .result .lo < c .before .before .before .before .before .before .before .before .before .before .before .before .before .before .args .hi = omega (arith, block .ensures .0 .low, p .2) in
+    let d = led-waits (decode (now (c .before .before .before .before .before .before .before .before .before .before .before .before .before .before .args .recs))) (now (c .before .before .before .before .before .before .before .before .before .before .before .before .before .before .args .ranks)) (now (c .before .before .before .before .before .before .before .before .before .before .before .before .before .before .args .work)) (now (c .before .before .before .before .before .before .before .before .before .before .before .before .before .before .args .accessed)) (now (c .before .before .before .before .before .before .before .before .before .before .before .before .before .before .args .written)) (block .result .lo) (c .before .before .before .before .before .before .before .before .before .before .before .before .before .before .args .hi) (block .result .led) (block .ensures .1) (c .before .before .before .first-at .result) (c .before .before .before .first-at .ensures) (c .before .before .event-marks .result) (c .before .before .event-marks .ensures) in
+    (block .ensures .0, rest-none _ _, goes-by (p .0) (now (c .before .before .before .before .before .before .before .before .before .before .before .before .before .before .args .ranks)) (p .1) (now (c .before .before .before .before .before .before .before .before .before .before .before .before .before .before .args .work)) (now (c .before .before .before .before .before .before .before .before .before .before .before .before .before .before .args .accessed)) (now (c .before .before .before .before .before .before .before .before .before .before .before .before .before .before .args .written)) (block .result .lo) (c .before .before .before .before .before .before .before .before .before .before .before .before .before .before .args .hi) (bitOr (block .result .led) (c .before .before .event-marks .result)) l (p .3) (block .ensures .0) d (c .if1 .taken))
 
 take-in-requires : tie.Need-take-in-requires
 take-in-requires c κs = search needs
+
+same-length-4 : tie.Need-same-length-4
+same-length-4 c = search needs
 
 same-length-5 : tie.Need-same-length-5
 same-length-5 c = search needs
@@ -49,20 +46,14 @@ same-length-5 c = search needs
 same-length-6 : tie.Need-same-length-6
 same-length-6 c = search needs
 
-same-length-7 : tie.Need-same-length-7
-same-length-7 c = search needs
-
-same-length-8 : tie.Need-same-length-8
-same-length-8 c = search needs
-
 returns-2 : tie.Need-returns-2
 returns-2 c =
-    let block = c .before .before .before .before .before .before .before .before .before .before .before .before .before .before .before .before .before .before .block-before in
-    let p = c .before .before .before .before .before .before .before .before .before .before .before .before .before .before .before .before .before .before .before .before .before .before .before .before .before .before .before .before .pre in
-    let l : block .result .lo < c .before .before .before .before .before .before .before .before .before .before .before .before .before .before .before .before .before .before .before .before .before .before .before .before .before .before .before .before .args .hi = omega (arith, block .ensures .0 .low, p .2) in
-    let d = led-waits (decode (now (c .before .before .before .before .before .before .before .before .before .before .before .before .before .before .before .before .before .before .before .before .before .before .before .before .before .before .before .before .args .recs))) (now (c .before .before .before .before .before .before .before .before .before .before .before .before .before .before .before .before .before .before .before .before .before .before .before .before .before .before .before .before .args .ranks)) (now (c .before .before .before .before .before .before .before .before .before .before .before .before .before .before .before .before .before .before .before .before .before .before .before .before .before .before .before .before .args .work)) (now (c .before .before .before .before .before .before .before .before .before .before .before .before .before .before .before .before .before .before .before .before .before .before .before .before .before .before .before .before .args .accessed)) (now (c .before .before .before .before .before .before .before .before .before .before .before .before .before .before .before .before .before .before .before .before .before .before .before .before .before .before .before .before .args .written)) (now (c .before .before .before .before .before .before .before .before .before .before .before .before .before .before .before .before .before .before .before .before .before .before .before .before .before .before .before .before .args .named)) (block .result .lo) (c .before .before .before .before .before .before .before .before .before .before .before .before .before .before .before .before .before .before .before .before .before .before .before .before .before .before .before .before .args .hi) (block .result .led) (block .ensures .1) (c .before .before .before .before .before .before .before .before .before .before .before .before .before .before .before .before .first-at .result) (c .before .before .before .before .before .before .before .before .before .before .before .before .before .before .before .before .first-at .ensures) (c .before .before .before .before .before .before .before .before .before .before .before .before .before .before .before .marks-at .result) (c .before .before .before .before .before .before .before .before .before .before .before .before .before .before .before .marks-at .ensures) in
-    let t = c .before .before .before .before .before .before .before .before .take-in .ensures in
-    (block .ensures .0, rest-one (p .0) (now (c .before .before .before .before .before .before .before .before .before .before .before .before .before .before .before .before .before .before .before .before .before .before .before .before .before .before .before .before .args .ranks)) (p .1) (now (c .before .before .before .before .before .before .before .before .before .before .before .before .before .before .before .before .before .before .before .before .before .before .before .before .before .before .before .before .args .work)) (now (c .before .before .before .before .before .before .before .before .before .before .before .before .before .before .before .before .before .before .before .before .before .before .before .before .before .before .before .before .args .accessed)) (now (c .before .before .before .before .before .before .before .before .before .before .before .before .before .before .before .before .before .before .before .before .before .before .before .before .before .before .before .before .args .written)) (now (c .before .before .before .before .before .before .before .before .before .before .before .before .before .before .before .before .before .before .before .before .before .before .before .before .before .before .before .before .args .named)) (block .result .lo) (c .before .before .before .before .before .before .before .before .before .before .before .before .before .before .before .before .before .before .before .before .before .before .before .before .before .before .before .before .args .hi) (bitOr (block .result .led) (c .before .before .before .before .before .before .before .before .before .before .before .before .before .before .before .marks-at .result)) l (p .3) (block .ensures .0) d (t .0), goes-one (p .0) (now (c .before .before .before .before .before .before .before .before .before .before .before .before .before .before .before .before .before .before .before .before .before .before .before .before .before .before .before .before .args .ranks)) (p .1) (now (c .before .before .before .before .before .before .before .before .before .before .before .before .before .before .before .before .before .before .before .before .before .before .before .before .before .before .before .before .args .work)) (now (c .before .before .before .before .before .before .before .before .before .before .before .before .before .before .before .before .before .before .before .before .before .before .before .before .before .before .before .before .args .accessed)) (now (c .before .before .before .before .before .before .before .before .before .before .before .before .before .before .before .before .before .before .before .before .before .before .before .before .before .before .before .before .args .written)) (now (c .before .before .before .before .before .before .before .before .before .before .before .before .before .before .before .before .before .before .before .before .before .before .before .before .before .before .before .before .args .named)) (block .result .lo) (c .before .before .before .before .before .before .before .before .before .before .before .before .before .before .before .before .before .before .before .before .before .before .before .before .before .before .before .before .args .hi) (bitOr (block .result .led) (c .before .before .before .before .before .before .before .before .before .before .before .before .before .before .before .marks-at .result)) l (p .3) (block .ensures .0) d _ _ _ _ (t .0) (t .1))
+    let block = c .before .before .before .before .before .before .before .before .before .before .before .before .before .before .before .block-before in
+    let p = c .before .before .before .before .before .before .before .before .before .before .before .before .before .before .before .before .before .before .before .before .before .before .before .before .pre in
+    let l : block .result .lo < c .before .before .before .before .before .before .before .before .before .before .before .before .before .before .before .before .before .before .before .before .before .before .before .before .args .hi = omega (arith, block .ensures .0 .low, p .2) in
+    let d = led-waits (decode (now (c .before .before .before .before .before .before .before .before .before .before .before .before .before .before .before .before .before .before .before .before .before .before .before .before .args .recs))) (now (c .before .before .before .before .before .before .before .before .before .before .before .before .before .before .before .before .before .before .before .before .before .before .before .before .args .ranks)) (now (c .before .before .before .before .before .before .before .before .before .before .before .before .before .before .before .before .before .before .before .before .before .before .before .before .args .work)) (now (c .before .before .before .before .before .before .before .before .before .before .before .before .before .before .before .before .before .before .before .before .before .before .before .before .args .accessed)) (now (c .before .before .before .before .before .before .before .before .before .before .before .before .before .before .before .before .before .before .before .before .before .before .before .before .args .written)) (block .result .lo) (c .before .before .before .before .before .before .before .before .before .before .before .before .before .before .before .before .before .before .before .before .before .before .before .before .args .hi) (block .result .led) (block .ensures .1) (c .before .before .before .before .before .before .before .before .before .before .before .before .before .first-at .result) (c .before .before .before .before .before .before .before .before .before .before .before .before .before .first-at .ensures) (c .before .before .before .before .before .before .before .before .before .before .before .before .event-marks .result) (c .before .before .before .before .before .before .before .before .before .before .before .before .event-marks .ensures) in
+    let t = c .before .before .before .before .before .before .take-in .ensures in
+    (block .ensures .0, rest-one (p .0) (now (c .before .before .before .before .before .before .before .before .before .before .before .before .before .before .before .before .before .before .before .before .before .before .before .before .args .ranks)) (p .1) (now (c .before .before .before .before .before .before .before .before .before .before .before .before .before .before .before .before .before .before .before .before .before .before .before .before .args .work)) (now (c .before .before .before .before .before .before .before .before .before .before .before .before .before .before .before .before .before .before .before .before .before .before .before .before .args .accessed)) (now (c .before .before .before .before .before .before .before .before .before .before .before .before .before .before .before .before .before .before .before .before .before .before .before .before .args .written)) (block .result .lo) (c .before .before .before .before .before .before .before .before .before .before .before .before .before .before .before .before .before .before .before .before .before .before .before .before .args .hi) (bitOr (block .result .led) (c .before .before .before .before .before .before .before .before .before .before .before .before .event-marks .result)) l (p .3) (block .ensures .0) d t, goes-one (p .0) (now (c .before .before .before .before .before .before .before .before .before .before .before .before .before .before .before .before .before .before .before .before .before .before .before .before .args .ranks)) (p .1) (now (c .before .before .before .before .before .before .before .before .before .before .before .before .before .before .before .before .before .before .before .before .before .before .before .before .args .work)) (now (c .before .before .before .before .before .before .before .before .before .before .before .before .before .before .before .before .before .before .before .before .before .before .before .before .args .accessed)) (now (c .before .before .before .before .before .before .before .before .before .before .before .before .before .before .before .before .before .before .before .before .before .before .before .before .args .written)) (block .result .lo) (c .before .before .before .before .before .before .before .before .before .before .before .before .before .before .before .before .before .before .before .before .before .before .before .before .args .hi) (bitOr (block .result .led) (c .before .before .before .before .before .before .before .before .before .before .before .before .event-marks .result)) l (p .3) (block .ensures .0) d t)
 
 pub pass-spec : {M : Type 1} → statement M
 pass-spec =
@@ -70,16 +61,13 @@ pass-spec =
     (tie.spec
     block-before-requires
     first-at-requires
-    cast-marks-at
-    marks-at-requires
+    event-marks-requires
     same-length
     same-length-2
     same-length-3
-    same-length-4
     returns
     take-in-requires
+    same-length-4
     same-length-5
     same-length-6
-    same-length-7
-    same-length-8
     returns-2)

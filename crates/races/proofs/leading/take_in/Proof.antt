@@ -1,4 +1,3 @@
-use mathlib.Core.Path.{_∙_}
 use borrow.Author.Needs.{needs}
 use Rattle.races.proofs.leading.take_in.Statement.{statement}
 use Rattle.races.proofs.leading.take_in.Tie as tie
@@ -24,11 +23,8 @@ same-length-2 c = search needs
 same-length-3 : tie.Need-same-length-3
 same-length-3 c = search needs
 
-same-length-4 : tie.Need-same-length-4
-same-length-4 c = search needs
-
 returns : tie.Need-returns
-returns c = (c .before .before .before .before .before .before .before .before .before .before .before .before .add-marks .ensures ∙ simp (c .before .before .before .before .before .before .before .before .before .before .before .before .before .row-of .ensures, c .before .before .before .before .before .before .before .before .before .before .before .before .before .before .first-at .ensures), c .before .before .before .before .before .before .keep .ensures)
+returns c = rw (← c .before .before .before .before .before .before .before .before .before .before .before .before .before .before .first-at .ensures, ← c .before .before .before .before .before .before .before .before .before .before .before .before .before .row-of .ensures, ← c .before .before .before .before .before .before .before .before .before .before .before .before .add-marks .ensures) (c .before .before .before .before .before .before .keep .ensures)
 
 pub take-in-spec : {M : Type 1} → statement M
 take-in-spec =
@@ -41,5 +37,4 @@ take-in-spec =
     same-length
     same-length-2
     same-length-3
-    same-length-4
     returns)
