@@ -1,34 +1,35 @@
 -- The lists, second access by second access.
 -- Assumes nothing.
-use Prim.Native.Nat.{ℕ, zero, suc, _+_, _*_, _-_, _≤_, _<_}
+use Prim.Native.Nat.{ℕ, zero, suc, _+_, _-_, _≤_, _<_}
 use mathlib.Core.Path.{_≡_, refl, sym, ap, ap₂, _∙_, subst}
 use mathlib.Core.Bool.{Bool, true, false, not, cond, _&&_}
 use mathlib.Core.List.{List, [], _∷_, _++_, map}
-use mathlib.Core.Logic.{_≢_, _⊎_, inl, inr}
+use mathlib.Core.Logic.{_⊎_, inl, inr}
 use native.Mathlib.Omega.{arith}
 use native.Mathlib.Numerals.{add-one}
 use native.Mathlib.Nat.{eq-or-lt-of-le, le-of-suc-le-suc}
-use borrow.Author.Tests.{eq-eqb, ne-eqb, eqb-true, le-leb, lt-leb, lt-ltb}
+use native.Mathlib.Decide.{ℕ-discrete}
+use borrow.Author.Tests.{le-leb, lt-ltb}
 use lib.Dec.{T, leb, ltb, eqb, eqb→eq, leb→le, le→leb, ltb→lt, T-not, not-T}
-use lib.ListN.{length, getD, length-append, length-map}
+use lib.ListN.{length, length-append, length-map}
 use Rattle.records.specs.declared.Record.{Record}
-use Rattle.records.specs.Records.{at, isRead, isWrite}
+use Rattle.records.specs.Records.{at, isRead, isWrite, eventOf}
 use Rattle.trace.specs.Reading.{Acceptable}
 use Rattle.records.proofs.Positions.{lt-or-ge}
-use Rattle.coverage.specs.Below.{some, upto, pairs, only}
+use Rattle.coverage.specs.Below.{upto, pairs, only}
 use Rattle.coverage.specs.Race.{raceb}
-use Rattle.coverage.specs.Neighbours.{Cells, conflicts, writeBetween, neighbour}
+use Rattle.coverage.specs.Neighbours.{conflicts, writeBetween, neighbour}
 use Rattle.coverage.specs.Lists.{allRaces, shortList}
-use Rattle.coverage.proofs.Tests.{both, and, or-left, or-right, decide, found, find, eq→eqb}
+use Rattle.coverage.proofs.Tests.{both, and, or-right, decide, found, find, eq→eqb}
 use Rattle.coverage.proofs.Tests.{same as equal-tests}
 use Rattle.coverage.proofs.Lists.{upto-ext, upto-zero, upto-yes, upto-no, upto-empty}
 use Rattle.races.specs.Traces.{isAccess, cellsOf, settingOf}
 use Rattle.races.specs.Lists.{pairsOf}
-use Rattle.races.specs.Candidates.{endOf, wayEnd, cell, accesses, startOf, Quiet, Last, Range}
-use Rattle.races.specs.ListPass.{fromOf, firsts, withSecond, pairsBelow, Ranges}
+use Rattle.races.specs.Candidates.{cell, accesses, writes, startOf, Upto, Number}
+use Rattle.races.specs.ListPass.{fromOf, firsts, withSecond, pairsBelow, Ranges, Ways}
 use Rattle.coverage.proofs.Order.{race-of, race-not-le}
 use Rattle.races.proofs.Instance.{laws}
-use Rattle.races.proofs.CandidateLaws.{Start, start, racing, race-accesses}
+use Rattle.races.proofs.CandidateLaws.{Start, start, start-all, start-skip, write-accesses, racing, race-accesses, number-own, number-write, number-start, number-end}
 
 module _ (tr : List Record) where
   abbrev race : ℕ → ℕ → Bool
@@ -124,28 +125,21 @@ module _ (tr : List Record) where
       and (ltb a b) _ (p .1) (and (conflicts (cellsOf tr) a b) _ (p .0) (not-T (writeBetween (cellsOf tr) a b) n))
 
   -- a race's first stands at the start of its cell, or after it: before it only where a write stands between
-  from-start : (short : Bool) (a b : ℕ) → T (race a b) → (T short → T (isWrite (at tr (fromOf tr short b))) → a < fromOf tr short b → ⊥) → T (leb (fromOf tr short b) a)
+  from-start : (short : Bool) (a b : ℕ) → T (race a b) → (T short → T (writes tr (cell tr b) (fromOf tr short b)) → a < fromOf tr short b → fromOf tr short b < b → ⊥) → T (leb (fromOf tr short b) a)
   from-start short a b h n = go (lt-or-ge a (fromOf tr short b))
     where
-      w : Start tr short (cell tr b) b (startOf tr short (cell tr b) b)
-      w = start tr short (cell tr b) b
-
       go : (a < fromOf tr short b) ⊎ (fromOf tr short b ≤ a) → T (leb (fromOf tr short b) a)
-      go (inl l) = let p = w .before a (racing tr a b h .earlier) (race-accesses tr a b h) (inr (omega arith)) in absurd (n (p .0) (p .2) l)
+      go (inl l) = let p = start tr short (cell tr b) b .before (λ z. omega arith) in absurd (n (p .0) (p .1) l (p .2))
       go (inr l) = le→leb (fromOf tr short b) a l
 
   short-test : (a b : ℕ) → (neighbour (cellsOf tr) a b && race a b) ≡ test (fromOf tr true b) b a
   short-test a b = equal-tests _ _ there back
     where
-      w : Start tr true (cell tr b) b (startOf tr true (cell tr b) b)
-      w = start tr true (cell tr b) b
-
       there : T (neighbour (cellsOf tr) a b && race a b) → T (test (fromOf tr true b) b a)
       there h =
           let p = both (neighbour (cellsOf tr) a b) (race a b) h in
-          let e = w .high in
           and (leb (fromOf tr true b) a) (race a b)
-          (from-start true a b (p .1) (λ s t l. neighbour-parts a b (p .0) (between-write a b (fromOf tr true b) l (omega arith) t (w .same (λ z. omega arith)))))
+          (from-start true a b (p .1) (λ s t l k. let q = both (eqb (cell tr (fromOf tr true b)) (cell tr b)) _ t in neighbour-parts a b (p .0) (between-write a b (fromOf tr true b) l k (q .1) (eqb→eq (cell tr (fromOf tr true b)) (cell tr b) (q .0)))))
           (p .1)
 
       back : T (test (fromOf tr true b) b a) → T (neighbour (cellsOf tr) a b && race a b)
@@ -153,56 +147,84 @@ module _ (tr : List Record) where
           let p = both (leb (fromOf tr true b) a) (race a b) h in
           let l = leb→le (fromOf tr true b) a (p .0) in
           and (neighbour (cellsOf tr) a b) (race a b)
-          (neighbour-of a b (p .1) (λ k. let f = between-found a b k in w .after tt (f .0) (omega (arith, f .1)) (f .2) (f .3) (f .4)))
+          (neighbour-of a b (p .1) (λ k. let f = between-found a b k in start tr true (cell tr b) b .after tt (f .0) (omega (arith, f .1)) (f .2) (and (eqb (cell tr (f .0)) (cell tr b)) (isWrite (at tr (f .0))) (both (isAccess (at tr (f .0))) (eqb (cell tr (f .0)) (cell tr b)) (f .3) .1) (f .4))))
           (p .1)
 
-  -- the way that the code finds
-  way-none : (short : Bool) (b : ℕ) → ((x : ℕ) → fromOf tr short b ≤ x → x < b → T (race x b) → ⊥) → Ranges tr short b b b
-  way-none short b n = record {
-    range = record { low = omega arith; high = omega arith; none = λ x l k. absurd (omega arith) };
-    firsts-are = firsts-empty (fromOf tr short b) b b n ∙ sym (firsts-empty b b b (λ x l k. absurd (omega arith)));
+  -- The ways that the code finds. Where all accesses of the cell happen before b there is none.
+  pub way-quiet : Acceptable tr → (short : Bool) {b : ℕ} → b < 4096 → Upto tr short (cell tr b) b (eventOf (at tr b)) → Ways tr short b b b (b + 1)
+  way-quiet acc short {b} h q = record {
+    ranges = record {
+      range = record { low = omega arith; high = omega arith; none = λ x l k. absurd (omega arith) };
+      firsts-are = firsts-empty (fromOf tr short b) b b silent ∙ sym (firsts-empty b b b (λ x l k. absurd (omega arith)));
+    };
+    number-is = number-own acc short h q;
   }
+    where
+      silent : (x : ℕ) → fromOf tr short b ≤ x → x < b → T (race x b) → ⊥
+      silent x l k t = race-not-le (settingOf tr) (laws acc) x b (race-of (settingOf tr) x b t) (q .tells x l k (race-accesses tr x b t))
 
-  pub way-quiet : Acceptable tr → (short : Bool) (b : ℕ) → Quiet tr short b → Ranges tr short b b b
-  way-quiet acc short b q = way-none short b (λ x l k h. race-not-le (settingOf tr) (laws acc) x b (race-of (settingOf tr) x b h) (q .tells x (omega arith) k (race-accesses tr x b h)))
+  -- up to where first accesses race with b
+  way-upto : (short : Bool) {b from to : ℕ} → from ≡ fromOf tr short b → from ≤ b → to ≤ b → ((x : ℕ) → to ≤ x → x < b → T (race x b) → ⊥) → Ranges tr short b from to
+  way-upto short {b} e l h n = record { range = record { low = l; high = h; none = n }; firsts-are = ap (λ x. firsts tr x b b) (sym e) }
 
-  module _ (short : Bool) (b v : ℕ) (e : v ≡ startOf tr short (cell tr b) b) where
-    w : Start tr short (cell tr b) b v
-    w = rw e (start tr short (cell tr b) b)
+  module _ (b kind : ℕ) (e : kind ≡ at tr b .kind) where
+    is-write : eqb kind 6 ≡ true → T (writes tr (cell tr b) b)
+    is-write f = and (eqb (cell tr b) (cell tr b)) (isWrite (at tr b)) (eq→eqb (cell tr b) (cell tr b) refl) (subst T (sym (ap (λ x. eqb x 6) (sym e) ∙ f)) tt)
 
-    from-is : fromOf tr short b ≡ v - 1
-    from-is = ap (λ x. x - 1) (sym e)
-
-    pub way-no-start : v ≡ 0 → Ranges tr short b b b
-    way-no-start z = way-none short b (λ x l k h. w .before x k (race-accesses tr x b h) (inl z) .1 z)
-
-    way-upto : (to : ℕ) → to ≤ b → ((x : ℕ) → to ≤ x → x < b → T (race x b) → ⊥) → Ranges tr short b (v - 1) to
-    way-upto to h n = let k = w .high in record { range = record { low = omega arith; high = h; none = n }; firsts-are = ap (λ x. firsts tr x b b) from-is }
+    no-write : eqb kind 6 ≡ false → T (isWrite (at tr b)) → ⊥
+    no-write f t = subst T (ap (λ x. eqb x 6) (sym e) ∙ f) t
 
     -- a read races with writes alone
-    read-write : at tr b .kind ≡ 5 → (x : ℕ) → T (race x b) → T (isWrite (at tr x))
-    read-write k x h = go (racing tr x b h .one)
+    read-write : eqb kind 6 ≡ false → (x : ℕ) → T (race x b) → T (writes tr (cell tr b) x)
+    read-write f x h = let r = racing tr x b h in and (eqb (cell tr x) (cell tr b)) (isWrite (at tr x)) (eq→eqb (cell tr x) (cell tr b) (r .same)) (go (r .one))
       where
         go : T (isWrite (at tr x)) ⊎ T (isWrite (at tr b)) → T (isWrite (at tr x))
         go (inl t) = t
-        go (inr t) = absurd (rw k at t)
+        go (inr t) = absurd (no-write f t)
 
-    pub way-start : {u : ℕ} → Last tr short (cell tr b) b u → (reads : Bool) → reads ≡ eqb (at tr b .kind) 5 → (to : ℕ) → to ≡ wayEnd short reads v u b → Ranges tr short b (v - 1) to
-    unfolding wayEnd
-    way-start {u} l reads f to q = rw q (go short refl reads f)
+    silent-write : eqb kind 6 ≡ false → T (writes tr (cell tr b) b) → ⊥
+    silent-write f t = no-write f (both (eqb (cell tr b) (cell tr b)) _ t .1)
+
+    pub way-short : Acceptable tr → (short : Bool) → T short → b < 4096 → 0 < b → {from to : ℕ} → from ≡ startOf tr short (cell tr b) b → to ≤ b → ((x : ℕ) → to ≤ x → x < b → T (accesses tr (cell tr b) x) → ⊥) → Ways tr short b from (cond (eqb kind 6) to (from + 1)) (cond (eqb kind 6) (b + 1) (from + 4097))
+    way-short acc false s h z f l n = absurd s
+    way-short acc true s h z {from} {to} f l n = go (eqb kind 6) refl
       where
-        reading : eqb (at tr b .kind) 5 ≡ true → at tr b .kind ≡ 5
-        reading f = eqb→eq (at tr b .kind) 5 (subst T (sym f) tt)
+        w : Start tr true (cell tr b) b from
+        w = rw f (start tr true (cell tr b) b)
 
-        go : (s : Bool) → short ≡ s → (t : Bool) → t ≡ eqb (at tr b .kind) 5 → Ranges tr short b (v - 1) (cond s (cond t v (endOf u)) (cond t (endOf u) b))
-        go true p true g = way-upto v (w .high) (λ x m k h. w .after (subst T (sym p) tt) x m k (race-accesses tr x b h) (read-write (reading (sym g)) x h))
-        go true p false g = way-upto (endOf u) (l .high) (λ x m k h. l .none x m k (race-accesses tr x b h) (or-left short (isWrite (at tr x)) (subst T (sym p) tt)))
-        go false p true g = way-upto (endOf u) (l .high) (λ x m k h. l .none x m k (race-accesses tr x b h) (or-right short (isWrite (at tr x)) (read-write (reading (sym g)) x h)))
-        go false p false g = way-upto b (omega arith) (λ x m k. absurd (omega arith))
+        below : from < b
+        below = go-below (ℕ-discrete from 0)
+          where
+            go-below : Dec (from ≡ 0) → from < b
+            go-below (yes d) = omega arith
+            go-below (no d) = w .before d .2
+
+        go : (q : Bool) → eqb kind 6 ≡ q → Ways tr true b from (cond q to (from + 1)) (cond q (b + 1) (from + 4097))
+        go true g = record { ranges = way-upto true f (w .high) l (λ x m k t. n x m k (race-accesses tr x b t)); number-is = number-write acc h (is-write g) }
+        go false g = record { ranges = way-upto true f (w .high) (omega (arith, below)) (λ x m k t. w .after tt x (omega arith) k (read-write g x t)); number-is = number-start tr b (silent-write g) f }
+
+    -- the start of the cell is where it was at its last access
+    pub last-start : (short : Bool) → T short → {v : ℕ} → Number tr short (cell tr b) b v → v ≤ 4096 → startOf tr true (cell tr b) v ≡ startOf tr short (cell tr b) b
+    last-start false s w h = absurd s
+    last-start true s {v} w h =
+        let d : v + (b - v) ≡ b = omega (arith, w .low h) in
+        sym (rw d at (start-skip tr true (cell tr b) v (b - v) (λ x l k t. w .none h x l (omega arith) (write-accesses tr (cell tr b) x t))))
+
+    pub way-long : (short : Bool) → T (not short) → 0 < b → {end : ℕ} → end ≤ b → ((x : ℕ) → end ≤ x → x < b → T (writes tr (cell tr b) x) → ⊥) → Ways tr short b 0 (cond (eqb kind 6) b end) (cond (eqb kind 6) (b + 1) end + 4097)
+    way-long true s z h n = absurd s
+    way-long false s z {end} h n = go (eqb kind 6) refl
+      where
+        go : (q : Bool) → eqb kind 6 ≡ q → Ways tr false b 0 (cond q b end) (cond q (b + 1) end + 4097)
+        go true g = record { ranges = way-upto false (sym (start-all tr (cell tr b) b)) (omega arith) (omega arith) (λ x m k. absurd (omega arith)); number-is = number-end tr (omega arith) (omega arith) (λ x m k t. omega arith) }
+        go false g = record { ranges = way-upto false (sym (start-all tr (cell tr b) b)) (omega arith) h (λ x m k t. n x m k (read-write g x t)); number-is = number-end tr (omega arith) (omega arith) (λ x m k t. last x m (eq-or-lt-of-le (le-of-suc-le-suc (rw (add-one b) at k))) t) }
+          where
+            last : (x : ℕ) → end ≤ x → (x ≡ b) ⊎ (x < b) → T (writes tr (cell tr b) x) → ⊥
+            last x m (inl d) t = silent-write g (subst (λ (y : ℕ). T (writes tr (cell tr b) y)) d t)
+            last x m (inr k) t = n x m k t
 
   -- so the pairs found below n are the list's
   all-test : (a b : ℕ) → test (fromOf tr false b) b a ≡ race a b
-  all-test a b = equal-tests _ _ (λ h. both (leb (fromOf tr false b) a) (race a b) h .1) (λ h. and (leb (fromOf tr false b) a) (race a b) (from-start false a b h (λ s t l. absurd s)) h)
+  all-test a b = equal-tests _ _ (λ h. both (leb (fromOf tr false b) a) (race a b) h .1) (λ h. and (leb (fromOf tr false b) a) (race a b) (from-start false a b h (λ s t l k. absurd s)) h)
 
   all-below : (m : ℕ) → pairsBelow tr false m ≡ pairs m (raceb (settingOf tr))
   unfolding pairsBelow pairs firsts

@@ -1,9 +1,9 @@
--- Where the first accesses that may race with a second access b are looked for: along the accesses of its cell. `CandidateLaws` proves that none is missed. Definitions
--- alone. Assumes nothing.
+-- Where the first accesses that may race with a second access b are looked for: along the accesses of its cell. `CandidateLaws` and `ListLaws` prove that none is missed.
+-- Definitions alone. Assumes nothing.
 use Prim.Native.Nat.{ℕ, zero, suc, _+_, _-_, _≤_, _<_}
 use mathlib.Core.Path.{_≡_}
 use mathlib.Core.Logic.{_≢_}
-use mathlib.Core.Bool.{Bool, not, cond, _&&_, _||_}
+use mathlib.Core.Bool.{Bool, not, cond, _&&_}
 use mathlib.Core.List.{List}
 use lib.Dec.{T, leb, eqb}
 use lib.ListN.{length, getD}
@@ -13,22 +13,9 @@ use Rattle.order.specs.HappensBefore.{happensBefore}
 use Rattle.coverage.specs.Race.{raceb}
 use Rattle.races.specs.Traces.{isAccess, settingOf}
 
--- does the record, where v is its cell's start so far, become the start?
-unfoldable pub isStart : Bool → ℕ → Record → Bool
-isStart short v r = isAccess r && (eqb v 0 || (short && isWrite r))
-
--- Two numbers in one: up to 4,096 a record's number, which is also where accesses end; above, where they end, and 4,097 more.
-unfoldable pub endOf : ℕ → ℕ
-endOf v = cond (leb v 4096) v (v - 4097)
-
--- The number of a cell's last access b, where it starts the cell or comes after all its accesses; else where they end: past b, if b `raises` that.
-unfoldable pub lastNumber : Bool → Bool → ℕ → ℕ → ℕ
-lastNumber ordered raises b v = cond ordered (b + 1) (cond raises (b + 1) (endOf v) + 4097)
-
--- Up to where first accesses of b are looked for. In the short list a read races with the start of its cell alone, a write with none past the last access; in the list of all races a read
--- races with none past the last write.
-unfoldable pub wayEnd : Bool → Bool → ℕ → ℕ → ℕ → ℕ
-wayEnd short reads start v b = cond short (cond reads start (endOf v)) (cond reads (endOf v) b)
+-- the least kind of record that races with an access of that kind: with a read only a write does
+unfoldable pub leastKind : ℕ → ℕ
+leastKind kind = cond (eqb kind 5) 6 5
 
 module _ (tr : List Record) where
   abbrev pub cell : ℕ → ℕ
@@ -37,47 +24,41 @@ module _ (tr : List Record) where
   abbrev pub accesses : ℕ → ℕ → Bool
   accesses c i = isAccess (at tr i) && eqb (cell i) c
 
-  -- The start of a cell before i: its last write in the short list, and where it has none, or in the list of all races, its first access. A record's number, 0 for no access.
+  abbrev pub writes : ℕ → ℕ → Bool
+  writes c i = eqb (cell i) c && isWrite (at tr i)
+
+  -- may record i race with an access of cell c, where only a record of that kind or a higher one does?
+  unfoldable pub mayRace : ℕ → ℕ → ℕ → Bool
+  mayRace least c i = eqb (cell i) c && leb least (at tr i .kind)
+
+  -- The start of a cell before record i: in the short list the position of its last write; 0 where it has none, and in the list of all races.
   unfoldable pub startOf : Bool → ℕ → ℕ → ℕ
   startOf short c zero = 0
-  startOf short c (suc i) = cond (eqb (cell i) c && isStart short (startOf short c i) (at tr i)) (suc i) (startOf short c i)
-
-  pub record Starts (short : Bool) (i : ℕ) (starts : List ℕ) : Type 0 where
-    pub size : length starts ≡ 1025
-    pub tells : (c : ℕ) → c < 1025 → getD starts c 0 ≡ startOf short c i
-
-  -- the event action of the record with number v happens before that of b; 0 and what is above 4,096 are no record's numbers
-  unfoldable pub isOrdered : ℕ → ℕ → Bool
-  isOrdered v b = (not (eqb v 0) && leb v 4096) && happensBefore tr (eventOf (at tr (v - 1))) (eventOf (at tr b))
+  startOf short c (suc i) = cond (short && writes c i) i (startOf short c i)
 
   -- the accesses of a cell from its start on, before i, are in event actions that happen before e
   pub record Upto (short : Bool) (c i e : ℕ) : Type 0 where
-    pub tells : (x : ℕ) → startOf short c i ≤ suc x → x < i → T (accesses c x) → T (happensBefore tr (eventOf (at tr x)) e)
+    pub tells : (x : ℕ) → startOf short c i ≤ x → x < i → T (accesses c x) → T (happensBefore tr (eventOf (at tr x)) e)
 
-  -- so are those of b's cell, as b's event action has it: none of them races with b
-  abbrev pub Quiet : Bool → ℕ → Type 0
-  Quiet short b = Upto short (cell b) b (eventOf (at tr b))
-
-  -- v is the number of the record before i whose event action comes after those accesses of the cell, 0 for none; above 4,096 none is known to. From where v says on, no
-  -- record accesses the cell; in the list of all races, none writes it
-  pub record Last (short : Bool) (c i v : ℕ) : Type 0 where
-    pub high : endOf v ≤ i
+  -- What the number v of a cell tells before record i. Up to 4,096 it is the number of its last access, whose event action comes after all its accesses from the start on, or 0
+  -- where it has none. Above, and 4,097 less, it is its start in the short list, and in the list of all races a place from which on it is not written.
+  pub record Number (short : Bool) (c i v : ℕ) : Type 0 where
+    pub some : v ≢ 0 → 0 < i
+    pub low : v ≤ 4096 → v ≤ i
+    pub none : v ≤ 4096 → (x : ℕ) → v ≤ x → x < i → T (accesses c x) → ⊥
     pub upto : v ≤ 4096 → v ≢ 0 → Upto short c i (eventOf (at tr (v - 1)))
-    pub none : (x : ℕ) → endOf v ≤ x → x < i → T (accesses c x) → T (short || isWrite (at tr x)) → ⊥
+    pub start : 4096 < v → T short → v - 4097 ≡ startOf short c i
+    pub end : 4096 < v → T (not short) → v - 4097 ≤ i
+    pub unwritten : 4096 < v → T (not short) → (x : ℕ) → v - 4097 ≤ x → x < i → T (writes c x) → ⊥
 
-  pub record Lasts (short : Bool) (i : ℕ) (lasts : List ℕ) : Type 0 where
-    pub size : length lasts ≡ 1025
-    pub tells : (c : ℕ) → c < 1025 → Last short c i (getD lasts c 0)
+  pub record Numbers (short : Bool) (i : ℕ) (numbers : List ℕ) : Type 0 where
+    pub size : length numbers ≡ 1025
+    pub tells : (c : ℕ) → c < 1025 → Number short c i (getD numbers c 0)
 
-  -- may record i race with an access of cell c? With one that reads, only if it writes
-  unfoldable pub mayRace : Bool → ℕ → ℕ → Bool
-  mayRace reads c i = eqb (cell i) c && (not reads || isWrite (at tr i))
-
-  -- from a on to r, past no such record
-  pub record NextAccess (reads : Bool) (c to a r : ℕ) : Type 0 where
-    pub ahead : a < r
-    pub high : r ≤ to
-    pub none : (x : ℕ) → a < x → x < r → T (mayRace reads c x) → ⊥
+  -- none of the records from i on, before r, may race with an access of cell c
+  pub record Past (least c i r : ℕ) : Type 0 where
+    pub low : i ≤ r
+    pub none : (x : ℕ) → i ≤ x → x < r → T (mayRace least c x) → ⊥
 
   -- from a on to r, not past b, past no record that races with b
   pub record Jump (b a r : ℕ) : Type 0 where

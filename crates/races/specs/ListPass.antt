@@ -16,13 +16,13 @@ use Rattle.coverage.specs.Race.{raceb}
 use Rattle.races.specs.Traces.{settingOf}
 use Rattle.races.specs.Leading.{rows, leadingMarks}
 use Rattle.races.specs.Lists.{shapeOf, numbers}
-use Rattle.races.specs.Candidates.{cell, startOf, Range}
+use Rattle.races.specs.Candidates.{cell, startOf, Number, Range}
 use Rattle.races.specs.Filled.{Filled}
 
 module _ (tr : List Record) where
   -- from where on first accesses of b are looked for: from the start of its cell
   abbrev pub fromOf : Bool → ℕ → ℕ
-  fromOf short b = startOf tr short (cell tr b) b - 1
+  fromOf short b = startOf tr short (cell tr b) b
 
   -- the first accesses below i, from there on, that race with b
   unfoldable pub firsts : ℕ → ℕ → ℕ → List ℕ
@@ -55,6 +55,11 @@ pub record Marks (tr : List Record) (ranks work : List ℕ) (b : ℕ) : Type 0 w
 pub record Ranges (tr : List Record) (short : Bool) (b from to : ℕ) : Type 0 where
   pub range : Range tr b from to
   pub firsts-are : firsts tr (fromOf tr short b) b b ≡ firsts tr from b b
+
+-- so has it, and the number of b's cell after b is known
+pub record Ways (tr : List Record) (short : Bool) (b from to number : ℕ) : Type 0 where
+  pub ranges : Ranges tr short b from to
+  pub number-is : Number tr short (cell tr b) (b + 1) number
 
 -- what one pair of records asks for, and what becomes of entry k, written or only counted
 pub record OneRoom (writing : Bool) (tr : List Record) (ranks of : List ℕ) (width : ℕ) (clocks : List ℕ) (a b k : ℕ) (list : List ℕ) : Type 0 where

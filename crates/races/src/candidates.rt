@@ -2,7 +2,8 @@
 use crate::racing::is_before;
 use records::access;
 ghost use mathlib.Core.Path.{_≡_};
-ghost use mathlib.Core.Bool.{true, cond, _&&_, _||_};
+ghost use mathlib.Core.Logic.{_≢_};
+ghost use mathlib.Core.Bool.{true, cond};
 ghost use Prim.Native.Nat.{_+_, _≤_, _<_};
 ghost use lib.Dec.{T, eqb};
 ghost use lib.ListN.{length, getD, set};
@@ -12,145 +13,83 @@ ghost use Rattle.trace.specs.Reading.{Acceptable};
 ghost use Rattle.records.specs.Marks.{noMarks};
 ghost use Rattle.races.specs.Filled.{Filled};
 ghost use Rattle.races.specs.Traces.{isAccess};
-ghost use Rattle.races.specs.Candidates.{isOrdered, endOf, lastNumber, wayEnd, Starts, Lasts, Quiet, mayRace, NextAccess};
-ghost use Rattle.races.specs.ListPass.{Ranges};
+ghost use Rattle.races.specs.Candidates.{leastKind, cell, writes, mayRace, startOf, Number, Numbers, Past};
+ghost use Rattle.races.specs.ListPass.{Ways};
 
-// A record number for each cell, none yet.
-pub(crate) fn no_starts() -> [u16; 1025]
+// A number for each cell, none yet.
+pub(crate) fn no_numbers() -> [u16; 1025]
     ensures { λ r. ⌜ r ≡ noMarks ⌝ }
 {
     [0; 1025]
 }
 
-fn number_at(table: &[u16], c: usize) -> u16
-    ensures { λ r. ⌜ r ≡ getD (now (table .entry)) c 0 ⌝ }
+fn number_at(numbers: &[u16], c: usize) -> u16
+    ensures { λ r. ⌜ r ≡ getD (now (numbers .entry)) c 0 ⌝ }
 {
-    if c < table.len() {
-        return table[c];
+    if c < numbers.len() {
+        return numbers[c];
     }
     0
 }
 
-fn put_if(table: &mut [u16], test: bool, c: usize, number: u16)
-    ensures { λ u. ⌜ now (table .exit) ≡ cond test (set (now (table .entry)) c number) (now (table .entry)) ⌝ }
+// The cell of record b gets that number.
+pub(crate) fn note_number(recs: &[u8], b: usize, number: u16, numbers: &mut [u16])
+    ensures { λ u. ⌜ now (numbers .exit) ≡ set (now (numbers .entry)) (cell (decode (now (recs .entry))) b) number ⌝ }
 {
-    if test {
-        if c < table.len() {
-            table[c] = number;
-        }
-    }
-}
-
-// Does an access of that kind become the start of its cell, where the start so far has that number, 0 for none?
-fn is_start(short: bool, start: u16, kind: u8) -> bool
-    ensures { λ x. ⌜ x ≡ (eqb start 0 || (short && eqb kind 6)) ⌝ }
-{
-    if start == 0 {
-        return true;
-    }
-    if short {
-        return kind == 6;
-    }
-    false
-}
-
-// Is the access with that number, 0 or above 4,096 for none, in an event action that happens before that of record b?
-fn is_ordered(
-    recs: &[u8],
-    ranks: &[u16],
-    of: &[u16],
-    width: usize,
-    clocks: &[u16],
-    last: u16,
-    b: usize,
-) -> bool
-    requires { ⌜ Filled (decode (now recs)) (now ranks) (now of) width (now clocks) × (b < length (decode (now recs))) × (last ≤ 4096 → last ≤ b) ⌝ }
-    ensures { λ r. ⌜ r ≡ isOrdered (decode (now (recs .entry))) last b ⌝ }
-{
-    if last == 0 {
-        return false;
-    }
-    if 4096 < last {
-        return false;
-    }
-    is_before(recs, ranks, of, width, clocks, (last - 1) as usize, b)
-}
-
-// Where the accesses of a cell end that has this number.
-fn end_of(last: u16) -> u16
-    ensures { λ r. ⌜ (r ≡ endOf last) × (r ≤ 61438) ⌝ }
-{
-    if last <= 4096 {
-        return last;
-    }
-    last - 4097
-}
-
-// The number that a cell has after its access b of that kind, and had `last` before.
-fn last_number(fresh: bool, quiet: bool, short: bool, kind: u8, b: usize, last: u16) -> u16
-    requires { ⌜ b < 4096 ⌝ }
-    ensures { λ r. ⌜ r ≡ lastNumber (fresh || quiet) (short || eqb kind 6) b last ⌝ }
-{
-    if fresh {
-        return (b + 1) as u16;
-    }
-    if quiet {
-        return (b + 1) as u16;
-    }
-    if short {
-        return (b + 4098) as u16;
-    }
-    if kind == 6 {
-        return (b + 4098) as u16;
-    }
-    end_of(last) + 4097
-}
-
-// Takes access b into account.
-pub(crate) fn note_access(
-    recs: &[u8],
-    short: bool,
-    quiet: bool,
-    b: usize,
-    starts: &mut [u16],
-    lasts: &mut [u16],
-)
-    requires { ⌜ Acceptable (decode (now recs)) × (b < length (decode (now recs))) × T (isAccess (at (decode (now recs)) b)) × (T quiet → Quiet (decode (now recs)) short b) ⌝ }
-    requires { ⌜ Starts (decode (now recs)) short b (now starts) × Lasts (decode (now recs)) short b (now lasts) ⌝ }
-    ensures { λ u. ⌜ Starts (decode (now (recs .entry))) short (b + 1) (now (starts .exit)) × Lasts (decode (now (recs .entry))) short (b + 1) (now (lasts .exit)) ⌝ }
-{
-    let kind = access::kind_at(recs, b);
     let c = access::second_at(recs, b) as usize;
-    let fresh = is_start(short, number_at(starts, c), kind);
-    let number = last_number(fresh, quiet, short, kind, b, number_at(lasts, c));
-    put_if(starts, fresh, c, (b + 1) as u16);
-    put_if(lasts, true, c, number);
+    if c < numbers.len() {
+        numbers[c] = number;
+    }
 }
 
-// May record i race with an access of cell c, where `reads` says whether that one reads?
-fn may_race(recs: &[u8], reads: bool, c: u16, i: usize) -> bool
-    ensures { λ r. ⌜ r ≡ mayRace (decode (now (recs .entry))) reads c i ⌝ }
+// The least kind of record that races with an access of that kind: with a read only a write does.
+pub(crate) fn least_kind(kind: u8) -> u8
+    ensures { λ r. ⌜ r ≡ leastKind kind ⌝ }
+{
+    if kind == 5 {
+        return 6;
+    }
+    5
+}
+
+// May record i race with an access of cell c, where only a record of that kind or a higher one does?
+fn may_race(recs: &[u8], least: u8, c: u16, i: usize) -> bool
+    ensures { λ r. ⌜ r ≡ mayRace (decode (now (recs .entry))) least c i ⌝ }
 {
     if access::second_at(recs, i) != c {
         return false;
     }
-    if reads {
-        return access::kind_at(recs, i) == 6;
-    }
-    true
+    least <= access::kind_at(recs, i)
 }
 
-// From record a on to the next one that may race with an access of cell c, or to `to`.
-pub(crate) fn next_access(recs: &[u8], a: usize, to: usize, c: u16, reads: bool) -> usize
-    requires { ⌜ (a < to) × (to ≤ length (decode (now recs))) × (length (decode (now recs)) ≤ 4096) ⌝ }
-    ensures { λ r. ⌜ NextAccess (decode (now (recs .entry))) reads c to a r ⌝ }
+// How many of the four records from i on stand before the first that may race with an access of cell c.
+fn among_four(recs: &[u8], least: u8, c: u16, i: usize) -> usize
+    requires { ⌜ i ≤ 4096 ⌝ }
+    ensures { λ r. ⌜ (r ≤ 4) × Past (decode (now (recs .entry))) least c i (i + r) ⌝ }
 {
-    if access::count(recs) < to {
-        return to;
+    if may_race(recs, least, c, i) {
+        return 0;
     }
-    let mut i = a + 1;
+    if may_race(recs, least, c, i + 1) {
+        return 1;
+    }
+    if may_race(recs, least, c, i + 2) {
+        return 2;
+    }
+    if may_race(recs, least, c, i + 3) {
+        return 3;
+    }
+    4
+}
+
+// From record `from` on the next one that may race with an access of cell c, or `to`.
+fn next_near(recs: &[u8], from: usize, to: usize, c: u16, least: u8) -> usize
+    requires { ⌜ (from ≤ to) × (to ≤ 4096) ⌝ }
+    ensures { λ r. ⌜ (r ≤ to) × Past (decode (now (recs .entry))) least c from r ⌝ }
+{
+    let mut i = from;
     while i < to {
-        if may_race(recs, reads, c, i) {
+        if may_race(recs, least, c, i) {
             return i;
         }
         i += 1;
@@ -158,65 +97,153 @@ pub(crate) fn next_access(recs: &[u8], a: usize, to: usize, c: u16, reads: bool)
     i
 }
 
+// The same, four records at a time.
+pub(crate) fn next_access(recs: &[u8], from: usize, to: usize, c: u16, least: u8) -> usize
+    requires { ⌜ (from ≤ to) × (to ≤ length (decode (now recs))) × (length (decode (now recs)) ≤ 4096) ⌝ }
+    ensures { λ r. ⌜ (r ≤ to) × Past (decode (now (recs .entry))) least c from r ⌝ }
+{
+    if access::count(recs) < to {
+        return to;
+    }
+    let mut i = from;
+    while i + 4 <= to {
+        let k = among_four(recs, least, c, i);
+        if k < 4 {
+            return i + k;
+        }
+        i += 4;
+    }
+    next_near(recs, i, to, c, least)
+}
+
+fn is_write_of(recs: &[u8], c: u16, i: usize) -> bool
+    ensures { λ r. ⌜ r ≡ writes (decode (now (recs .entry))) c i ⌝ }
+{
+    if access::second_at(recs, i) != c {
+        return false;
+    }
+    access::kind_at(recs, i) == 6
+}
+
+// The last write of cell c before `end`, as a position; 0 where there is none.
+fn last_write(recs: &[u8], c: u16, end: usize) -> usize
+    ensures { λ r. ⌜ r ≡ startOf (decode (now (recs .entry))) true c end ⌝ }
+{
+    let mut i = end;
+    while 0 < i {
+        i -= 1;
+        if is_write_of(recs, c, i) {
+            return i;
+        }
+    }
+    i
+}
+
+// From where on, and up to where, first accesses of b are looked for, and the number of its cell after b.
 pub(crate) struct Way {
     pub from: usize,
     pub to: usize,
-    pub quiet: bool,
+    pub number: u16,
 }
 
-fn no_way(b: usize, quiet: bool) -> Way
-    ensures { λ r. ⌜ (r .from ≡ b) × (r .to ≡ b) × (r .quiet ≡ quiet) ⌝ }
+// None is looked for.
+fn no_way(b: usize) -> Way
+    requires { ⌜ b < 4096 ⌝ }
+    ensures { λ r. ⌜ (r .from ≡ b) × (r .to ≡ b) × (r .number ≡ b + 1) ⌝ }
 {
     Way {
         from: b,
         to: b,
-        quiet: quiet,
+        number: (b + 1) as u16,
     }
 }
 
-fn way_end(short: bool, reads: bool, start: usize, last: u16, b: usize) -> usize
-    ensures { λ r. ⌜ r ≡ wayEnd short reads start last b ⌝ }
+// In the short list a read races with the start of its cell alone, a write with none from `to` on.
+fn short_way(kind: u8, start: usize, to: usize, b: usize) -> Way
+    requires { ⌜ (start ≤ 4096) × (b < 4096) ⌝ }
+    ensures { λ r. ⌜ (r .from ≡ start) × (r .to ≡ cond (eqb kind 6) to (start + 1)) × (r .number ≡ cond (eqb kind 6) (b + 1) (start + 4097)) ⌝ }
 {
-    if short {
-        if reads {
-            return start;
-        }
-        return end_of(last) as usize;
+    if kind == 6 {
+        return Way {
+            from: start,
+            to: to,
+            number: (b + 1) as u16,
+        };
     }
-    if reads {
-        return end_of(last) as usize;
+    Way {
+        from: start,
+        to: start + 1,
+        number: (start + 4097) as u16,
     }
-    b
 }
 
-// From where on, and up to where, first accesses of b are looked for. Where all accesses of its cell happen before b the way is quiet, and none is looked for.
+// In the list of all races a read races with none from `end` on, where its cell is not written.
+fn long_way(kind: u8, end: usize, b: usize) -> Way
+    requires { ⌜ (end ≤ 4096) × (b < 4096) ⌝ }
+    ensures { λ r. ⌜ (r .from ≡ 0) × (r .to ≡ cond (eqb kind 6) b end) × (r .number ≡ cond (eqb kind 6) (b + 1) end + 4097) ⌝ }
+{
+    if kind == 6 {
+        return Way {
+            from: 0,
+            to: b,
+            number: (b + 4098) as u16,
+        };
+    }
+    Way {
+        from: 0,
+        to: end,
+        number: (end + 4097) as u16,
+    }
+}
+
+// The way to b where the last access of its cell has the number `last`.
+fn way_from(recs: &[u8], short: bool, last: usize, b: usize) -> Way
+    requires { ⌜ Acceptable (decode (now recs)) × (b < length (decode (now recs))) × T (isAccess (at (decode (now recs)) b)) × Number (decode (now recs)) short (cell (decode (now recs)) b) b last × (last ≤ 4096) × (last ≢ 0) ⌝ }
+    ensures { λ r. ⌜ Ways (decode (now (recs .entry))) short b (r .from) (r .to) (r .number) ⌝ }
+{
+    let kind = access::kind_at(recs, b);
+    if !short {
+        return long_way(kind, last, b);
+    }
+    let start = last_write(recs, access::second_at(recs, b), last);
+    short_way(kind, start, last, b)
+}
+
+// The way to b where its cell's start is known, in the short list, or where its writes end.
+fn way_past(recs: &[u8], short: bool, place: usize, b: usize) -> Way
+    requires { ⌜ Acceptable (decode (now recs)) × (b < length (decode (now recs))) × T (isAccess (at (decode (now recs)) b)) × Number (decode (now recs)) short (cell (decode (now recs)) b) b (place + 4097) ⌝ }
+    ensures { λ r. ⌜ Ways (decode (now (recs .entry))) short b (r .from) (r .to) (r .number) ⌝ }
+{
+    let kind = access::kind_at(recs, b);
+    if short {
+        return short_way(kind, place, b, b);
+    }
+    long_way(kind, place, b)
+}
+
+// The way to b. Where all accesses of its cell happen before b none is looked for.
 pub(crate) fn way_to(
     recs: &[u8],
     ranks: &[u16],
     of: &[u16],
     width: usize,
     clocks: &[u16],
-    starts: &[u16],
-    lasts: &[u16],
+    numbers: &[u16],
     short: bool,
     b: usize,
 ) -> Way
-    requires { ⌜ Filled (decode (now recs)) (now ranks) (now of) width (now clocks) × (b < length (decode (now recs))) ⌝ }
-    requires { ⌜ Starts (decode (now recs)) short b (now starts) × Lasts (decode (now recs)) short b (now lasts) ⌝ }
-    ensures { λ r. ⌜ Ranges (decode (now (recs .entry))) short b (r .from) (r .to) × (T (r .quiet) → Quiet (decode (now (recs .entry))) short b) ⌝ }
+    requires { ⌜ Filled (decode (now recs)) (now ranks) (now of) width (now clocks) × (b < length (decode (now recs))) × T (isAccess (at (decode (now recs)) b)) × Numbers (decode (now recs)) short b (now numbers) ⌝ }
+    ensures { λ r. ⌜ Ways (decode (now (recs .entry))) short b (r .from) (r .to) (r .number) ⌝ }
 {
-    let c = access::second_at(recs, b) as usize;
-    let last = number_at(lasts, c);
-    if is_ordered(recs, ranks, of, width, clocks, last, b) {
-        return no_way(b, true);
+    let number = number_at(numbers, access::second_at(recs, b) as usize) as usize;
+    if number == 0 {
+        return no_way(b);
     }
-    let start = number_at(starts, c) as usize;
-    if start == 0 {
-        return no_way(b, false);
+    if 4096 < number {
+        return way_past(recs, short, number - 4097, b);
     }
-    Way {
-        from: start - 1,
-        to: way_end(short, access::kind_at(recs, b) == 5, start, last, b),
-        quiet: false,
+    if is_before(recs, ranks, of, width, clocks, number - 1, b) {
+        return no_way(b);
     }
+    way_from(recs, short, number, b)
 }

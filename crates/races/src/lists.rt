@@ -1,9 +1,10 @@
 // Both lists: for each second access, the first accesses that race with it, counted, then written, then marked.
 use crate::Listing;
 use crate::Summary;
+use crate::candidates::least_kind;
 use crate::candidates::next_access;
-use crate::candidates::no_starts;
-use crate::candidates::note_access;
+use crate::candidates::no_numbers;
+use crate::candidates::note_number;
 use crate::candidates::way_to;
 use crate::few;
 use crate::marking;
@@ -25,7 +26,7 @@ ghost use Rattle.order.specs.Fill.{chainsUsed, noChains};
 ghost use Rattle.races.specs.Lists.{shapeOf, ListReply};
 ghost use Rattle.races.specs.Paper.{listPaper, ListsFilled, Lists};
 ghost use Rattle.races.specs.ListPass.{fromOf, pairsBelow, raw, OneRoom, OneWrites, Clear, RoomIf, Writes, WritesAll, Counts, ListsAll};
-ghost use Rattle.races.specs.Candidates.{Range, Starts, Lasts};
+ghost use Rattle.races.specs.Candidates.{Range, Numbers};
 ghost use Rattle.races.specs.Filled.{Filled};
 
 // 1 for ww, 2 for wr, 3 for rw.
@@ -99,12 +100,12 @@ fn list_way(
     ensures { λ r. ⌜ Writes writing (decode (now (recs .entry))) b from k (now (list .entry)) (now (list .exit)) r ⌝ }
 {
     let c = access::second_at(recs, b);
-    let reads = access::kind_at(recs, b) == 5;
+    let least = least_kind(access::kind_at(recs, b));
     let mut next = k;
     let mut a = from;
     while a < to {
         next = list_race(recs, ranks, of, width, clocks, a, b, list, next, writing);
-        a = next_access(recs, a, to, c, reads);
+        a = next_access(recs, a + 1, to, c, least);
     }
     next
 }
@@ -116,8 +117,7 @@ fn list_record(
     of: &[u16],
     width: usize,
     clocks: &[u16],
-    starts: &mut [u16],
-    lasts: &mut [u16],
+    numbers: &mut [u16],
     b: usize,
     list: &mut [u16],
     k: usize,
@@ -125,14 +125,14 @@ fn list_record(
     writing: bool,
 ) -> usize
     requires { ⌜ Filled (decode (now recs)) (now ranks) (now of) width (now clocks) × (b < length (decode (now recs))) × RoomIf writing (decode (now recs)) b (fromOf (decode (now recs)) short b) k (now list) ⌝ }
-    requires { ⌜ Starts (decode (now recs)) short b (now starts) × Lasts (decode (now recs)) short b (now lasts) ⌝ }
-    ensures { λ r. ⌜ Writes writing (decode (now (recs .entry))) b (fromOf (decode (now (recs .entry))) short b) k (now (list .entry)) (now (list .exit)) r × Starts (decode (now (recs .entry))) short (b + 1) (now (starts .exit)) × Lasts (decode (now (recs .entry))) short (b + 1) (now (lasts .exit)) ⌝ }
+    requires { ⌜ Numbers (decode (now recs)) short b (now numbers) ⌝ }
+    ensures { λ r. ⌜ Writes writing (decode (now (recs .entry))) b (fromOf (decode (now (recs .entry))) short b) k (now (list .entry)) (now (list .exit)) r × Numbers (decode (now (recs .entry))) short (b + 1) (now (numbers .exit)) ⌝ }
 {
     if access::kind_at(recs, b) < 5 {
         return k;
     }
-    let way = way_to(recs, ranks, of, width, clocks, starts, lasts, short, b);
-    note_access(recs, short, way.quiet, b, starts, lasts);
+    let way = way_to(recs, ranks, of, width, clocks, numbers, short, b);
+    note_number(recs, b, way.number, numbers);
     if way.to <= way.from {
         return k;
     }
@@ -166,8 +166,7 @@ fn list_all(
     ensures { λ r. ⌜ WritesAll writing (decode (now (recs .entry))) short (now (list .entry)) (now (list .exit)) r ⌝ }
 {
     let n = access::count(recs);
-    let mut starts = no_starts();
-    let mut lasts = no_starts();
+    let mut numbers = no_numbers();
     let mut k = 0;
     let mut b = 0;
     while b < n {
@@ -177,8 +176,7 @@ fn list_all(
             of,
             width,
             clocks,
-            &mut starts,
-            &mut lasts,
+            &mut numbers,
             b,
             list,
             k,

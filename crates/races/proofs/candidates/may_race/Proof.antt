@@ -16,12 +16,7 @@ kind-at-requires c κs = search needs
 
 returns-2 : tie.Need-returns-2
 unfolding mayRace
-returns-2 c = simp (← c .before .before .before .second-at .ensures, eq-eqb _ _ (c .before .before .if1 .left), c .before .if2 .taken, c .kind-at .ensures)
-
-returns-3 : tie.Need-returns-3
-unfolding mayRace
-returns-3 c = simp (← c .before .before .second-at .ensures, eq-eqb _ _ (c .before .if1 .left), c .if2 .left)
+returns-2 c = simp (← c .before .before .second-at .ensures, eq-eqb _ _ (c .before .if1 .left), c .kind-at .ensures)
 
 pub may-race-spec : {M : Type 1} → statement M
-may-race-spec =
-    tie.close (tie.spec second-at-requires returns kind-at-requires returns-2 returns-3)
+may-race-spec = tie.close (tie.spec second-at-requires returns kind-at-requires returns-2)
