@@ -7,7 +7,7 @@ use mathlib.Core.List.{List, _++_}
 use mathlib.Core.Logic.{_≢_}
 use native.Mathlib.Omega.{arith}
 use borrow.Author.Tests.{eq-eqb, ne-eqb, lt-ltb}
-use lib.Dec.{T, ltb, eqb}
+use lib.Dec.{T, ltb, eqb, eqb→eq}
 use lib.ListN.{length, getD, replicate, length-append, length-replicate}
 use Rattle.records.specs.declared.Record.{Record}
 use Rattle.records.specs.Records.{at, eventOf}
@@ -24,7 +24,8 @@ use Rattle.order.proofs.TableLaws.{rank-row, events-few, chain-at}
 use Rattle.order.proofs.ComparedLaws.{compared-before}
 use Rattle.coverage.specs.Race.{before, raceb}
 use Rattle.coverage.specs.Neighbours.{conflicts}
-use Rattle.races.specs.Traces.{cellsOf, settingOf, conflict}
+use Rattle.races.specs.Traces.{cellsOf, settingOf, conflict, clash}
+use Rattle.coverage.proofs.Tests.{eq→eqb}
 use Rattle.races.specs.Filled.{Filled}
 
 module _ {tr : List Record} {ranks of : List ℕ} {width : ℕ} {clocks : List ℕ} (f : Filled tr ranks of width clocks) where
@@ -67,14 +68,32 @@ unfolding conflict conflicts
 conflict-is tr a b = refl
 
 module _ (tr : List Record) (a b : ℕ) (l : a < b) (h : b < length tr) where
-  pub no-conflict : conflict (at tr a) (at tr b) ≡ false → raceb (settingOf tr) a b ≡ false
+  no-conflict : conflict (at tr a) (at tr b) ≡ false → raceb (settingOf tr) a b ≡ false
   unfolding raceb
   no-conflict c = rw (lt-ltb a b l, lt-ltb b (length tr) h, ← conflict-is tr a b, c)
 
-  pub same-event : conflict (at tr a) (at tr b) ≡ true → eventOf (at tr a) ≡ eventOf (at tr b) → raceb (settingOf tr) a b ≡ false
+  same-event : conflict (at tr a) (at tr b) ≡ true → eventOf (at tr a) ≡ eventOf (at tr b) → raceb (settingOf tr) a b ≡ false
   unfolding raceb before
   same-event c e = rw (lt-ltb a b l, lt-ltb b (length tr) h, ← conflict-is tr a b, c, eq-eqb _ _ e)
 
-  pub other-event : conflict (at tr a) (at tr b) ≡ true → eventOf (at tr a) ≢ eventOf (at tr b) → raceb (settingOf tr) a b ≡ not (happensBefore tr (eventOf (at tr a)) (eventOf (at tr b)))
+  other-event : conflict (at tr a) (at tr b) ≡ true → eventOf (at tr a) ≢ eventOf (at tr b) → raceb (settingOf tr) a b ≡ not (happensBefore tr (eventOf (at tr a)) (eventOf (at tr b)))
   unfolding raceb before
   other-event c n = rw (lt-ltb a b l, lt-ltb b (length tr) h, ← conflict-is tr a b, c, ne-eqb _ _ n)
+
+  pub no-clash : clash (at tr a) (at tr b) ≡ false → raceb (settingOf tr) a b ≡ false
+  unfolding clash
+  no-clash e = go (conflict (at tr a) (at tr b)) refl (eqb (eventOf (at tr a)) (eventOf (at tr b))) refl e
+    where
+      go : (p : Bool) → conflict (at tr a) (at tr b) ≡ p → (q : Bool) → eqb (eventOf (at tr a)) (eventOf (at tr b)) ≡ q → (p && not q) ≡ false → raceb (settingOf tr) a b ≡ false
+      go true c true f g = same-event c (eqb→eq _ _ (subst T (sym f) tt))
+      go true c false f g = absurd (subst T g tt)
+      go false c q f g = no-conflict c
+
+  pub clash-race : clash (at tr a) (at tr b) ≡ true → raceb (settingOf tr) a b ≡ not (happensBefore tr (eventOf (at tr a)) (eventOf (at tr b)))
+  unfolding clash
+  clash-race e = go (conflict (at tr a) (at tr b)) refl (eqb (eventOf (at tr a)) (eventOf (at tr b))) refl e
+    where
+      go : (p : Bool) → conflict (at tr a) (at tr b) ≡ p → (q : Bool) → eqb (eventOf (at tr a)) (eventOf (at tr b)) ≡ q → (p && not q) ≡ true → raceb (settingOf tr) a b ≡ not (happensBefore tr (eventOf (at tr a)) (eventOf (at tr b)))
+      go true c true f g = absurd (subst T (sym g) tt)
+      go true c false f g = other-event c (λ z. subst T f (eq→eqb _ _ z))
+      go false c q f g = absurd (subst T (sym g) tt)

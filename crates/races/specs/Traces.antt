@@ -1,5 +1,5 @@
 -- A trace as a setting of races and cover. Assumes nothing.
-use mathlib.Core.Bool.{Bool, _&&_, _||_}
+use mathlib.Core.Bool.{Bool, not, _&&_, _||_}
 use lib.Dec.{eqb}
 use mathlib.Core.List.{List}
 use lib.ListN.{length}
@@ -24,3 +24,7 @@ settingOf tr = record { size = length tr; ev = λ i. eventOf (at tr i); conf = c
 -- the same of two records
 unfoldable pub conflict : Record → Record → Bool
 conflict a b = (isAccess a && isAccess b) && (eqb (a .second) (b .second) && (isWrite a || isWrite b))
+
+-- so do they, in two event actions
+unfoldable pub clash : Record → Record → Bool
+clash a b = conflict a b && not (eqb (eventOf a) (eventOf b))

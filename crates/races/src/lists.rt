@@ -8,7 +8,8 @@ use crate::candidates::note_number;
 use crate::candidates::way_to;
 use crate::few;
 use crate::marking;
-use crate::racing::is_race;
+use crate::racing::is_before;
+use crate::racing::is_clash;
 use crate::workspace;
 use order::Filling;
 use records::access;
@@ -71,7 +72,10 @@ fn list_race(
     requires { ⌜ OneRoom writing (decode (now recs)) (now ranks) (now of) width (now clocks) a b k (now list) ⌝ }
     ensures { λ r. ⌜ OneWrites writing (decode (now (recs .entry))) a b k (now (list .entry)) (now (list .exit)) r ⌝ }
 {
-    if !is_race(recs, ranks, of, width, clocks, a, b) {
+    if !is_clash(recs, a, b) {
+        return k;
+    }
+    if is_before(recs, ranks, of, width, clocks, a, b) {
         return k;
     }
     if writing {

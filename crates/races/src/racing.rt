@@ -11,7 +11,7 @@ ghost use Rattle.records.specs.Bytes.{decode};
 ghost use Rattle.records.specs.Records.{at, eventOf};
 ghost use Rattle.order.specs.HappensBefore.{happensBefore};
 ghost use Rattle.coverage.specs.Race.{raceb};
-ghost use Rattle.races.specs.Traces.{settingOf, conflict};
+ghost use Rattle.races.specs.Traces.{settingOf, conflict, clash};
 ghost use Rattle.races.specs.Filled.{Filled};
 
 // Both access, the same cell, and one of them writes.
@@ -31,6 +31,16 @@ pub(crate) fn is_conflict(a: Record, b: Record) -> bool
         return true;
     }
     b.kind == 6
+}
+
+// Whether records a and b conflict and are of two event actions.
+pub(crate) fn is_clash(recs: &[u8], a: usize, b: usize) -> bool
+    ensures { λ r. ⌜ r ≡ clash (at (decode (now (recs .entry))) a) (at (decode (now (recs .entry))) b) ⌝ }
+{
+    if !is_conflict(access::record_at(recs, a), access::record_at(recs, b)) {
+        return false;
+    }
+    access::first_at(recs, a) != access::first_at(recs, b)
 }
 
 // Whether the event action of record a happens before that of record b.
@@ -65,10 +75,7 @@ pub(crate) fn is_race(
     requires { ⌜ Filled (decode (now recs)) (now ranks) (now of) width (now clocks) × (a < b) × (b < length (decode (now recs))) ⌝ }
     ensures { λ r. ⌜ r ≡ raceb (settingOf (decode (now (recs .entry)))) a b ⌝ }
 {
-    if !is_conflict(access::record_at(recs, a), access::record_at(recs, b)) {
-        return false;
-    }
-    if access::first_at(recs, a) == access::first_at(recs, b) {
+    if !is_clash(recs, a, b) {
         return false;
     }
     !is_before(recs, ranks, of, width, clocks, a, b)
