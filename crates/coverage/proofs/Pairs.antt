@@ -1,13 +1,13 @@
 -- What stands in the two lists; and how many numbers pass a test.
 use Prim.Native.Nat.{ℕ, zero, suc, _+_, _≤_, _<_}
-use mathlib.Core.Path.{_≡_, refl, ap}
+use mathlib.Core.Path.{_≡_, refl, sym, ap, _∙_}
 use mathlib.Core.Logic.{_≢_, _⊎_, inl, inr, _↔_}
 use mathlib.Core.Bool.{Bool, _&&_}
-use mathlib.Core.List.{List, [], _∷_, _++_, map, List·Memᴰ·not-nil, List·Memᴰ·append-cases, Memᴰ·append-left, Memᴰ·append-right}
+use mathlib.Core.List.{List, [], _∷_, _++_, map, map-append, List·Memᴰ, List·Memᴰ·head, List·Memᴰ·tail, List·Memᴰ·not-nil, List·Memᴰ·append-cases, List·Memᴰ·eq-of-singleton, Memᴰ·append-left, Memᴰ·append-right}
 use native.Mathlib.Omega.{arith}
 use lib.Dec.{T}
 use lib.ListN.{length, length-append, length-map}
-use Rattle.coverage.specs.Below.{_∈_, upto, pairs, Listed}
+use Rattle.coverage.specs.Below.{_∈_, upto, pairs, Listed, Sooner, Ordered}
 use Rattle.coverage.specs.Setting.{Setting}
 use Rattle.coverage.specs.Race.{Race, raceb}
 use Rattle.coverage.specs.Neighbours.{Cells, Neighbours, neighbour}
@@ -37,6 +37,48 @@ pairs-in a b (suc m) p l k h = go (decide-eq b m) (pairs-in a b m p l)
     go : (b ≡ m) ⊎ (b ≢ m) → (b < m → T (p a b) → Listed a b (pairs m p)) → Listed a b (pairs m p ++ map (λ i. (i, m)) (upto m (λ i. p i m)))
     go (inl e) f = Memᴰ·append-right (pairs m p) (rw e (map-in (λ (i : ℕ). (i, m)) (upto-in m (λ i. p i m) a (omega arith) (rw e at h))))
     go (inr n) f = Memᴰ·append-left (map (λ i. (i, m)) (upto m (λ i. p i m))) (f (omega arith) h)
+
+-- The pairs are ordered by second, then first.
+ordered-append : (l k : List (ℕ × ℕ)) → Ordered l → Ordered k → ((p q : ℕ × ℕ) → List·Memᴰ p l → List·Memᴰ q k → Sooner p q) → Ordered (l ++ k)
+ordered-append [] k d e h = e
+ordered-append (p ∷ l) k d e h = (λ q m. go q (List·Memᴰ·append-cases l m), ordered-append l k (d .1) e (λ p q m n. h p q (List·Memᴰ·tail m) n))
+  where
+    go : (q : ℕ × ℕ) → List·Memᴰ q l ⊎ List·Memᴰ q k → Sooner p q
+    go q (inl m) = d .0 q m
+    go q (inr m) = h p q (List·Memᴰ·head refl) m
+
+firsts-ordered : (b m : ℕ) (p : ℕ → Bool) → Ordered (map (λ a. (a, b)) (upto m p))
+firsts-ordered b zero p = rw (upto-zero p) tt
+firsts-ordered b (suc m) p = go (decide (p m)) (firsts-ordered b m p)
+  where
+    pair : ℕ → ℕ × ℕ
+    pair a = (a, b)
+
+    last : (q r : ℕ × ℕ) → List·Memᴰ q (map pair (upto m p)) → List·Memᴰ r (pair m ∷ []) → Sooner q r
+    last q r h k =
+        let f = in-map pair (upto m p) h in
+        let e = List·Memᴰ·eq-of-singleton k in
+        inr (ap (λ (z : ℕ × ℕ). z .1) (f .2) ∙ sym (ap (λ (z : ℕ × ℕ). z .1) e), omega (arith, in-upto m p (f .1) .0, ap (λ (z : ℕ × ℕ). z .0) (f .2), ap (λ (z : ℕ × ℕ). z .0) e))
+
+    go : T (p m) ⊎ (T (p m) → ⊥) → Ordered (map pair (upto m p)) → Ordered (map pair (upto (suc m) p))
+    go (inl h) o = rw (upto-yes m p h, map-append pair (upto m p) (m ∷ [])) (ordered-append (map pair (upto m p)) (pair m ∷ []) o (λ q k. absurd (List·Memᴰ·not-nil k), tt) last)
+    go (inr h) o = rw (upto-no m p h) o
+
+pairs-ordered : (m : ℕ) (p : ℕ → ℕ → Bool) → Ordered (pairs m p)
+unfolding pairs
+pairs-ordered zero p = tt
+pairs-ordered (suc m) p = ordered-append (pairs m p) (map pair (upto m (λ a. p a m))) (pairs-ordered m p) (firsts-ordered m m (λ a. p a m)) (λ q r h k. inl (omega (arith, in-pairs m p h .1, ap (λ (z : ℕ × ℕ). z .1) (in-map pair (upto m (λ a. p a m)) k .2))))
+  where
+    pair : ℕ → ℕ × ℕ
+    pair a = (a, m)
+
+pub all-ordered : (t : Setting) → Ordered (allRaces t)
+unfolding allRaces
+all-ordered t = pairs-ordered (t .size) (raceb t)
+
+pub short-ordered : (t : Setting) (s : Cells) → Ordered (shortList t s)
+unfolding shortList
+short-ordered t s = pairs-ordered (t .size) (λ a b. neighbour s a b && raceb t a b)
 
 pub in-all : (t : Setting) (a b : ℕ) → Listed a b (allRaces t) ↔ Race t a b
 unfolding allRaces

@@ -7,7 +7,7 @@ use mathlib.Core.List.{List}
 use native.Mathlib.Omega.{arith}
 use lib.Dec.{T}
 use lib.ListN.{length}
-use Rattle.coverage.specs.Below.{_∈_, Listed}
+use Rattle.coverage.specs.Below.{_∈_, Listed, Ordered}
 use Rattle.coverage.specs.Setting.{Setting, Laws}
 use Rattle.coverage.specs.Race.{before, Race, raceb}
 use Rattle.coverage.specs.Cover.{Covers, Covered, Open}
@@ -59,6 +59,13 @@ module _ (t : Setting) where
 
   pub in-short : (s : Cells) (a b : ℕ) → Listed a b (shortList t s) ↔ (Neighbours s a b × Race t a b)
   in-short = Pairs.in-short t
+
+  -- "ordered by second record, then first"
+  pub all-ordered : Ordered (allRaces t)
+  all-ordered = Pairs.all-ordered t
+
+  pub short-ordered : (s : Cells) → Ordered (shortList t s)
+  short-ordered = Pairs.short-ordered t
 
   -- "With p writes (at least 1) and q reads there are at most p − 1 + 2q entries."
   pub short-bound : (s : Cells) (c : ℕ) → 0 < length (cellWrites t s c) → length (cellEntries t s c) ≤ length (cellWrites t s c) - 1 + 2 * length (cellReads t s c)
