@@ -48,18 +48,28 @@ fn mark_link(recs: &[u8], ranks: &[u16], i: usize, marks: &mut [u8])
     }
 }
 
-// The rows that happen before row u, which begins at position i.
-fn mark_before(recs: &[u8], ranks: &[u16], i: usize, u: usize) -> [u8; 1024]
-    ensures { λ r. ⌜ r ≡ marksIn (saidBy (now (ranks .entry)) (decode (now (recs .entry)))) i u 1024 ⌝ }
+fn clear_marks(marks: &mut [u8])
+    ensures { λ u. ⌜ now (marks .exit) ≡ noMarks (length (now (marks .entry))) ⌝ }
 {
-    let mut marks = no_marks();
-    set_mark(&mut marks, u);
+    let n = marks.len();
+    let mut i = 0;
+    while i < n {
+        marks[i] = 0;
+        i += 1;
+    }
+}
+
+// The rows that happen before row u, which begins at position i, in the lent table, whatever it held.
+fn mark_before(recs: &[u8], ranks: &[u16], i: usize, u: usize, marks: &mut [u8])
+    ensures { λ r. ⌜ now (marks .exit) ≡ marksIn (saidBy (now (ranks .entry)) (decode (now (recs .entry)))) i u (length (now (marks .entry))) ⌝ }
+{
+    clear_marks(marks);
+    set_mark(marks, u);
     let mut j = i;
     while 0 < j {
         j -= 1;
-        mark_link(recs, ranks, j, &mut marks);
+        mark_link(recs, ranks, j, marks);
     }
-    marks
 }
 
 // The lowest chain whose last member is marked, or a new one.
@@ -105,20 +115,21 @@ fn turn(
     recs: &[u8],
     ranks: &[u16],
     i: usize,
+    marks: &mut [u8],
     lasts: &mut [u16],
     of: &mut [u16],
     chains: usize,
     width: usize,
 ) -> usize
-    requires { ⌜ (width ≤ 1024) × RoomFor (saidBy (now ranks) (decode (now recs)) i) (record { lasts = now lasts; of = now of; chains = chains }) ⌝ }
+    requires { ⌜ (width ≤ 1024) × (length (now marks) ≡ 1024) × RoomFor (saidBy (now ranks) (decode (now recs)) i) (record { lasts = now lasts; of = now of; chains = chains }) ⌝ }
     ensures { λ r. ⌜ AreMembers (turnMembers (now (ranks .entry)) (decode (now (recs .entry))) width i (saidBy (now (ranks .entry)) (decode (now (recs .entry))) i) (record { lasts = now (lasts .entry); of = now (of .entry); chains = chains })) (now (lasts .exit)) (now (of .exit)) r ⌝ }
 {
     let said = ordering_at(recs, ranks, i);
     match said {
         Ordering::Begin(row) => {
             let u = row as usize;
-            let marks = mark_before(recs, ranks, i, u);
-            let c = marked_chain(&marks, lasts, chains);
+            mark_before(recs, ranks, i, u, marks);
+            let c = marked_chain(marks, lasts, chains);
             enter_chain(lasts, of, chains, width, u, c)
         }
         Ordering::Link(_, _) => chains,
@@ -138,10 +149,11 @@ pub(crate) fn chain_pass(
     ensures { λ r. ⌜ PassesChains (decode (now (recs .entry))) width (now (of .exit)) r ⌝ }
 {
     let n = access::count(recs);
+    let mut marks = no_marks();
     let mut chains = 0;
     let mut i = 0;
     while i < n {
-        let next = turn(recs, ranks, i, lasts, of, chains, width);
+        let next = turn(recs, ranks, i, &mut marks, lasts, of, chains, width);
         if width < next {
             return i;
         }

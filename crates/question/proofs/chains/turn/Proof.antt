@@ -21,18 +21,15 @@ cast-u c = search needs
 mark-before-requires : tie.Need-mark-before-requires
 mark-before-requires c κs = search needs
 
-slice-aggregate-marked-chain : tie.Need-slice-aggregate-marked-chain
-slice-aggregate-marked-chain c = search needs
-
 marked-chain-requires : tie.Need-marked-chain-requires
 marked-chain-requires c κs =
-    let room = rw (sym (c .before .before .before .before .before .before .ordering-at .ensures) ∙ ap says (c .before .before .before .before .said .given .1)) at (c .before .before .before .before .before .before .before .before .before .before .before .pre .1) in
+    let room = rw (sym (c .before .before .before .before .before .before .before .before .before .ordering-at .ensures) ∙ ap says (c .before .before .before .before .before .before .before .said .given .1)) at (c .before .before .before .before .before .before .before .before .before .before .before .before .before .before .before .pre .2) in
     omega (arith, room .1, room .2)
 
 enter-chain-requires : tie.Need-enter-chain-requires
 enter-chain-requires c κs =
-    let room = rw (sym (c .before .before .before .before .before .before .before .before .before .ordering-at .ensures) ∙ ap says (c .before .before .before .before .before .before .before .said .given .1)) at (c .before .before .before .before .before .before .before .before .before .before .before .before .before .before .pre .1) in
-    (c .before .before .before .before .before .before .before .before .before .before .before .before .before .before .pre .0, room .0, room .2, room .3)
+    let room = rw (sym (c .before .before .before .before .before .before .before .before .before .before .before .before .ordering-at .ensures) ∙ ap says (c .before .before .before .before .before .before .before .before .before .before .said .given .1)) at (c .before .before .before .before .before .before .before .before .before .before .before .before .before .before .before .before .before .before .pre .2) in
+    (c .before .before .before .before .before .before .before .before .before .before .before .before .before .before .before .before .before .before .pre .0, room .0, room .2, room .3)
 
 enum-told : tie.Need-enum-told
 enum-told c = search needs
@@ -46,9 +43,14 @@ same-length c = search needs
 same-length-2 : tie.Need-same-length-2
 same-length-2 c = search needs
 
+same-length-3 : tie.Need-same-length-3
+same-length-3 c = search needs
+
 returns : tie.Need-returns
 unfolding turnMembers
-returns c = rw (sym (c .before .before .before .before .before .before .before .before .before .before .before .before .before .before .ordering-at .ensures) ∙ ap says (c .before .before .before .before .before .before .before .before .before .before .before .before .said .given .1), ← c .before .before .before .before .before .before .before .before .before .before .mark-before .ensures, ← c .before .before .before .before .before .before .before .marked-chain .ensures) (c .before .before .before .before .enter-chain .ensures)
+returns c =
+    let marked = rw (c .before .before .before .before .before .before .before .before .before .before .before .before .before .before .before .before .before .before .before .before .before .before .before .pre .1) at (c .before .before .before .before .before .before .before .before .before .before .before .before .mark-before .ensures) in
+    rw (sym (c .before .before .before .before .before .before .before .before .before .before .before .before .before .before .before .before .before .ordering-at .ensures) ∙ ap says (c .before .before .before .before .before .before .before .before .before .before .before .before .before .before .before .said .given .1), ← marked, ← c .before .before .before .before .before .before .before .marked-chain .ensures) (c .before .before .before .before .enter-chain .ensures)
 
 returns-2 : tie.Need-returns-2
 unfolding turnMembers
@@ -66,13 +68,13 @@ turn-spec =
     enum-known-said
     cast-u
     mark-before-requires
-    slice-aggregate-marked-chain
     marked-chain-requires
     enter-chain-requires
     enum-told
     enum-told-2
     same-length
     same-length-2
+    same-length-3
     returns
     returns-2
     returns-3)
