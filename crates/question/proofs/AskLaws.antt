@@ -1,23 +1,23 @@
 -- How the order question on an accepted trace ends.
 -- Assumes nothing.
-use Prim.Native.Nat.{ℕ, zero, suc, _+_, _*_, _-_, _≤_, _<_}
-use mathlib.Core.Path.{_≡_, refl, sym, ap, _∙_}
+use Prim.Native.Nat.{ℕ, _+_, _-_, _≤_, _<_}
+use mathlib.Core.Path.{_≡_, sym, _∙_}
 use mathlib.Core.Bool.{true, false}
-use mathlib.Core.List.{List, _++_}
+use mathlib.Core.List.{List}
 use mathlib.Core.Logic.{_≢_}
 use native.Mathlib.Omega.{arith}
 use native.Mathlib.Decide.{ℕ-discrete}
 use borrow.Author.Tests.{eq-eqb, ne-eqb}
-use lib.ListN.{length, getD, replicate, List·getD-append}
+use lib.ListN.{length}
 use Rattle.records.specs.declared.Record.{Record}
 use Rattle.trace.specs.Reading.{Acceptable}
 use Rattle.clocks.specs.Rows.{spaceFor, compareIn}
 use Rattle.order.specs.Clocks.{chainOf}
 use Rattle.order.specs.HappensBefore.{rank, traceLinks}
-use Rattle.order.specs.Fill.{eventsIn, beginPosition, shortRow, chainTable}
+use Rattle.order.specs.Fill.{eventsIn, shortRow}
 use Rattle.order.specs.Compared.{compared}
 use Rattle.question.specs.ChainPass.{PassesChains}
-use Rattle.question.specs.Question.{OrderReply, refused, answered, demand, bothBegin, orderTrace}
+use Rattle.question.specs.Question.{refused, answered, demand, bothBegin, orderTrace}
 use Rattle.order.proofs.TableLaws.{rank-row, chain-at}
 
 module _ {tr : List Record} (a : Acceptable tr) where
@@ -30,7 +30,7 @@ module _ {tr : List Record} (a : Acceptable tr) where
     unfolding orderTrace demand
     ask-space s = rw (begin-both, s)
 
-    module _ (s : spaceFor width events (length clocks) ≡ true) (of : List ℕ) (position : ℕ) (p : PassesChains tr width of position) where
+    module _ (s : spaceFor width events (length clocks) ≡ true) (position chain : ℕ) (p : PassesChains tr (x - 1) width position chain) where
       pub ask-short : position < length tr → orderTrace tr events width clocks t u ≡ refused 23 (position + 1)
       unfolding orderTrace demand
       ask-short h =
@@ -41,9 +41,9 @@ module _ {tr : List Record} (a : Acceptable tr) where
       whole h (yes e) = e
       whole h (no n) = absurd (omega (arith, p .short n .inside))
 
-      pub ask-done : length tr ≤ position → orderTrace tr events width clocks t u ≡ answered (compareIn clocks width (getD of (x - 1) 0) (x - 1) (y - 1))
+      pub ask-done : length tr ≤ position → orderTrace tr events width clocks t u ≡ answered (compareIn clocks width chain (x - 1) (y - 1))
       unfolding orderTrace demand compared
       ask-done h =
           let e = whole h (ℕ-discrete (shortRow tr width) (eventsIn tr)) in
-          let c : getD of (x - 1) 0 ≡ chainOf (traceLinks tr) (rank tr t - 1) = rw (ex, p .whole e .0) (chain-at a (rank tr t - 1) (rank-row a t (λ z. nx (ex ∙ z)))) in
+          let c : chain ≡ chainOf (traceLinks tr) (rank tr t - 1) = p .whole e .0 ∙ rw ex (chain-at a (rank tr t - 1) (rank-row a t (λ z. nx (ex ∙ z)))) in
           rw (begin-both, s, eq-eqb (shortRow tr width) events (e ∙ sym ee), c, ex, ey)

@@ -64,7 +64,7 @@ pub no-marks-length : (k : ℕ) → length (noMarks k) ≡ k
 unfolding noMarks
 no-marks-length k = length-replicate k 0
 
-no-marks-at : (k t : ℕ) → getD (noMarks k) t 0 ≡ 0
+pub no-marks-at : (k t : ℕ) → getD (noMarks k) t 0 ≡ 0
 unfolding noMarks
 no-marks-at k t = go (decide-lt t k)
   where

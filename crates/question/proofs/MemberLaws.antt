@@ -1,36 +1,36 @@
--- The pass that finds the chains from the trace alone keeps the last member of each chain, and stops at the begin for which the width has no chain left.
+-- The pass that finds the chains from the trace alone keeps the last member of each chain and the chain of the row asked for, and stops at the begin for which the width has no chain left.
 -- Assumes nothing.
 use Prim.Native.Nat.{ℕ, zero, suc, _+_, _-_, _<_, _≤_, max}
-use mathlib.Core.Path.{_≡_, refl, sym, ap, _∙_, subst}
-use mathlib.Core.Bool.{Bool}
-use mathlib.Core.List.{List, [], _∷_, _++_}
+use mathlib.Core.Path.{_≡_, refl, sym, ap, _∙_}
+use mathlib.Core.Bool.{Bool, cond}
+use mathlib.Core.List.{List, []}
 use mathlib.Core.Logic.{_≢_, _⊎_, inl, inr}
 use native.Mathlib.Omega.{arith}
 use native.Mathlib.Numerals.{add-one}
 use native.Mathlib.Decide.{ℕ-discrete}
-use borrow.Author.Tests.{le-leb, lt-leb}
-use lib.Dec.{T, leb, eqb}
+use borrow.Author.Tests.{le-leb, lt-leb, eq-eqb, ne-eqb}
+use lib.Dec.{eqb}
 use lib.ListN.{length, getD, set, replicate, length-set, length-append, length-replicate}
 use lib.Seq.{getD-set-same, getD-set-other}
 use Rattle.records.specs.declared.Record.{Record}
 use Rattle.records.specs.Records.{at}
 use Rattle.trace.specs.Reading.{Acceptable}
 use Rattle.records.proofs.Positions.{lt-or-ge}
-use Rattle.order.specs.Links.{Links, leq}
+use Rattle.order.specs.Links.{leq}
 use Rattle.order.specs.Chains.{lasts, chain, used, needs, first}
 use Rattle.order.specs.Clocks.{table, chainOf}
 use Rattle.order.specs.Schedule.{begins}
-use Rattle.question.specs.Marking.{marked, marksIn, marksDownIn, markIn}
-use Rattle.ranks.specs.Said.{opOf, Op, link, begin, other}
+use Rattle.question.specs.Marking.{marked, marksIn, marksDownIn, markIn, noMarks}
+use Rattle.ranks.specs.Said.{Op, link, begin, other}
 use Rattle.order.specs.HappensBefore.{opAt, traceLinks}
 use Rattle.ranks.specs.Ranks.{ranksOf}
-use Rattle.order.specs.Fill.{eventsIn, beginPosition, shortRow, chainTable, noChains}
+use Rattle.order.specs.Fill.{eventsIn, shortRow, chainTable}
 use Rattle.order.specs.PassEnds.{Short}
-use Rattle.question.specs.ChainPass.{Members, markedChain, enterChain, saidBy, turnMembers, RoomFor, AreMembers, ReadyChains, PassesChains}
+use Rattle.question.specs.ChainPass.{Members, markedChain, ownChain, enterChain, saidBy, turnMembers, RoomFor, AreMembers, ReadyChains, PassesChains}
 use Rattle.order.proofs.CountLaws.{firstFrom-local}
-use Rattle.order.proofs.ChainLaws.{chain-search, chain-le-used, used-zero, used-suc, used-le-self, last-own, last-other, needs-at, needs-none}
-use Rattle.order.proofs.ScheduleLaws.{begins-zero, begins-suc, begins-mono, begin-next, links-made}
-use Rattle.question.proofs.MarkListLaws.{marks-list}
+use Rattle.order.proofs.ChainLaws.{chain-search, chain-le-used, used-zero, used-suc, last-own, last-other, needs-at, needs-none}
+use Rattle.order.proofs.ScheduleLaws.{begins-zero, begins-suc, begins-mono, links-made}
+use Rattle.question.proofs.MarkListLaws.{marks-list, no-marks-at}
 use Rattle.order.proofs.RowLaws.{table-length}
 use Rattle.order.proofs.RankLaws.{ops-are}
 use Rattle.order.proofs.TraceOrder.{ops-ordered, forward-links}
@@ -42,15 +42,24 @@ unfolding marksDownIn
 down-same f g h zero ms = refl
 down-same f g h (suc i) ms = rw (h i) (down-same f g h i (markIn (g i) ms))
 
-enter-room : (w u : ℕ) (s : Members) (c : ℕ) → c < w → enterChain w u s c ≡ record { lasts = set (s .lasts) c u; of = set (s .of) u c; chains = max (s .chains) (suc c) }
+enter-room : (asked w u : ℕ) (s : Members) (c : ℕ) → c < w → enterChain asked w u s c ≡ record { lasts = set (s .lasts) c u; chains = max (s .chains) (suc c); own = ownChain asked u c (s .own) }
 unfolding enterChain
-enter-room w u s c h = rw (lt-leb w c h)
+enter-room asked w u s c h = rw (lt-leb w c h)
 
-enter-full : (w u : ℕ) (s : Members) (c : ℕ) → w ≤ c → enterChain w u s c ≡ record { lasts = s .lasts; of = s .of; chains = suc w }
+enter-full : (asked w u : ℕ) (s : Members) (c : ℕ) → w ≤ c → enterChain asked w u s c ≡ record { lasts = s .lasts; chains = suc w; own = s .own }
 unfolding enterChain
-enter-full w u s c h = rw (le-leb w c h)
+enter-full asked w u s c h = rw (le-leb w c h)
 
-module _ {tr : List Record} (a : Acceptable tr) (w : ℕ) (narrow : w ≤ 1024) where
+-- the chain of the row asked for is its entry in the list of chains by row
+own-entry : (asked u c : ℕ) (of : List ℕ) → u < length of → ownChain asked u c (getD of asked 0) ≡ getD (set of u c) asked 0
+unfolding ownChain
+own-entry asked u c of h = go (ℕ-discrete u asked)
+  where
+    go : Dec (u ≡ asked) → cond (eqb u asked) c (getD of asked 0) ≡ getD (set of u c) asked 0
+    go (yes e) = rw (← e, eq-eqb u u refl) (sym (getD-set-same of u c 0 h))
+    go (no n) = rw (ne-eqb u asked n) (sym (getD-set-other of u asked c 0 (λ e. n (sym e))))
+
+module _ {tr : List Record} (a : Acceptable tr) (asked w : ℕ) (narrow : w ≤ 1024) where
   abbrev op : ℕ → Op
   op = opAt tr
 
@@ -64,18 +73,18 @@ module _ {tr : List Record} (a : Acceptable tr) (w : ℕ) (narrow : w ≤ 1024) 
   pub record Keeping (i : ℕ) (s : Members) : Type 0 where
     pub lasts-are : (c : ℕ) → c < used le (begins op i) → getD (s .lasts) c 0 ≡ getD (lasts le (begins op i)) c 0
     pub lasts-size : length (s .lasts) ≡ 1024
-    pub of-are : s .of ≡ chains-of a w [] (begins op i)
     pub chains-are : s .chains ≡ used le (begins op i)
     pub chains-fit : s .chains ≤ w
+    pub own-is : s .own ≡ getD (chains-of a w [] (begins op i)) asked 0
 
-  pub keeping-start : (ls : List ℕ) → length ls ≡ 1024 → Keeping 0 (record { lasts = ls; of = noChains; chains = 0 })
-  unfolding noChains table
+  pub keeping-start : (ls : List ℕ) → length ls ≡ 1024 → Keeping 0 (record { lasts = ls; chains = 0; own = 0 })
+  unfolding noMarks table
   keeping-start ls h = record {
     lasts-are = λ c l. absurd (omega (arith, l, none));
     lasts-size = h;
-    of-are = rw (begins-zero op) refl;
     chains-are = sym none;
     chains-fit = omega arith;
+    own-is = rw (begins-zero op) (sym (no-marks-at 1024 asked));
   }
     where
       none : used le (begins op 0) ≡ 0
@@ -104,25 +113,25 @@ module _ {tr : List Record} (a : Acceptable tr) (w : ℕ) (narrow : w ≤ 1024) 
         go (begin u) e =
             let b = begun-below a w [] i u h e in
             let f = few a w [] in
-            (omega (arith, b .1, f), omega (arith, k .chains-fit), k .lasts-size, of-size)
-          where
-            of-size : length (s .of) ≡ 1024
-            of-size = omega (arith, ap length (k .of-are), length-append (table (begins op i) (chainOf (traceLinks tr))) (replicate (1024 - begins op i) 0), table-length (begins op i) (chainOf (traceLinks tr)), length-replicate {A = ℕ} (1024 - begins op i) 0, few a w [], begins-mono op i n (omega arith))
+            (omega (arith, b .1, f), omega (arith, k .chains-fit), k .lasts-size)
         go other e = tt
 
     -- row u enters its chain
-    entered : (u : ℕ) → op i ≡ begin u → chain le u < w → Keeping (suc i) (record { lasts = set (s .lasts) (chain le u) u; of = set (s .of) u (chain le u); chains = max (s .chains) (suc (chain le u)) })
+    entered : (u : ℕ) → op i ≡ begin u → chain le u < w → Keeping (suc i) (record { lasts = set (s .lasts) (chain le u) u; chains = max (s .chains) (suc (chain le u)); own = ownChain asked u (chain le u) (s .own) })
     entered u e t =
         let b = begun-below a w [] i u h e in
         let next = begins-suc op i (begin u) e in
         record {
           lasts-are = λ c l. last c l (ℕ-discrete c (chain le u));
           lasts-size = length-set (s .lasts) (chain le u) u ∙ k .lasts-size;
-          of-are = rw (next, k .of-are, b .0) (chains-more a w [] (begins op i) (omega (arith, few a w [], b .0, b .1)));
           chains-are = rw (next, k .chains-are) (ap (λ v. max (used le (begins op i)) (suc (chain le v))) (b .0) ∙ sym (used-suc le (begins op i)));
           chains-fit = omega (arith, k .chains-fit);
+          own-is = rw (next, k .own-is, b .0) (own-entry asked (begins op i) (chain le (begins op i)) (chains-of a w [] (begins op i)) (omega (arith, size, few a w [], b .0, b .1)) ∙ ap (λ of. getD of asked 0) (chains-more a w [] (begins op i) (omega (arith, few a w [], b .0, b .1))));
         }
       where
+        size : length (chains-of a w [] (begins op i)) ≡ 1024
+        size = omega (arith, length-append (table (begins op i) (chainOf (traceLinks tr))) (replicate (1024 - begins op i) 0), table-length (begins op i) (chainOf (traceLinks tr)), length-replicate {A = ℕ} (1024 - begins op i) 0, few a w [], begins-mono op i n (omega arith))
+
         after : begins op (suc i) ≡ suc u
         after = begins-suc op i (begin u) e ∙ ap suc (sym (begun-below a w [] i u h e .0))
 
@@ -141,26 +150,26 @@ module _ {tr : List Record} (a : Acceptable tr) (w : ℕ) (narrow : w ≤ 1024) 
       turned u e = ap (λ m. markedChain m (s .lasts) (s .chains)) (down-same (saidBy ranks tr) op said i _) ∙ found u e
 
       abbrev turnedBy : Members
-      turnedBy = turnMembers ranks tr w i (saidBy ranks tr i) s
+      turnedBy = turnMembers ranks tr asked w i (saidBy ranks tr i) s
 
       pub keeping-next : turnedBy .chains ≤ w → Keeping (suc i) turnedBy
       unfolding turnMembers
       keeping-next l = rw (said i) (go (op i) refl (rw (said i) at l))
         where
-          begun : (u : ℕ) → op i ≡ begin u → (chain le u < w) ⊎ (w ≤ chain le u) → enterChain w u s (chain le u) .chains ≤ w → Keeping (suc i) (enterChain w u s (chain le u))
-          begun u e (inl t) l = rw (enter-room w u s (chain le u) t) (entered u e t)
-          begun u e (inr t) l = absurd (omega (arith, l, ap (λ m. m .chains) (enter-full w u s (chain le u) t)))
+          begun : (u : ℕ) → op i ≡ begin u → (chain le u < w) ⊎ (w ≤ chain le u) → enterChain asked w u s (chain le u) .chains ≤ w → Keeping (suc i) (enterChain asked w u s (chain le u))
+          begun u e (inl t) l = rw (enter-room asked w u s (chain le u) t) (entered u e t)
+          begun u e (inr t) l = absurd (omega (arith, l, ap (λ m. m .chains) (enter-full asked w u s (chain le u) t)))
 
           stays : (o : Op) → op i ≡ o → begins op (suc i) ≡ begins op i → Keeping (suc i) s
           stays o e q = record {
             lasts-are = rw q (k .lasts-are);
             lasts-size = k .lasts-size;
-            of-are = rw q (k .of-are);
             chains-are = rw q (k .chains-are);
             chains-fit = k .chains-fit;
+            own-is = rw q (k .own-is);
           }
 
-          go : (o : Op) → op i ≡ o → turnMembers ranks tr w i o s .chains ≤ w → Keeping (suc i) (turnMembers ranks tr w i o s)
+          go : (o : Op) → op i ≡ o → turnMembers ranks tr asked w i o s .chains ≤ w → Keeping (suc i) (turnMembers ranks tr asked w i o s)
           go (link p u) e l = stays (link p u) e (begins-suc op i (link p u) e)
           go (begin u) e l = rw (turned u e) (begun u e (lt-or-ge (chain le u) w) (rw (turned u e) at l))
           go other e l = stays other e (begins-suc op i other e)
@@ -169,69 +178,69 @@ module _ {tr : List Record} (a : Acceptable tr) (w : ℕ) (narrow : w ≤ 1024) 
       unfolding turnMembers shortRow
       keeping-stop l = go (op i) refl (rw (said i) at l)
         where
-          stops : (u : ℕ) → op i ≡ begin u → (chain le u < w) ⊎ (w ≤ chain le u) → w < enterChain w u s (chain le u) .chains → (needs le w (eventsIn tr) ≢ eventsIn tr) × Short tr w i
-          stops u e (inl t) l = absurd (omega (arith, l, ap (λ m. m .chains) (enter-room w u s (chain le u) t), k .chains-fit))
+          stops : (u : ℕ) → op i ≡ begin u → (chain le u < w) ⊎ (w ≤ chain le u) → w < enterChain asked w u s (chain le u) .chains → (needs le w (eventsIn tr) ≢ eventsIn tr) × Short tr w i
+          stops u e (inl t) l = absurd (omega (arith, l, ap (λ m. m .chains) (enter-room asked w u s (chain le u) t), k .chains-fit))
           stops u e (inr t) l =
               let b = begun-below a w [] i u h e in
               let v = events-are a w [] in
               let q : needs le w (eventsIn tr) ≡ u = needs-at le w (eventsIn tr) u (omega (arith, b .1, v)) (omega (arith, k .chains-are, k .chains-fit, ap (used le) (b .0))) t in
               (λ z. omega (arith, q, z, b .1, v), record { place = rw q (sym (begin-position a w [] i u h e)); inside = h })
 
-          go : (o : Op) → op i ≡ o → w < turnMembers ranks tr w i o s .chains → (needs le w (eventsIn tr) ≢ eventsIn tr) × Short tr w i
+          go : (o : Op) → op i ≡ o → w < turnMembers ranks tr asked w i o s .chains → (needs le w (eventsIn tr) ≢ eventsIn tr) × Short tr w i
           go (link p u) e l = absurd (omega (arith, l, k .chains-fit))
           go (begin u) e l = stops u e (lt-or-ge (chain le u) w) (rw (turned u e) at l)
           go other e l = absurd (omega (arith, l, k .chains-fit))
 
-  pub keeping-end : (s : Members) → Keeping n s → (shortRow tr w ≡ eventsIn tr) × (s .of ≡ chainTable tr)
+  pub keeping-end : (s : Members) → Keeping n s → (shortRow tr w ≡ eventsIn tr) × (s .own ≡ getD (chainTable tr) asked 0)
   unfolding shortRow chainTable
   keeping-end s k =
       let v = events-are a w [] in
-      (needs-none le w (eventsIn tr) .1 (omega (arith, k .chains-are, k .chains-fit, ap (used le) v)), rw (← v) (k .of-are))
+      (needs-none le w (eventsIn tr) .1 (omega (arith, k .chains-are, k .chains-fit, ap (used le) v)), rw (← v) (k .own-is))
 
 -- The loop of the pass, turn by turn.
-are-members : (s : Members) (ls of : List ℕ) (chains : ℕ) → AreMembers s ls of chains → record { lasts = ls; of = of; chains = chains } ≡ s
-are-members s ls of chains e = rw (e .lasts-are, e .of-are, e .chains-are)
+are-members : (s : Members) (ls : List ℕ) (chains own : ℕ) → AreMembers s ls chains own → record { lasts = ls; chains = chains; own = own } ≡ s
+are-members s ls chains own e = rw (e .lasts-are, e .chains-are, e .own-is)
 
-module _ (tr : List Record) (w : ℕ) (ranks : List ℕ) where
-  pub record Going (ls of : List ℕ) (chains i : ℕ) : Type 0 where
+module _ (tr : List Record) (asked w : ℕ) (ranks : List ℕ) where
+  pub record Going (ls : List ℕ) (chains own i : ℕ) : Type 0 where
     pub within : i ≤ length tr
     pub acceptable : Acceptable tr
     pub narrow : w ≤ 1024
     pub ranks-are : ranks ≡ ranksOf tr
-    pub keeping : Keeping acceptable w narrow i (record { lasts = ls; of = of; chains = chains })
+    pub keeping : Keeping acceptable asked w narrow i (record { lasts = ls; chains = chains; own = own })
 
-  pub going-start : (ls of : List ℕ) → ReadyChains tr w ranks ls of → Going ls of 0 0
-  going-start ls of r = record {
+  pub going-start : (ls : List ℕ) → length ls ≡ 1024 → ReadyChains tr w ranks → Going ls 0 0 0
+  going-start ls h r = record {
     within = omega arith;
     acceptable = r .acceptable;
     narrow = r .narrow;
     ranks-are = r .ranks-are;
-    keeping = rw (r .of-clear) (keeping-start (r .acceptable) w (r .narrow) ls (r .lasts-size));
+    keeping = keeping-start (r .acceptable) asked w (r .narrow) ls h;
   }
 
-  module _ {ls of : List ℕ} {chains i : ℕ} (g : Going ls of chains i) where
-    pub going-room : i < length tr → RoomFor (saidBy ranks tr i) (record { lasts = ls; of = of; chains = chains })
-    going-room h = rw (g .ranks-are, ops-are (g .acceptable) i) (keeping-room (g .acceptable) w (g .narrow) i _ h (g .keeping))
+  module _ {ls : List ℕ} {chains own i : ℕ} (g : Going ls chains own i) where
+    pub going-room : i < length tr → RoomFor (saidBy ranks tr i) (record { lasts = ls; chains = chains; own = own })
+    going-room h = rw (g .ranks-are, ops-are (g .acceptable) i) (keeping-room (g .acceptable) asked w (g .narrow) i _ h (g .keeping))
 
-    module _ (h : i < length tr) (ls′ of′ : List ℕ) (next : ℕ)
-        (t : AreMembers (turnMembers ranks tr w i (saidBy ranks tr i) (record { lasts = ls; of = of; chains = chains })) ls′ of′ next) where
-      pub going-next : next ≤ w → Going ls′ of′ next (i + 1)
+    module _ (h : i < length tr) (ls′ : List ℕ) (next own′ : ℕ)
+        (t : AreMembers (turnMembers ranks tr asked w i (saidBy ranks tr i) (record { lasts = ls; chains = chains; own = own })) ls′ next own′) where
+      pub going-next : next ≤ w → Going ls′ next own′ (i + 1)
       going-next l = record {
         within = omega arith;
         acceptable = g .acceptable;
         narrow = g .narrow;
         ranks-are = g .ranks-are;
-        keeping = rw (add-one i, are-members _ ls′ of′ next t) (keeping-next (g .acceptable) w (g .narrow) i _ h (g .keeping) ranks (g .ranks-are) (rw (← t .chains-are) l));
+        keeping = rw (add-one i, are-members _ ls′ next own′ t) (keeping-next (g .acceptable) asked w (g .narrow) i _ h (g .keeping) ranks (g .ranks-are) (rw (← t .chains-are) l));
       }
 
-      pub going-stop : w < next → PassesChains tr w of′ i
+      pub going-stop : w < next → PassesChains tr asked w i own′
       going-stop l =
-          let s = keeping-stop (g .acceptable) w (g .narrow) i _ h (g .keeping) ranks (g .ranks-are) (rw (t .chains-are) at l) in
+          let s = keeping-stop (g .acceptable) asked w (g .narrow) i _ h (g .keeping) ranks (g .ranks-are) (rw (t .chains-are) at l) in
           record { whole = λ e. absurd (s .0 e); short = λ n. s .1 }
 
-    pub going-end : length tr ≤ i → PassesChains tr w of i
+    pub going-end : length tr ≤ i → PassesChains tr asked w i own
     going-end h =
         let l = g .within in
         let e : i ≡ length tr = omega arith in
-        let k = keeping-end (g .acceptable) w (g .narrow) _ (rw e at (g .keeping)) in
+        let k = keeping-end (g .acceptable) asked w (g .narrow) _ (rw e at (g .keeping)) in
         record { whole = λ z. (k .1, e); short = λ n. absurd (n (k .0)) }

@@ -10,14 +10,8 @@ use trace::Refusal;
 ghost use mathlib.Core.Path.{_≡_};
 ghost use Rattle.records.specs.Bytes.{decode};
 ghost use Rattle.trace.specs.Reading.{Acceptable};
-ghost use Rattle.order.specs.Fill.{eventsIn, noChains};
+ghost use Rattle.order.specs.Fill.{eventsIn};
 ghost use Rattle.question.specs.Question.{orderPaper, orderTrace, OrderReply, answered};
-
-fn no_chains() -> [u16; 1024]
-    ensures { λ r. ⌜ r ≡ noChains ⌝ }
-{
-    [0; 1024]
-}
 
 fn answer(yes: bool) -> Answer
     ensures { λ r. ⌜ orderPaper r ≡ answered yes ⌝ }
@@ -61,12 +55,10 @@ pub(crate) fn ask(
     if !has_space(width, events, clocks.len()) {
         return refused(trace::CLOCK_SPACE, Operation(0));
     }
-    let mut lasts = no_chains();
-    let mut of = no_chains();
-    let position = chain_pass(recs, &all, &mut lasts, &mut of, width);
-    if position < access::count(recs) {
-        return refused(trace::CHAINS, Operation((position + 1) as u16));
-    }
     let row = (first - 1) as usize;
-    answer(compare(clocks, width as u16, of[row], first - 1, second - 1))
+    let passed = chain_pass(recs, &all, row, width);
+    if passed.position < access::count(recs) {
+        return refused(trace::CHAINS, Operation((passed.position + 1) as u16));
+    }
+    answer(compare(clocks, width as u16, passed.chain, first - 1, second - 1))
 }

@@ -6,8 +6,15 @@ ghost use mathlib.Core.Path.{_≡_};
 ghost use Prim.Native.Nat.{_≤_, _<_};
 ghost use lib.ListN.{length, set};
 ghost use Rattle.records.specs.Bytes.{decode};
+ghost use Rattle.order.specs.Fill.{noChains};
 ghost use Rattle.question.specs.Marking.{noMarks, marked, markIn, marksIn};
-ghost use Rattle.question.specs.ChainPass.{markedChain, enterChain, saidBy, turnMembers, RoomFor, AreMembers, ReadyChains, PassesChains};
+ghost use Rattle.question.specs.ChainPass.{markedChain, ownChain, enterChain, saidBy, turnMembers, RoomFor, AreMembers, ReadyChains, PassesChains};
+
+fn no_chains() -> [u16; 1024]
+    ensures { λ r. ⌜ r ≡ noChains ⌝ }
+{
+    [0; 1024]
+}
 
 fn no_marks() -> [u8; 1024]
     ensures { λ r. ⌜ r ≡ noMarks 1024 ⌝ }
@@ -87,27 +94,53 @@ fn marked_chain(marks: &[u8], lasts: &[u16], chains: usize) -> usize
     c
 }
 
-// Row u enters chain c: the chains taken after it, or more than the width where none is left for it.
+// The chains taken, more than the width where it has none left, and the chain of the row asked for: 0 before that row enters one.
+struct Taken {
+    chains: usize,
+    own: u16,
+}
+
+// The chain of the row asked for, where row u enters chain c.
+fn own_chain(asked: usize, u: usize, c: usize, own: u16) -> u16
+    requires { ⌜ c < 1024 ⌝ }
+    ensures { λ r. ⌜ r ≡ ownChain asked u c own ⌝ }
+{
+    if u == asked {
+        return c as u16;
+    }
+    own
+}
+
+// Row u enters chain c.
 fn enter_chain(
     lasts: &mut [u16],
-    of: &mut [u16],
-    chains: usize,
+    taken: Taken,
+    asked: usize,
     width: usize,
     u: usize,
     c: usize,
-) -> usize
-    requires { ⌜ (width ≤ 1024) × (u < 1024) × (length (now lasts) ≡ 1024) × (length (now of) ≡ 1024) ⌝ }
-    ensures { λ r. ⌜ AreMembers (enterChain width u (record { lasts = now (lasts .entry); of = now (of .entry); chains = chains }) c) (now (lasts .exit)) (now (of .exit)) r ⌝ }
+) -> Taken
+    requires { ⌜ (width ≤ 1024) × (u < 1024) × (length (now lasts) ≡ 1024) ⌝ }
+    ensures { λ r. ⌜ AreMembers (enterChain asked width u (record { lasts = now (lasts .entry); chains = taken .chains; own = taken .own }) c) (now (lasts .exit)) (r .chains) (r .own) ⌝ }
 {
     if width <= c {
-        return width + 1;
+        return Taken {
+            chains: width + 1,
+            own: taken.own,
+        };
     }
     lasts[c] = u as u16;
-    of[u] = c as u16;
-    if chains <= c {
-        return c + 1;
+    let own = own_chain(asked, u, c, taken.own);
+    if taken.chains <= c {
+        return Taken {
+            chains: c + 1,
+            own: own,
+        };
     }
-    chains
+    Taken {
+        chains: taken.chains,
+        own: own,
+    }
 }
 
 // The record at position i.
@@ -117,48 +150,54 @@ fn turn(
     i: usize,
     marks: &mut [u8],
     lasts: &mut [u16],
-    of: &mut [u16],
-    chains: usize,
+    taken: Taken,
+    asked: usize,
     width: usize,
-) -> usize
-    requires { ⌜ (width ≤ 1024) × (length (now marks) ≡ 1024) × RoomFor (saidBy (now ranks) (decode (now recs)) i) (record { lasts = now lasts; of = now of; chains = chains }) ⌝ }
-    ensures { λ r. ⌜ AreMembers (turnMembers (now (ranks .entry)) (decode (now (recs .entry))) width i (saidBy (now (ranks .entry)) (decode (now (recs .entry))) i) (record { lasts = now (lasts .entry); of = now (of .entry); chains = chains })) (now (lasts .exit)) (now (of .exit)) r ⌝ }
+) -> Taken
+    requires { ⌜ (width ≤ 1024) × (length (now marks) ≡ 1024) × RoomFor (saidBy (now ranks) (decode (now recs)) i) (record { lasts = now lasts; chains = taken .chains; own = taken .own }) ⌝ }
+    ensures { λ r. ⌜ AreMembers (turnMembers (now (ranks .entry)) (decode (now (recs .entry))) asked width i (saidBy (now (ranks .entry)) (decode (now (recs .entry))) i) (record { lasts = now (lasts .entry); chains = taken .chains; own = taken .own })) (now (lasts .exit)) (r .chains) (r .own) ⌝ }
 {
     let said = ordering_at(recs, ranks, i);
     match said {
         Ordering::Begin(row) => {
             let u = row as usize;
             mark_before(recs, ranks, i, u, marks);
-            let c = marked_chain(marks, lasts, chains);
-            enter_chain(lasts, of, chains, width, u, c)
+            let c = marked_chain(marks, lasts, taken.chains);
+            enter_chain(lasts, taken, asked, width, u, c)
         }
-        Ordering::Link(_, _) => chains,
-        Ordering::Nothing => chains,
+        Ordering::Link(_, _) => taken,
+        Ordering::Nothing => taken,
     }
 }
 
-// The chain of each row, into `of`; the position of the begin that needs one chain more than the width has, or the number of records.
-pub(crate) fn chain_pass(
-    recs: &[u8],
-    ranks: &[u16],
-    lasts: &mut [u16],
-    of: &mut [u16],
-    width: usize,
-) -> usize
-    requires { ⌜ ReadyChains (decode (now recs)) width (now ranks) (now lasts) (now of) ⌝ }
-    ensures { λ r. ⌜ PassesChains (decode (now (recs .entry))) width (now (of .exit)) r ⌝ }
+// How far the pass came, the position of the begin that needs one chain more than the width has or the number of records; and the chain of the row asked for.
+pub(crate) struct Passed {
+    pub position: usize,
+    pub chain: u16,
+}
+
+pub(crate) fn chain_pass(recs: &[u8], ranks: &[u16], asked: usize, width: usize) -> Passed
+    requires { ⌜ ReadyChains (decode (now recs)) width (now ranks) ⌝ }
+    ensures { λ r. ⌜ PassesChains (decode (now (recs .entry))) asked width (r .position) (r .chain) ⌝ }
 {
     let n = access::count(recs);
     let mut marks = no_marks();
-    let mut chains = 0;
+    let mut lasts = no_chains();
+    let mut taken = Taken { chains: 0, own: 0 };
     let mut i = 0;
     while i < n {
-        let next = turn(recs, ranks, i, &mut marks, lasts, of, chains, width);
-        if width < next {
-            return i;
+        let next = turn(recs, ranks, i, &mut marks, &mut lasts, taken, asked, width);
+        if width < next.chains {
+            return Passed {
+                position: i,
+                chain: next.own,
+            };
         }
-        chains = next;
+        taken = next;
         i += 1;
     }
-    i
+    Passed {
+        position: i,
+        chain: taken.own,
+    }
 }

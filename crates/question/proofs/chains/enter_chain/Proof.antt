@@ -8,12 +8,12 @@ use borrow.Author.Needs.{needs}
 use Rattle.question.proofs.chains.enter_chain.Statement.{statement}
 use Rattle.question.proofs.chains.enter_chain.Tie as tie
 
-add-result : tie.Need-add-result
-add-result c = search needs
+add-t9 : tie.Need-add-t9
+add-t9 c = search needs
 
 returns : tie.Need-returns
 unfolding enterChain
-returns c = rw (le-leb _ _ (c .if1 .taken)) (record { lasts-are = refl; of-are = refl; chains-are = omega arith })
+returns c = rw (le-leb _ _ (c .if1 .taken)) (record { lasts-are = refl; chains-are = omega arith; own-is = refl })
 
 cast-lasts : tie.Need-cast-lasts
 cast-lasts c = search needs
@@ -24,54 +24,38 @@ mul-lasts c = search needs
 slice-write-lasts : tie.Need-slice-write-lasts
 slice-write-lasts c = search needs
 
-cast-of : tie.Need-cast-of
-cast-of c = search needs
+own-chain-requires : tie.Need-own-chain-requires
+own-chain-requires c κs = search needs
 
-mul-of : tie.Need-mul-of
-mul-of c = search needs
-
-slice-write-of : tie.Need-slice-write-of
-slice-write-of c = search needs
-
-add-result-2 : tie.Need-add-result-2
-add-result-2 c = search needs
+add-t13 : tie.Need-add-t13
+add-t13 c = search needs
 
 same-length : tie.Need-same-length
 same-length c = search needs
 
+returns-2 : tie.Need-returns-2
+unfolding enterChain
+returns-2 c = rw (lt-leb _ _ (c .before .before .before .if1 .left)) (record { lasts-are = refl; chains-are = omega arith; own-is = c .before .before .own-chain .ensures })
+
 same-length-2 : tie.Need-same-length-2
 same-length-2 c = search needs
 
-returns-2 : tie.Need-returns-2
-unfolding enterChain
-returns-2 c = rw (lt-leb _ _ (c .before .if1 .left)) (record { lasts-are = refl; of-are = refl; chains-are = omega arith })
-
-same-length-3 : tie.Need-same-length-3
-same-length-3 c = search needs
-
-same-length-4 : tie.Need-same-length-4
-same-length-4 c = search needs
-
 returns-3 : tie.Need-returns-3
 unfolding enterChain
-returns-3 c = rw (lt-leb _ _ (c .before .if1 .left)) (record { lasts-are = refl; of-are = refl; chains-are = omega arith })
+returns-3 c = rw (lt-leb _ _ (c .before .before .before .if1 .left)) (record { lasts-are = refl; chains-are = omega arith; own-is = c .before .before .own-chain .ensures })
 
 pub enter-chain-spec : {M : Type 1} → statement M
 enter-chain-spec =
     tie.close
     (tie.spec
-    add-result
+    add-t9
     returns
     cast-lasts
     mul-lasts
     slice-write-lasts
-    cast-of
-    mul-of
-    slice-write-of
-    add-result-2
+    own-chain-requires
+    add-t13
     same-length
-    same-length-2
     returns-2
-    same-length-3
-    same-length-4
+    same-length-2
     returns-3)

@@ -23,13 +23,13 @@ mark-before-requires c κs = search needs
 
 marked-chain-requires : tie.Need-marked-chain-requires
 marked-chain-requires c κs =
-    let room = rw (sym (c .before .before .before .before .before .before .before .before .before .ordering-at .ensures) ∙ ap says (c .before .before .before .before .before .before .before .said .given .1)) at (c .before .before .before .before .before .before .before .before .before .before .before .before .before .before .before .pre .2) in
+    let room = rw (sym (c .before .before .before .before .before .before .before .before .before .ordering-at .ensures) ∙ ap says (c .before .before .before .before .before .before .before .said .given .1)) at (c .before .before .before .before .before .before .before .before .before .before .before .before .before .before .pre .2) in
     omega (arith, room .1, room .2)
 
 enter-chain-requires : tie.Need-enter-chain-requires
 enter-chain-requires c κs =
-    let room = rw (sym (c .before .before .before .before .before .before .before .before .before .before .before .before .ordering-at .ensures) ∙ ap says (c .before .before .before .before .before .before .before .before .before .before .said .given .1)) at (c .before .before .before .before .before .before .before .before .before .before .before .before .before .before .before .before .before .before .pre .2) in
-    (c .before .before .before .before .before .before .before .before .before .before .before .before .before .before .before .before .before .before .pre .0, room .0, room .2, room .3)
+    let room = rw (sym (c .before .before .before .before .before .before .before .before .before .before .before .ordering-at .ensures) ∙ ap says (c .before .before .before .before .before .before .before .before .before .said .given .1)) at (c .before .before .before .before .before .before .before .before .before .before .before .before .before .before .before .before .pre .2) in
+    (c .before .before .before .before .before .before .before .before .before .before .before .before .before .before .before .before .pre .0, room .0, room .2)
 
 enum-told : tie.Need-enum-told
 enum-told c = search needs
@@ -43,22 +43,19 @@ same-length c = search needs
 same-length-2 : tie.Need-same-length-2
 same-length-2 c = search needs
 
-same-length-3 : tie.Need-same-length-3
-same-length-3 c = search needs
-
 returns : tie.Need-returns
 unfolding turnMembers
 returns c =
-    let marked = rw (c .before .before .before .before .before .before .before .before .before .before .before .before .before .before .before .before .before .before .before .before .before .before .before .pre .1) at (c .before .before .before .before .before .before .before .before .before .before .before .before .mark-before .ensures) in
-    rw (sym (c .before .before .before .before .before .before .before .before .before .before .before .before .before .before .before .before .before .ordering-at .ensures) ∙ ap says (c .before .before .before .before .before .before .before .before .before .before .before .before .before .before .before .said .given .1), ← marked, ← c .before .before .before .before .before .before .before .marked-chain .ensures) (c .before .before .before .before .enter-chain .ensures)
+    let marked = rw (c .before .before .before .before .before .before .before .before .before .before .before .before .before .before .before .before .before .before .before .pre .1) at (c .before .before .before .before .before .before .before .before .before .mark-before .ensures) in
+    rw (sym (c .before .before .before .before .before .before .before .before .before .before .before .before .before .before .ordering-at .ensures) ∙ ap says (c .before .before .before .before .before .before .before .before .before .before .before .before .said .given .1), ← marked, ← c .before .before .before .before .marked-chain .ensures) (c .before .before .enter-chain .ensures)
 
 returns-2 : tie.Need-returns-2
 unfolding turnMembers
-returns-2 c = rw (sym (c .before .before .ordering-at .ensures) ∙ link-said (c .before .before .ordering-at .result) (c .before .match .keys2) .2) (record { lasts-are = refl; of-are = refl; chains-are = refl })
+returns-2 c = rw (sym (c .before .before .ordering-at .ensures) ∙ link-said (c .before .before .ordering-at .result) (c .before .match .keys2) .2) (record { lasts-are = refl; chains-are = refl; own-is = refl })
 
 returns-3 : tie.Need-returns-3
 unfolding turnMembers
-returns-3 c = rw (sym (c .before .before .ordering-at .ensures) ∙ nothing-said (c .before .before .ordering-at .result) (c .before .match .keys3)) (record { lasts-are = refl; of-are = refl; chains-are = refl })
+returns-3 c = rw (sym (c .before .before .ordering-at .ensures) ∙ nothing-said (c .before .before .ordering-at .result) (c .before .match .keys3)) (record { lasts-are = refl; chains-are = refl; own-is = refl })
 
 pub turn-spec : {M : Type 1} → statement M
 turn-spec =
@@ -74,7 +71,6 @@ turn-spec =
     enum-told-2
     same-length
     same-length-2
-    same-length-3
     returns
     returns-2
     returns-3)

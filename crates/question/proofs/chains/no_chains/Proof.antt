@@ -1,9 +1,9 @@
--- `question::ask::no_chains` meets its contract.
+-- `question::chains::no_chains` meets its contract.
 -- Assumes nothing.
 use Rattle.order.specs.Fill.{noChains}
 use mathlib.Core.Path.{refl}
-use Rattle.question.proofs.ask.no_chains.Statement.{statement}
-use Rattle.question.proofs.ask.no_chains.Tie as tie
+use Rattle.question.proofs.chains.no_chains.Statement.{statement}
+use Rattle.question.proofs.chains.no_chains.Tie as tie
 
 returns : tie.Need-returns
 unfolding noChains
