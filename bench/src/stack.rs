@@ -34,7 +34,7 @@ fn deepest(bed: &mut Bed, side: &dyn Calls, call: &str) -> usize {
 /// The deepest stack of each call over all shapes at 4,096 records.
 pub fn run(side: &dyn Calls) {
     println!("| call | deepest stack, bytes |\n|---|---:|");
-    for call in CALLS {
+    for call in CALLS.iter().chain(&["order"]) {
         let mut most = 0;
         for (shape, _) in SHAPES {
             let mut bed = Bed::new(shape, 4096).unwrap();
