@@ -197,9 +197,9 @@ module _ (tr : List Record) (short : Bool) where
 
 -- The number of b's cell after the access b.
 module _ {tr : List Record} (acc : Acceptable tr) where
-  -- all accesses of the cell, from its start on, happen before b
-  pub number-own : (short : Bool) {b : ℕ} → b < 4096 → Upto tr short (cell tr b) b (eventOf (at tr b)) → Number tr short (cell tr b) (b + 1) (b + 1)
-  number-own short {b} h q =
+  -- its own number, where all accesses of the cell from the start on happen before it
+  number-last : (short : Bool) {b : ℕ} → b < 4096 → ((x : ℕ) → startOf tr short (cell tr b) (suc b) ≤ x → x < b → T (accesses tr (cell tr b) x) → T (happensBefore tr (eventOf (at tr x)) (eventOf (at tr b)))) → Number tr short (cell tr b) (b + 1) (b + 1)
+  number-last short {b} h q =
       let e : suc b - 1 ≡ b = omega arith in
       rw (add-one b) (record {
         some = λ z. omega arith;
@@ -213,25 +213,14 @@ module _ {tr : List Record} (acc : Acceptable tr) where
     where
       go : (x : ℕ) → startOf tr short (cell tr b) (suc b) ≤ x → (x ≡ b) ⊎ (x < b) → T (accesses tr (cell tr b) x) → T (happensBefore tr (eventOf (at tr x)) (eventOf (at tr b)))
       go x l (inl d) t = subst (λ (y : ℕ). T (happensBefore tr (eventOf (at tr y)) (eventOf (at tr b)))) (sym d) (laws acc .le-refl (eventOf (at tr b)))
-      go x l (inr k) t = q .tells x (start-rises tr short (cell tr b) b x l k) k t
+      go x l (inr k) t = q x l k t
+
+  pub number-own : (short : Bool) {b : ℕ} → b < 4096 → Upto tr short (cell tr b) b (eventOf (at tr b)) → Number tr short (cell tr b) (b + 1) (b + 1)
+  number-own short {b} h q = number-last short h (λ x l k t. q .tells x (start-rises tr short (cell tr b) b x l k) k t)
 
   -- a write of the short list is the start itself
   pub number-write : {b : ℕ} → b < 4096 → T (writes tr (cell tr b) b) → Number tr true (cell tr b) (b + 1) (b + 1)
-  number-write {b} h t =
-      let e : suc b - 1 ≡ b = omega arith in
-      rw (add-one b) (record {
-        some = λ z. omega arith;
-        low = λ m. omega arith;
-        none = λ m x l k u. omega arith;
-        upto = λ m z. rw e (record { tells = λ x l k u. go x (near tr k) (rw (start-writes tr (cell tr b) b t) at l) });
-        start = λ m s. absurd (omega arith);
-        end = λ m s. absurd (omega arith);
-        unwritten = λ m s x l k u. omega arith;
-      })
-    where
-      go : (x : ℕ) → (x ≡ b) ⊎ (x < b) → b ≤ x → T (happensBefore tr (eventOf (at tr x)) (eventOf (at tr b)))
-      go x (inl d) l = subst (λ (y : ℕ). T (happensBefore tr (eventOf (at tr y)) (eventOf (at tr b)))) (sym d) (laws acc .le-refl (eventOf (at tr b)))
-      go x (inr k) l = absurd (omega arith)
+  number-write {b} h t = number-last true h (λ x l k u. absurd (omega (arith, l, start-writes tr (cell tr b) b t)))
 
   -- b's event action comes after that of the last access, or there is none
   pub upto-ordered : (short : Bool) {b v : ℕ} → Number tr short (cell tr b) b v → v ≤ 4096 → v ≢ 0 → T (happensBefore tr (eventOf (at tr (v - 1))) (eventOf (at tr b))) → Upto tr short (cell tr b) b (eventOf (at tr b))
@@ -240,20 +229,19 @@ module _ {tr : List Record} (acc : Acceptable tr) where
   pub upto-none : (short : Bool) {b : ℕ} → Number tr short (cell tr b) b 0 → Upto tr short (cell tr b) b (eventOf (at tr b))
   upto-none short w = record { tells = λ x l k u. absurd (w .none (omega arith) x (omega arith) k u) }
 
--- A read leaves the start where it is, and no write after the place from which on there was none.
-module _ (tr : List Record) (b : ℕ) (n : T (writes tr (cell tr b) b) → ⊥) where
-  pub number-start : {v : ℕ} → v ≡ startOf tr true (cell tr b) b → Number tr true (cell tr b) (b + 1) (v + 4097)
-  number-start {v} e =
-      let f : v + 4097 - 4097 ≡ v = omega arith in
-      rw (add-one b) (record {
-        some = λ z. omega arith;
-        low = λ m. absurd (omega arith);
-        none = λ m x l k u. omega arith;
-        upto = λ m z. absurd (omega arith);
-        start = λ m s. f ∙ (e ∙ sym (start-stays tr true (cell tr b) b n));
-        end = λ m s. absurd s;
-        unwritten = λ m s x l k u. s;
-      })
+-- In the short list a read leaves the start where it is.
+pub number-start : (tr : List Record) (b : ℕ) → (T (writes tr (cell tr b) b) → ⊥) → {v : ℕ} → v ≡ startOf tr true (cell tr b) b → Number tr true (cell tr b) (b + 1) (v + 4097)
+number-start tr b n {v} e =
+    let f : v + 4097 - 4097 ≡ v = omega arith in
+    rw (add-one b) (record {
+      some = λ z. omega arith;
+      low = λ m. absurd (omega arith);
+      none = λ m x l k u. omega arith;
+      upto = λ m z. absurd (omega arith);
+      start = λ m s. f ∙ (e ∙ sym (start-stays tr true (cell tr b) b n));
+      end = λ m s. absurd s;
+      unwritten = λ m s x l k u. s;
+    })
 
 -- In the list of all races, where the cell is not written from v on.
 pub number-end : (tr : List Record) {c i v : ℕ} → 0 < i → v ≤ i → ((x : ℕ) → v ≤ x → x < i → T (writes tr c x) → ⊥) → Number tr false c i (v + 4097)
