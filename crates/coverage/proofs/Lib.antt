@@ -13,5 +13,9 @@ pub mod Listed
 pub mod Bound
 pub mod Total
 pub mod Spelled
+pub mod Whole
+pub mod WholeEdges
+pub mod WholeSteps
+pub mod WholeApart
 pub mod Theorems
 pub mod Variants

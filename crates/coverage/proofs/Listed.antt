@@ -1,5 +1,5 @@
 -- What leads to b does so by the races of either list: from an event action that leads to b, and is not at or below ev(b), one of them leads on.
-use Prim.Native.Nat.{ℕ, zero, suc, _+_, _≤_, _<_}
+use Prim.Native.Nat.{ℕ, zero, suc, _≤_, _<_}
 use mathlib.Core.Path.{_≡_}
 use mathlib.Core.Logic.{_⊎_, inl, inr}
 use mathlib.Core.List.{List}
@@ -7,15 +7,16 @@ use native.Mathlib.Omega.{arith}
 use lib.Dec.{T}
 use Rattle.coverage.specs.Below.{Listed}
 use Rattle.coverage.specs.Setting.{Setting, Laws}
-use Rattle.coverage.specs.Race.{before, Race}
+use Rattle.coverage.specs.Race.{Race}
 use Rattle.coverage.specs.Leading.{leads}
-use Rattle.coverage.specs.Neighbours.{Cells, conflicts, writeBetween}
+use Rattle.coverage.specs.Neighbours.{Cells, conflicts}
 use Rattle.coverage.specs.Lists.{allRaces, shortList}
+use Rattle.coverage.specs.Whole.{Whole, Edges}
 use Rattle.coverage.proofs.Tests.{decide}
-use Rattle.coverage.proofs.Order.{before-le, race-not-le}
-use Rattle.coverage.proofs.Leads.{leads-below, leads-race, leads-unfold}
-use Rattle.coverage.proofs.Short.{neighbour-iff, parted, unparted}
-use Rattle.coverage.proofs.Pairs.{in-all, in-short}
+use Rattle.coverage.proofs.Order.{race-after}
+use Rattle.coverage.proofs.Leads.{le-leads, leads-below, leads-race}
+use Rattle.coverage.proofs.Whole.{Ends, whole-ends, leads-ends}
+use Rattle.coverage.proofs.WholeEdges.{all-edges, short-edges}
 
 -- The race (c, d) leads on from u to b.
 pub record On (t : Setting) (b u c d : ℕ) : Type 0 where
@@ -28,52 +29,45 @@ pub record On (t : Setting) (b u c d : ℕ) : Type 0 where
 abbrev pub Enough : Setting → List (ℕ × ℕ) → Type 0
 Enough t ps = (b u : ℕ) → b < t .size → T (leads t b u) → (T (t .le u (t .ev b)) → ⊥) → (c d : ℕ) × Listed c d ps × On t b u c d
 
-module _ (t : Setting) (l : Laws t) where
-  on-next : (b u : ℕ) → b < t .size → T (leads t b u) → (T (t .le u (t .ev b)) → ⊥) → (c d : ℕ) × On t b u c d
-  on-next b u i h n = go (leads-unfold t l b u i .0 h)
-    where
-      go : T (t .le u (t .ev b)) ⊎ ((c d : ℕ) × Race t c d × T (t .le u (t .ev c)) × (d < b) × T (leads t b (t .ev d))) → (c d : ℕ) × On t b u c d
-      go (inl k) = absurd (n k)
-      go (inr (c, d, r, k, m, q)) = (c, d, record { race = r; above = k; below = m; leading = q })
+module _ (t : Setting) (l : Laws t) (ps : List (ℕ × ℕ)) (es : Edges t (λ c d. Listed c d ps)) where
+  abbrev Found : ℕ → ℕ → Type 0
+  Found b u = (c d : ℕ) × Listed c d ps × On t b u c d
 
+  -- down the edges, from one on a way from u to the first of such a way
+  climb : (n b u c d : ℕ) → d < n → Listed c d ps → d < b → T (leads t b (t .ev d)) → Whole t (t .ev c) u → Found b u
+  climb zero b u c d k e m h w = absurd (omega arith)
+  climb (suc n) b u c d k e m h w = go (decide (t .le u (t .ev c))) (climb n b u)
+    where
+      r : Race t c d
+      r = es .race e
+
+      go : T (t .le u (t .ev c)) ⊎ (T (t .le u (t .ev c)) → ⊥) → ((c d : ℕ) → d < n → Listed c d ps → d < b → T (leads t b (t .ev d)) → Whole t (t .ev c) u → Found b u) → Found b u
+      go (inl g) f = (c, d, e, record { race = r; above = g; below = m; leading = h })
+      go (inr z) f = at (whole-ends t w)
+        where
+          at : Ends t (t .size) (t .ev c) u → Found b u
+          at (inl g) = absurd (z g)
+          at (inr (p, q, s, i, g, x)) = on (es .ends s x)
+            where
+              on : T (t .le u (t .ev q)) ⊎ ((v y : ℕ) × Listed v y ps × (y ≤ q) × T (t .le (t .ev y) (t .ev q)) × Whole t (t .ev v) u) → Found b u
+              on (inl j) = absurd (z (l .le-trans _ _ _ j g))
+              on (inr (v, y, a, j, o, x)) = let i' = race-after t l q c d i g r in f v y (omega arith) a (omega arith) (leads-below t l b (t .ev y) (t .ev c) (l .le-trans _ _ _ o g) (leads-race t l b c d r m h)) x
+
+  pub edges-enough : Enough t ps
+  edges-enough b u i h n = go (leads-ends t l b u i .0 h)
+    where
+      go : Ends t b (t .ev b) u → Found b u
+      go (inl k) = absurd (n k)
+      go (inr (c, d, r, m, g, w)) = on (es .ends r w)
+        where
+          on : T (t .le u (t .ev d)) ⊎ ((v y : ℕ) × Listed v y ps × (y ≤ d) × T (t .le (t .ev y) (t .ev d)) × Whole t (t .ev v) u) → Found b u
+          on (inl j) = absurd (n (l .le-trans _ _ _ j g))
+          on (inr (v, y, a, j, o, x)) = climb (suc y) b u v y (omega arith) a (omega arith) (le-leads t l b (t .ev y) (l .le-trans _ _ _ o g)) x
+
+module _ (t : Setting) (l : Laws t) where
   pub all-enough : Enough t (allRaces t)
-  all-enough b u i h n = let (c, d, o) = on-next b u i h n in (c, d, in-all t c d .1 (o .race), o)
+  all-enough = edges-enough t l (allRaces t) (all-edges t l)
 
   module _ (s : Cells) (means : (a b : ℕ) → t .conf a b ≡ conflicts s a b) where
-    -- Of the pairs that a write w between c and d makes with them, one is a race that leads on as (c, d) does.
-    module _ {b u c d : ℕ} (o : On t b u c d) (w : ℕ) (left : c < w) (right : w < d) (cw : T (t .conf c w)) (wd : T (t .conf w d)) where
-      race-left : (T (before t c w) → ⊥) → Race t c w
-      race-left n = record { first = left; inside = omega (arith, o .race .inside); conflict = cw; unordered = n }
-
-      race-right : (T (before t w d) → ⊥) → Race t w d
-      race-right n = record { first = right; inside = o .race .inside; conflict = wd; unordered = n }
-
-      on-left : (T (before t c w) → ⊥) → T (leads t b (t .ev w)) → On t b u c w
-      on-left n q = record { race = race-left n; above = o .above; below = omega (arith, o .below); leading = q }
-
-      between-on : On t b u c w ⊎ On t b u w d
-      between-on = go (decide (before t c w)) (decide (before t w d))
-        where
-          go : T (before t c w) ⊎ (T (before t c w) → ⊥) → T (before t w d) ⊎ (T (before t w d) → ⊥) → On t b u c w ⊎ On t b u w d
-          go (inl x) (inl y) = absurd (race-not-le t l c d (o .race) (l .le-trans _ _ _ (before-le t l c w x) (before-le t l w d y)))
-          go (inl x) (inr n) = inr (record { race = race-right n; above = l .le-trans _ _ _ (o .above) (before-le t l c w x); below = o .below; leading = o .leading })
-          go (inr m) (inl y) = inl (on-left m (leads-below t l b (t .ev w) (t .ev d) (before-le t l w d y) (o .leading)))
-          go (inr m) (inr n) = inl (on-left m (leads-race t l b w d (race-right n) (o .below) (o .leading)))
-
-    abbrev Found : ℕ → ℕ → Type 0
-    Found b u = (c d : ℕ) × Listed c d (shortList t s) × On t b u c d
-
-    narrow : {b u : ℕ} (k c d : ℕ) → d ≤ c + k → On t b u c d → Found b u
-    narrow zero c d h o = absurd (omega (arith, o .race .first))
-    narrow {b} {u} (suc k) c d h o = go (decide (writeBetween s c d)) (narrow k)
-      where
-        go : T (writeBetween s c d) ⊎ (T (writeBetween s c d) → ⊥) → ((x y : ℕ) → y ≤ x + k → On t b u x y → Found b u) → Found b u
-        go (inr n) ih = (c, d, in-short t s c d .1 (neighbour-iff s c d .0 (unparted t l s means c d (o .race) n), o .race), o)
-        go (inl f) ih = let (w, left, right, cw, wd) = parted t l s means c d (o .race) f in part w left right (between-on o w left right cw wd)
-          where
-            part : (w : ℕ) → c < w → w < d → On t b u c w ⊎ On t b u w d → Found b u
-            part w left right (inl p) = ih c w (omega arith) p
-            part w left right (inr p) = ih w d (omega arith) p
-
     pub short-enough : Enough t (shortList t s)
-    short-enough b u i h n = let (c, d, o) = on-next b u i h n in narrow d c d (omega arith) o
+    short-enough = edges-enough t l (shortList t s) (short-edges t l s means)

@@ -6,4 +6,5 @@ pub mod Arrangement
 pub mod Leading
 pub mod Neighbours
 pub mod Lists
+pub mod Whole
 pub mod Demand

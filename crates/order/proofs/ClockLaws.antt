@@ -1,38 +1,20 @@
 -- A clock entry counts the members of a chain that happen before, so comparing two entries decides happens-before. Assumes nothing.
-use Prim.Native.Nat.{ℕ, suc, _+_, _≤_, _<_, max}
-use mathlib.Core.Path.{_≡_, refl, sym, _∙_, ap, ap₂}
+use Prim.Native.Nat.{ℕ, suc, _+_, _≤_, _<_}
+use mathlib.Core.Path.{_≡_, sym, _∙_}
 use mathlib.Core.Logic.{_≢_, _⊎_, inl, inr, _↔_}
 use mathlib.Core.Bool.{Bool, _&&_}
-use mathlib.Core.List.{List, [], _∷_, List·Memᴰ·head, List·Memᴰ·tail}
 use native.Mathlib.Omega.{arith}
 use lib.Dec.{T, eqb, eqb→eq, leb→le, le→leb}
 use lib.ListN.{getD}
 use Rattle.order.specs.Links.{Links, Forward, _∈_, _⊢_≼_, same, step, leq}
 use Rattle.order.specs.Chains.{first, bit, count, lasts, used, members}
 use Rattle.order.specs.Clocks.{largest, chainOf, entry, merged, compare}
-use Rattle.coverage.proofs.Tests.{both, and, decide, decide-eq, eq→eqb, same as equal-tests}
-use Rattle.order.proofs.Tests.{decide-lt, smaller}
-use Rattle.order.proofs.AlongLaws.{Local, along-law}
-use Rattle.order.proofs.OrderLaws.{≼-refl, ≼-trans, ≼-last, ≼-forward, ≼→leq, leq→≼, leq-trans}
-use Rattle.order.proofs.CountLaws.{first-one, first-first, count-yes, count-le, count-mono, count-less, count-none, Last, count-last}
+use Rattle.order.specs.Sets.{row, index, entryBy, Family}
+use Rattle.coverage.proofs.Tests.{both, and, decide, decide-eq, eq→eqb}
+use Rattle.order.proofs.SetLaws.{family-decides, own-entry, entry-by, clock-by, merged-by}
+use Rattle.order.proofs.OrderLaws.{≼-trans, ≼-last, ≼→leq, leq→≼, leq-refl, leq-trans, leq-forward}
+use Rattle.order.proofs.CountLaws.{first-one, first-first, count-le, count-mono, count-less, count-none}
 use Rattle.order.proofs.ChainLaws.{chain-first, chain-ordered, chain-below, LastMember, lasts-last, members-count}
-
--- the largest value in a list
-
-pub largest-in : (ps : List ℕ) (f : ℕ → ℕ) (p : ℕ) → p ∈ ps → f p ≤ largest ps f
-unfolding largest
-largest-in (x ∷ ps) f p (List·Memᴰ·head e) = let i : f p ≡ f x = ap f e in omega arith
-largest-in (x ∷ ps) f p (List·Memᴰ·tail m) = omega (arith, largest-in ps f p m)
-
-pub largest-le : (ps : List ℕ) (f : ℕ → ℕ) (b : ℕ) → ((p : ℕ) → p ∈ ps → f p ≤ b) → largest ps f ≤ b
-unfolding largest
-largest-le [] f b h = omega arith
-largest-le (x ∷ ps) f b h = omega (arith, h x (List·Memᴰ·head refl), largest-le ps f b (λ p m. h p (List·Memᴰ·tail m)))
-
-pub largest-local : (ps : List ℕ) (r s : ℕ → ℕ) → ((p : ℕ) → p ∈ ps → r p ≡ s p) → largest ps r ≡ largest ps s
-unfolding largest
-largest-local [] r s e = refl
-largest-local (x ∷ ps) r s e = ap₂ max (e x (List·Memᴰ·head refl)) (largest-local ps r s (λ p m. e p (List·Memᴰ·tail m)))
 
 module _ (l : Links) where
   -- t is a member of chain c and happens before u
@@ -44,14 +26,6 @@ module _ (l : Links) where
   full u c = eqb (merged l u c) (members (leq l) u c)
 
 module _ (l : Links) (fw : Forward l) where
-  -- "the largest of the direct predecessors' rows, entry by entry, with 1 added at its own chain"
-  pub entry-law : (u c : ℕ) → entry l u c ≡ largest (l .preds u) (λ p. entry l p c) + bit (eqb (chainOf l u) c)
-  unfolding entry
-  entry-law u c = along-law l fw 0 (λ v r. largest (l .preds v) r + bit (eqb (chainOf l v) c)) local u
-    where
-      local : Local l (λ v r. largest (l .preds v) r + bit (eqb (chainOf l v) c))
-      local v r s e = ap (λ x. x + bit (eqb (chainOf l v) c)) (largest-local (l .preds v) r s e)
-
   -- the members of one chain are ordered as they begin
   pub chain-≼ : (t u : ℕ) → t ≤ u → chainOf l t ≡ chainOf l u → l ⊢ t ≼ u
   chain-≼ t u h e = go (decide-eq t u)
@@ -66,63 +40,41 @@ module _ (l : Links) (fw : Forward l) where
   is-below : (u c t : ℕ) → chainOf l t ≡ c → l ⊢ t ≼ u → T (below l u c t)
   is-below u c t e h = and (eqb (chainOf l t) c) (leq l t u) (eq→eqb (chainOf l t) c e) (≼→leq l fw h)
 
-  -- where the members below u are below v
-  below-mono :
-      (u v c n k : ℕ) →
-      ((s : ℕ) → s < n → chainOf l s ≡ c → l ⊢ s ≼ u → (s < k) × (l ⊢ s ≼ v)) →
-      count (below l u c) n ≤ count (below l v c) k
-  below-mono u v c n k f = count-mono (below l u c) (below l v c) n k (λ s h b.
-      let d = of-below u c s b in
-      let r = f s h (d .0) (d .1) in
-      (r .0, is-below v c s (d .0) (r .1)))
+  -- what happens before each event action: the sets of which its rows are
+  abbrev up-to : ℕ → ℕ → Bool
+  up-to u t = leq l t u
 
-  abbrev Counts : ℕ → Type 0
-  Counts u = (c : ℕ) → entry l u c ≡ count (below l u c) (suc u)
+  happened : (m : ℕ) → Family m (chainOf l) up-to
+  happened m = record {
+    self = λ u i. leq-refl l fw u;
+    ahead = λ u t i j h. leq-forward l fw t u h;
+    initial = λ u i s t a b e h. leq-trans l fw s t u (≼→leq l fw (chain-≼ s t a e)) h;
+  }
 
-  -- the entries of direct predecessors count members below u
-  merged-le : (u c : ℕ) → ((p : ℕ) → p < u → Counts p) → merged l u c ≤ count (below l u c) u
-  merged-le u c f = largest-le (l .preds u) (λ p. entry l p c) (count (below l u c) u) each
+  by-link : (u t : ℕ) → T (up-to u t) ↔ ((t ≡ u) ⊎ ((p : ℕ) × (p ∈ l .preds u) × T (up-to p t)))
+  by-link u t = (λ h. there (≼-last l t u .0 (leq→≼ l fw t u h)), back)
     where
-      each : (p : ℕ) → p ∈ l .preds u → entry l p c ≤ count (below l u c) u
-      each p m = rw (f p (fw u p m) c) (below-mono p u c (suc p) u (λ s h e k. (omega (arith, fw u p m), step k m)))
+      there : (t ≡ u) ⊎ ((p : ℕ) × (l ⊢ t ≼ p) × (p ∈ l .preds u)) → (t ≡ u) ⊎ ((p : ℕ) × (p ∈ l .preds u) × T (up-to p t))
+      there (inl e) = inl e
+      there (inr (p, h, k)) = inr (p, k, ≼→leq l fw h)
 
-  -- and the last member below u is below one of them, with all members before it
-  le-merged : (u c : ℕ) → ((p : ℕ) → p < u → Counts p) → count (below l u c) u ≤ merged l u c
-  le-merged u c f = go (count-last (below l u c) u)
-    where
-      at : (t : ℕ) → t < u → chainOf l t ≡ c → (t ≡ u) ⊎ ((p : ℕ) × (l ⊢ t ≼ p) × (p ∈ l .preds u)) → count (below l u c) (suc t) ≤ merged l u c
-      at t h e (inl i) = absurd (omega arith)
-      at t h e (inr (p, k, m)) =
-          let all = below-mono u p c (suc t) (suc p) (λ s a b d.
-          (omega (arith, ≼-forward l fw k), ≼-trans l (chain-≼ s t (omega arith) (b ∙ sym e)) k)) in
-          omega (arith, all, f p (fw u p m) c, largest-in (l .preds u) (λ q. entry l q c) p m)
+      back : (t ≡ u) ⊎ ((p : ℕ) × (p ∈ l .preds u) × T (up-to p t)) → T (up-to u t)
+      back (inl e) = ≼→leq l fw (same e)
+      back (inr (p, k, h)) = ≼→leq l fw (step (leq→≼ l fw t p h) k)
 
-      go : Last (below l u c) u → count (below l u c) u ≤ merged l u c
-      go (inl e) = omega arith
-      go (inr (t, h, k, e)) = let d = of-below u c t k in omega (arith, e, at t h (d .0) (≼-last l t u .0 (d .1)))
-
-  own : (u c : ℕ) → below l u c u ≡ eqb (chainOf l u) c
-  own u c = equal-tests (below l u c u) (eqb (chainOf l u) c) there back
-    where
-      there : T (below l u c u) → T (eqb (chainOf l u) c)
-      there h = eq→eqb (chainOf l u) c (of-below u c u h .0)
-
-      back : T (eqb (chainOf l u) c) → T (below l u c u)
-      back h = is-below u c u (eqb→eq (chainOf l u) c h) (≼-refl l u)
-
-  counts : (u : ℕ) → ((p : ℕ) → p < u → Counts p) → Counts u
-  unfolding count
-  counts u f c =
-      let h = merged-le u c f in
-      let k = le-merged u c f in
-      rw (entry-law u c, own u c) (omega arith)
+  -- "the largest of the direct predecessors' rows, entry by entry, with 1 added at its own chain"
+  pub entry-law : (u c : ℕ) → entry l u c ≡ largest (l .preds u) (λ p. entry l p c) + bit (eqb (chainOf l u) c)
+  unfolding entry entryBy
+  entry-law u c = entry-by (chainOf l) l fw u c
 
   -- The clock theorem: an entry is the number of members of the chain that happen before.
   pub clock : (u c : ℕ) → entry l u c ≡ count (below l u c) (suc u)
-  clock = smaller Counts counts
+  unfolding entry entryBy row
+  clock u c = clock-by (suc u) (chainOf l) up-to (happened (suc u)) l fw (λ v t i j. by-link v t) u (omega arith) c
 
   pub merged-count : (u c : ℕ) → merged l u c ≡ count (below l u c) u
-  merged-count u c = omega (arith, merged-le u c (λ p h. clock p), le-merged u c (λ p h. clock p))
+  unfolding entry entryBy row
+  merged-count u c = merged-by (suc u) (chainOf l) up-to (happened (suc u)) l fw (λ v t i j. by-link v t) u (omega arith) c
 
   pub entry-zero : (u c : ℕ) → used (leq l) (suc u) ≤ c → entry l u c ≡ 0
   entry-zero u c h = clock u c ∙ count-none (below l u c) (suc u) none
@@ -135,24 +87,14 @@ module _ (l : Links) (fw : Forward l) where
 
   -- comparing t's entry at t's chain in both rows decides happens-before, for any two event actions
   pub entry-decides : (t u : ℕ) → (entry l t (chainOf l t) ≤ entry l u (chainOf l t)) ↔ (l ⊢ t ≼ u)
-  entry-decides t u = (λ h. go h (decide (leq l t u)), up)
+  unfolding row
+  entry-decides t u = rw (clock t (chainOf l t), clock u (chainOf l t), own) (λ h. leq→≼ l fw t u (r .1 h), λ h. r .0 (≼→leq l fw h))
     where
-      c : ℕ
-      c = chainOf l t
+      own : count (below l t (chainOf l t)) (suc t) ≡ index (chainOf l) t
+      own = own-entry (suc t) (chainOf l) up-to (happened (suc t)) t (omega arith)
 
-      go : entry l t c ≤ entry l u c → T (leq l t u) ⊎ (T (leq l t u) → ⊥) → l ⊢ t ≼ u
-      go h (inl i) = leq→≼ l fw t u i
-      go h (inr n) = absurd (omega (arith, clock t c, clock u c, count-yes (below l t c) t (is-below t c t refl (≼-refl l t)), fewer))
-        where
-          early : (s : ℕ) → chainOf l s ≡ c → l ⊢ s ≼ u → (s < t) ⊎ (t ≤ s) → s < t
-          early s e i (inl h) = h
-          early s e i (inr h) = absurd (n (≼→leq l fw (≼-trans l (chain-≼ t s h (sym e)) i)))
-
-          fewer : count (below l u c) (suc u) ≤ count (below l t c) t
-          fewer = below-mono u t c (suc u) t (λ s a e i. let k = early s e i (decide-lt s t) in (k, chain-≼ s t (omega arith) e))
-
-      up : l ⊢ t ≼ u → entry l t c ≤ entry l u c
-      up h = omega (arith, clock t c, clock u c, below-mono t u c (suc t) (suc u) (λ s a e k. (omega (arith, ≼-forward l fw h), ≼-trans l k h)))
+      r : T (up-to u t) ↔ (index (chainOf l) t ≤ count (below l u (chainOf l t)) (suc u))
+      r = family-decides (suc (t + u)) (chainOf l) up-to (happened (suc (t + u))) u t (omega arith) (omega arith)
 
   pub compare-decides : (t u : ℕ) → T (compare l t u) ↔ (l ⊢ t ≼ u)
   unfolding compare

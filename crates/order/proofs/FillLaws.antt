@@ -17,7 +17,8 @@ use Rattle.coverage.proofs.Tests.{decide-eq}
 use Rattle.order.proofs.Tests.{decide-lt}
 use Rattle.order.proofs.ScheduleLaws.{begins-suc, linked-suc, begins-mono, linked-exact, begin-next, link-between, link-after}
 use Rattle.order.proofs.ChainLaws.{used-zero, used-suc, used-mono, used-le-self, members-zero, members-suc, members-le, needs-at, needs-none}
-use Rattle.order.proofs.ClockLaws.{largest-in, largest-le, entry-law, entry-zero, entry-le, chain-merged}
+use Rattle.order.proofs.SetLaws.{largest-in, largest-le}
+use Rattle.order.proofs.ClockLaws.{entry-law, entry-zero, entry-le, chain-merged}
 
 -- the largest value depends on the members of the list alone
 largest-same : (ps qs : List ℕ) (f : ℕ → ℕ) → ((p : ℕ) → p ∈ ps → p ∈ qs) → ((p : ℕ) → p ∈ qs → p ∈ ps) → largest ps f ≡ largest qs f

@@ -5,6 +5,9 @@ pub mod AlongLaws
 -- Happens-before; chains; the clock theorem; flat clocks; what is said of them all
 pub mod OrderLaws
 pub mod ChainLaws
+pub mod SetLaws
+pub mod CoverRows
+pub mod RaisingLaws
 pub mod ClockLaws
 pub mod RowLaws
 pub mod Theorems

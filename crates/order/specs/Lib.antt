@@ -1,6 +1,9 @@
 pub mod Links
 pub mod Chains
 pub mod Clocks
+pub mod Sets
+pub mod Numbering
+pub mod Raising
 pub mod Schedule
 pub mod Filling
 pub mod HappensBefore

@@ -1,4 +1,5 @@
 pub mod Instance
+pub mod CoverNumbers
 pub mod NoteLaws
 pub mod LeadingLaws
 pub mod PassLaws
