@@ -3,7 +3,7 @@
 use crate::random::Chance;
 use crate::trace::*;
 
-pub const SHAPES: [(&str, &str); 7] = [
+pub const SHAPES: [(&str, &str); 13] = [
     ("sparse", "forked chains, many cells, few races"),
     ("dense", "forked chains, four cells, many races"),
     ("unordered", "all event actions unordered, each writes one cell twice"),
@@ -11,6 +11,12 @@ pub const SHAPES: [(&str, &str); 7] = [
     ("relay", "each event action takes over from the one before by a race: covers as long as the trace"),
     ("mesh", "each event action reads what all before it wrote: covers of every length"),
     ("ordered", "one chain of forks, no race"),
+    ("star", "one event action starts all others, each writes one cell twice"),
+    ("comb", "a chain of forks, each member starts a side event action that races with the others"),
+    ("rounds", "rounds of sixteen event actions, each waits for two of the round before, four cells"),
+    ("tree", "a binary tree of forks, each writes a cell of eight"),
+    ("grid", "readers of many cells, then a writer of each cell"),
+    ("gather", "many roots, one waits for them all, the rest wait for that one"),
 ];
 
 /// Builds the records of one event action after another.
@@ -68,6 +74,62 @@ pub fn records(shape: &str, n: usize) -> Option<Vec<Record>> {
             }
         },
         "ordered" => while d.act(&[], &[(WRITE, 1), (READ, 2), (WRITE, 3), (FORK, d.event + 2)]) {},
+        "star" => {
+            let m = ((n - 3) / 5).min(NAMES - 1) as u16;
+            let steps: Vec<(u8, u16)> = (2..m + 2).map(|v| (FORK, v)).collect();
+            d.act(&[], &steps);
+            while d.act(&[], &[(WRITE, 1), (WRITE, 1)]) {}
+        }
+        "comb" => {
+            while {
+                let e = d.event + 1;
+                d.act(&[], &[(FORK, e + 1), (FORK, e + 2), (READ, 3)])
+                    && d.act(&[], &[(WRITE, 1 + e % 7), (READ, 1 + (e / 2) % 5)])
+            } {}
+        }
+        "rounds" => {
+            let mut chance = Chance::new(7);
+            loop {
+                let e = d.event;
+                let joins: Vec<u16> =
+                    if e < 16 { vec![] } else { (0..2).map(|_| (e / 16 * 16 - 15) + chance.below(16) as u16).collect() };
+                let steps: Vec<(u8, u16)> =
+                    (0..3).map(|_| (if chance.percent(60) { READ } else { WRITE }, 1 + chance.below(4) as u16)).collect();
+                if !d.act(&joins, &steps) {
+                    break;
+                }
+            }
+        }
+        "tree" => {
+            while {
+                let e = d.event + 1;
+                let mut steps = vec![(WRITE, 1 + e % 8)];
+                if 2 * e < NAMES as u16 {
+                    steps.extend([(FORK, 2 * e), (FORK, 2 * e + 1)]);
+                }
+                d.act(&[], &steps)
+            } {}
+        }
+        "grid" => {
+            let cells = (n / 100).max(1) as u16;
+            let steps: Vec<(u8, u16)> = (1..=cells).map(|x| (READ, x)).collect();
+            d.limit -= 3 * cells as usize;
+            while d.act(&[], &steps) {}
+            d.limit += 3 * cells as usize;
+            for x in 1..=cells {
+                d.act(&[], &[(WRITE, x)]);
+            }
+        }
+        "gather" => {
+            let roots = (n / 12) as u16;
+            for _ in 0..roots {
+                d.act(&[], &[(WRITE, 1)]);
+            }
+            let joins: Vec<u16> = (1..=roots).collect();
+            d.act(&joins, &[(WRITE, 2)]);
+            let hub = d.event;
+            while d.act(&[hub], &[(WRITE, 2)]) {}
+        }
         _ => return None,
     }
     Some(d.records)

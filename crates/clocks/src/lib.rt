@@ -1,7 +1,10 @@
-// The lent clocks: whether they have space for the rows, and the comparison of two rows by which order is told.
+// The lent clocks: whether they have space for the rows, the comparison of two rows by which order is told, and merging and clearing rows.
 ghost use mathlib.Core.Path.{_≡_};
-ghost use lib.ListN.{getD};
-ghost use Rattle.clocks.specs.Rows.{spaceFor, compareIn};
+ghost use mathlib.Core.Bool.{_&&_};
+ghost use Prim.Native.Nat.{_<_, max};
+ghost use lib.Dec.{ltb};
+ghost use lib.ListN.{length, getD, set, replicate};
+ghost use Rattle.clocks.specs.Rows.{spaceFor, compareIn, hasRow, reach, mergeRow, clearRow, clearRows};
 
 // Whether the width is in range and that many rows fit the clock space.
 pub fn has_space(width: usize, events: usize, space: usize) -> bool
@@ -32,4 +35,110 @@ pub fn compare(clocks: &[u16], width: u16, c: u16, t: u16, u: u16) -> bool
     let first = entry_at(clocks, (t as usize) * (width as usize) + (c as usize));
     let second = entry_at(clocks, (u as usize) * (width as usize) + (c as usize));
     first <= second
+}
+
+fn larger(x: u16, y: u16) -> u16
+    ensures { λ r. ⌜ r ≡ max x y ⌝ }
+{
+    if x < y {
+        return y;
+    }
+    x
+}
+
+// One entry of a row becomes at least the value.
+fn raise(row: &mut [u16], c: usize, value: u16)
+    requires { do ⌜ c < (← ⟦row.len()⟧) ⌝ }
+    ensures { λ r. ⌜ now (row .exit) ≡ set (now (row .entry)) c (max (getD (now (row .entry)) c 0) value) ⌝ }
+{
+    row[c] = larger(row[c], value);
+}
+
+// Does row u stand in the clocks?
+fn has_row(space: usize, width: usize, u: u16) -> bool
+    ensures { λ r. ⌜ r ≡ hasRow space width u ⌝ }
+{
+    if width > 1024 {
+        return false;
+    }
+    (u as usize) * width + width <= space
+}
+
+// Do rows p and u stand in the clocks, p before u?
+fn fits(space: usize, width: usize, p: u16, u: u16) -> bool
+    ensures { λ r. ⌜ r ≡ (ltb p u && hasRow space width u) ⌝ }
+{
+    if u <= p {
+        return false;
+    }
+    has_row(space, width, u)
+}
+
+// How many entries of row p are gone through where that many chains are taken: no row has more chains than begins up to its own, and every row
+// is 0 past its chains, so a multiple of sixteen where the width allows it.
+fn reach(width: usize, chains: usize, p: u16) -> usize
+    ensures { λ r. ⌜ r ≡ reach width chains p ⌝ }
+{
+    let mut entries = chains;
+    if (p as usize) < chains {
+        entries = (p as usize) + 1;
+    }
+    let whole = (entries + 15) / 16 * 16;
+    if whole < width {
+        return whole;
+    }
+    width
+}
+
+// Row p is merged into row u; no other part is written.
+pub fn merge_row(clocks: &mut [u16], width: usize, chains: usize, p: u16, u: u16)
+    ensures { λ r. ⌜ now (clocks .exit) ≡ mergeRow width chains p u (now (clocks .entry)) ⌝ }
+{
+    if !fits(clocks.len(), width, p, u) {
+        return;
+    }
+    let a = (u as usize) * width;
+    let e = a + width;
+    let b = (p as usize) * width;
+    let entries = reach(width, chains, p);
+    let mut c = 0;
+    while c < entries {
+        let value = clocks[b + c];
+        raise(&mut clocks[a..e], c, value);
+        c += 1;
+    }
+}
+
+fn clear(row: &mut [u16])
+    ensures { λ r. ⌜ now (row .exit) ≡ replicate (length (now (row .entry))) 0 ⌝ }
+{
+    let n = row.len();
+    let mut i = 0;
+    while i < n {
+        row[i] = 0;
+        i += 1;
+    }
+}
+
+// Zeros in row u.
+fn clear_row(clocks: &mut [u16], width: usize, u: u16)
+    ensures { λ r. ⌜ now (clocks .exit) ≡ clearRow width u (now (clocks .entry)) ⌝ }
+{
+    if !has_row(clocks.len(), width, u) {
+        return;
+    }
+    let a = (u as usize) * width;
+    let e = a + width;
+    clear(&mut clocks[a..e]);
+}
+
+// Zeros in the first rows.
+pub fn clear_rows(clocks: &mut [u16], width: usize, rows: u16)
+    ensures { λ r. ⌜ now (clocks .exit) ≡ clearRows width rows (now (clocks .entry)) ⌝ }
+{
+    let mut u = 0;
+    while u < rows {
+        clear_row(clocks, width, u);
+        u += 1;
+    }
 }

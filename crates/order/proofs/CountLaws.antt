@@ -1,6 +1,6 @@
 -- The first number that passes a test, and how many pass. Assumes nothing.
 use Prim.Native.Nat.{ℕ, zero, suc, _+_, _-_, _≤_, _<_}
-use mathlib.Core.Path.{_≡_, refl, sym, ap, subst}
+use mathlib.Core.Path.{_≡_, refl, sym, ap, _∙_, subst}
 use mathlib.Core.Logic.{_⊎_, inl, inr, _↔_, Iff·rfl}
 use mathlib.Core.Bool.{Bool, true, false, cond}
 use native.Mathlib.Omega.{arith}
@@ -80,6 +80,15 @@ module _ (q : ℕ → Bool) (i n : ℕ) where
   pub first-over : n ≤ i → firstFrom q i (n - i) ≡ i
   unfolding firstFrom
   first-over h = let k : n - i ≡ 0 = omega arith in rw k
+
+-- past k numbers that do not pass
+pub first-past : (q : ℕ → Bool) (n k i : ℕ) → i + k ≤ n → ((j : ℕ) → j < k → q (i + j) ≡ false) → firstFrom q i (n - i) ≡ firstFrom q (i + k) (n - (i + k))
+first-past q n zero i h f = let e : i + 0 ≡ i = omega arith in rw e
+first-past q n (suc k) i h f =
+    let a : i + 0 ≡ i = omega arith in
+    let e : i + suc k ≡ (i + 1) + k = omega arith in
+    first-miss q i n (omega arith) (rw a at (f 0 (omega arith)))
+    ∙ rw e (first-past q n k (i + 1) (omega arith) (λ j g. let s : (i + 1) + j ≡ i + suc j = omega arith in rw s (f (suc j) (omega arith))))
 
 -- counting
 

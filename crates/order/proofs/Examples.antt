@@ -1,5 +1,5 @@
 -- Trace T: three event actions, of which the first starts the other two; and T where the second also starts the third.
--- The direct definitions and the pass over the records give the same. Assumes nothing.
+-- The direct definitions and the walk along the links give their rows. Assumes nothing.
 use Prim.Native.Nat.{ℕ}
 use mathlib.Core.Path.{_≡_, refl}
 use mathlib.Core.List.{List, [], _∷_}
@@ -10,7 +10,8 @@ use Rattle.order.specs.Chains.{firstFrom, pick, put, lasts, chain, used,
 use Rattle.order.specs.Clocks.{largest, table, flat, entry, clocksOf}
 use Rattle.ranks.specs.Said.{Op, link, begin, other}
 use Rattle.order.specs.Schedule.{begins, linked, linksOf, Ordered}
-use Rattle.order.specs.Filling.{start, choose, merge, enter, next, after}
+use Rattle.order.specs.Walk.{walk}
+use Rattle.clocks.specs.Rows.{hasRow, reach, mergeAt, mergeFrom, mergeRow}
 use Rattle.order.proofs.ScheduleLaws.{ordered-zero, ordered-suc}
 
 -- the direct predecessors of the second and the third
@@ -44,9 +45,10 @@ one-chain = refl
 abbrev pub records : ℕ → Op
 records i = getD (begin 0 ∷ link 0 1 ∷ link 0 2 ∷ other ∷ begin 1 ∷ other ∷ other ∷ other ∷ begin 2 ∷ []) i other
 
-rows-pass : flat 2 3 (after records 9 .rows) ≡ 1 ∷ 0 ∷ 2 ∷ 0 ∷ 1 ∷ 1 ∷ []
-unfolding flat table after start next merge enter choose firstFrom
-rows-pass = refl
+-- once the first has begun, the walk merges its row into the other two, and stops at the second begin
+merged-on : walk records 2 1 8 1 (1 ∷ 0 ∷ 0 ∷ 0 ∷ 0 ∷ 0 ∷ []) (0 ∷ 0 ∷ 0 ∷ []) ≡ record { position = 4; clocks = 1 ∷ 0 ∷ 1 ∷ 0 ∷ 1 ∷ 0 ∷ []; linked = 0 ∷ 1 ∷ 1 ∷ [] }
+unfolding walk mergeRow mergeFrom mergeAt reach hasRow
+merged-on = refl
 
 rows-links : clocksOf (linksOf records 9) 2 3 ≡ 1 ∷ 0 ∷ 2 ∷ 0 ∷ 1 ∷ 1 ∷ []
 unfolding clocksOf flat table entry largest chain lasts pick put leq some along within linked

@@ -1,7 +1,7 @@
 -- How filling an accepted trace ends, from how the pass ended.
 -- Assumes nothing.
 use Prim.Native.Nat.{ℕ, _+_, _*_, _≤_, _<_}
-use mathlib.Core.Path.{_≡_, refl, sym, ap, _∙_, subst}
+use mathlib.Core.Path.{_≡_, sym, ap, _∙_}
 use mathlib.Core.Bool.{true}
 use mathlib.Core.List.{List, _++_}
 use mathlib.Core.Logic.{_≢_}
@@ -12,23 +12,30 @@ use lib.ListN.{length, drop, replicate}
 use Rattle.records.specs.declared.Record.{Record}
 use Rattle.trace.specs.Reading.{Acceptable}
 use Rattle.ranks.specs.Ranks.{ranksOf}
-use Rattle.clocks.specs.Rows.{spaceFor}
-use Rattle.order.specs.Fill.{eventsIn, beginPosition, shortRow, chainsUsed, chainTable, traceClocks, noChains, FillReply, refused, filled, demand, fillTrace, clocksAfterTrace, chainsAfterReply}
+use Rattle.clocks.specs.Rows.{spaceFor, clearRows}
+use Rattle.clocks.proofs.RowLaws.{clear-rows-fit}
+use Rattle.order.specs.Fill.{eventsIn, shortRow, traceClocks, noChains, refused, filled, demand, fillTrace, clocksAfterTrace, chainsAfterReply}
 use Rattle.order.specs.declared.Filling.{Filling}
 use Rattle.order.specs.Paper.{fillPaper, FillsTrace}
-use Rattle.order.specs.PassEnds.{Ready, Whole, Short, Passes}
+use Rattle.order.specs.PassEnds.{Ready, Passes}
 use Rattle.order.proofs.SpaceLaws.{cleared, cleared-drop, cleared-length, has-room}
 
 module _ (tr : List Record) (a : Acceptable tr) (events width : ℕ) (ee : events ≡ eventsIn tr) (cs cs₁ : List ℕ)
-    (space : spaceFor width events (length cs) ≡ true) (c₁ : cs₁ ≡ replicate (events * width) 0 ++ drop (events * width) cs) where
+    (space : spaceFor width events (length cs) ≡ true) (d₁ : cs₁ ≡ clearRows width events cs) where
   fits : events * width ≤ length cs
   fits = has-room width events (length cs) space .fits
+
+  narrow : width ≤ 1024
+  narrow = has-room width events (length cs) space .narrow
+
+  c₁ : cs₁ ≡ replicate (events * width) 0 ++ drop (events * width) cs
+  c₁ = d₁ ∙ clear-rows-fit width cs events narrow fits
 
   pub ready : (ranks sizes of : List ℕ) → ranks ≡ ranksOf tr → sizes ≡ noChains → of ≡ noChains → Ready tr width ranks cs₁ sizes of
   ready ranks sizes of r s o = record {
     acceptable = a;
     ranks-are = r;
-    narrow = has-room width events (length cs) space .narrow;
+    narrow = narrow;
     room = rw (← ee) (omega (arith, cleared-length (events * width) cs cs₁ fits c₁, fits));
     clear = rw (← ee) (cleared (events * width) cs cs₁ fits c₁);
     sizes-clear = s;
@@ -55,13 +62,15 @@ module _ (tr : List Record) (a : Acceptable tr) (events width : ℕ) (ee : event
       unfolding fillTrace demand
       short-reply = rw (space, ne-eqb (shortRow tr width) events none, ← p .short (not-whole h) .place)
 
-      short-clocks : (cs₃ : List ℕ) → cs₃ ≡ replicate (events * width) 0 ++ drop (events * width) cs₂ → cs₃ ≡ clocksAfterTrace tr events width cs
+      short-clocks : (cs₃ : List ℕ) → length cs₂ ≡ length cs₁ → cs₃ ≡ clearRows width events cs₂ → cs₃ ≡ clocksAfterTrace tr events width cs
       unfolding clocksAfterTrace
-      short-clocks cs₃ e = rw (space, ne-eqb (shortRow tr width) events none) (e ∙ ap (λ r. replicate (events * width) 0 ++ r) rest-of)
+      short-clocks cs₃ l e =
+          let k = cleared-length (events * width) cs cs₁ fits c₁ in
+          rw (space, ne-eqb (shortRow tr width) events none) (e ∙ (clear-rows-fit width cs₂ events narrow (omega (arith, fits)) ∙ ap (λ r. replicate (events * width) 0 ++ r) rest-of))
 
-      pub ends-short : (cs₃ of₃ all : List ℕ) → cs₃ ≡ replicate (events * width) 0 ++ drop (events * width) cs₂ → of₃ ≡ noChains → all ≡ ranksOf tr → (r : Filling) → fillPaper r ≡ refused 23 (position + 1) → FillsTrace tr events width cs cs₃ r of₃ all
+      pub ends-short : (cs₃ of₃ all : List ℕ) → length cs₂ ≡ length cs₁ → cs₃ ≡ clearRows width events cs₂ → of₃ ≡ noChains → all ≡ ranksOf tr → (r : Filling) → fillPaper r ≡ refused 23 (position + 1) → FillsTrace tr events width cs cs₃ r of₃ all
       unfolding chainsAfterReply
-      ends-short cs₃ of₃ all e o k r q = record { answer = q ∙ sym short-reply; clocks-after = short-clocks cs₃ e; chains-after = rw short-reply o; ranks-after = k }
+      ends-short cs₃ of₃ all l e o k r q = record { answer = q ∙ sym short-reply; clocks-after = short-clocks cs₃ l e; chains-after = rw short-reply o; ranks-after = k }
 
     -- the rows are filled
     module _ (h : length tr ≤ position) where

@@ -1,23 +1,45 @@
--- Merging and adding in flat clocks is what the pass does to the rows. Assumes nothing.
+-- Merging and adding in flat clocks, over any rows. Assumes nothing.
 use Prim.Native.Nat.{ℕ, zero, suc, _+_, _*_, _-_, _≤_, _<_, max}
 use mathlib.Core.Path.{_≡_, refl, sym, _∙_, ap, ap₂}
 use mathlib.Core.Logic.{_≢_, _⊎_, inl, inr}
 use mathlib.Core.Bool.{cond, _&&_, and-false}
 use mathlib.Core.List.{List, _++_}
 use native.Mathlib.Omega.{arith}
+use native.Mathlib.Nat.{mul-le-mul-right, suc-mul}
 use lib.Dec.{eqb}
-use lib.ListN.{length, getD, set, length-set, List·getD-append}
-use lib.Seq.{set-append-left}
+use lib.ListN.{length, getD, set, take, drop, length-append, length-take, length-drop, List·getD-append}
+use lib.Seq.{set-append-left, getD-take, getD-drop}
 use borrow.Author.Tests.{eq-eqb, ne-eqb}
-use Rattle.order.specs.Links.{Links, Forward}
-use Rattle.order.specs.Clocks.{flat, entry, clocksOf}
-use Rattle.ranks.specs.Said.{Op}
-use Rattle.order.specs.Schedule.{begins, Ordered, Makes}
-use Rattle.order.specs.Filling.{State, merge, enter, after, mergeAt, mergeFrom, mergeRow, tick}
+use Rattle.order.specs.Chains.{bit, firstFrom}
+use Rattle.order.specs.Clocks.{flat}
+use Rattle.clocks.specs.Rows.{reach, mergeAt, mergeFrom, mergeRow}
+use Rattle.clocks.proofs.RowLaws.{reach-le, reach-past, merge-row-fits, stored}
+use borrow.Rule.Slice.PartMut.{putMid}
+use Rattle.order.specs.Pass.{tick, fullAt, chooseIn, NoneFull}
 use Rattle.coverage.proofs.Tests.{decide-eq}
 use Rattle.order.proofs.Tests.{decide-lt}
+use Rattle.order.proofs.CountLaws.{first-past, first-over}
 use Rattle.order.proofs.RowLaws.{SameBut, same-but, flat-length, flat-at, flat-same, flat-set, place}
-use Rattle.order.proofs.FillLaws.{merge-other, merge-own, enter-other, enter-own, filled-rows}
+
+-- row p merged into row u
+abbrev pub mergeInto : (ℕ → ℕ → ℕ) → ℕ → ℕ → ℕ → ℕ → ℕ
+mergeInto r p u v c = cond (eqb v u) (max (r v c) (r p c)) (r v c)
+
+pub into-own : (r : ℕ → ℕ → ℕ) (p u c : ℕ) → mergeInto r p u u c ≡ max (r u c) (r p c)
+into-own r p u c = rw (eq-eqb u u refl)
+
+pub into-other : (r : ℕ → ℕ → ℕ) (p u v c : ℕ) → v ≢ u → mergeInto r p u v c ≡ r v c
+into-other r p u v c n = rw (ne-eqb v u n)
+
+-- 1 added at entry c of row u
+abbrev pub addAt : (ℕ → ℕ → ℕ) → ℕ → ℕ → ℕ → ℕ → ℕ
+addAt r u c v d = r v d + bit (eqb v u && eqb c d)
+
+pub add-own : (r : ℕ → ℕ → ℕ) (u c d : ℕ) → addAt r u c u d ≡ r u d + bit (eqb c d)
+add-own r u c d = rw (eq-eqb u u refl)
+
+pub add-other : (r : ℕ → ℕ → ℕ) (u c v d : ℕ) → v ≢ u → addAt r u c v d ≡ r v d
+add-other r u c v d n = rw (ne-eqb v u n) (omega arith)
 
 -- entry c of row u set to the larger of it and the entry of row p
 abbrev edit : (ℕ → ℕ → ℕ) → ℕ → ℕ → ℕ → ℕ → ℕ → ℕ
@@ -31,23 +53,6 @@ edit-row r p u c v d n = rw (ne-eqb v u n)
 
 edit-column : (r : ℕ → ℕ → ℕ) (p u c v d : ℕ) → d ≢ c → edit r p u c v d ≡ r v d
 edit-column r p u c v d n = rw (ne-eqb d c n, and-false (eqb v u))
-
--- merging as a loop makes it, from entry c up to entry k
-module _ (w p u c : ℕ) (cs : List ℕ) where
-  pub merge-length : length (mergeAt w p u c cs) ≡ length cs
-  unfolding mergeAt
-  merge-length = length-set cs (u * w + c) (max (getD cs (u * w + c) 0) (getD cs (p * w + c) 0))
-
-  pub merge-next : (k : ℕ) → c < k → mergeFrom w p u c (k - c) cs ≡ mergeFrom w p u (c + 1) (k - (c + 1)) (mergeAt w p u c cs)
-  unfolding mergeFrom
-  merge-next k h =
-      let i : k - c ≡ suc (k - suc c) = omega arith in
-      let j : c + 1 ≡ suc c = omega arith in
-      rw (i, j)
-
-  pub merge-over : (k : ℕ) → k ≤ c → mergeFrom w p u c (k - c) cs ≡ cs
-  unfolding mergeFrom
-  merge-over k h = let i : k - c ≡ 0 = omega arith in rw i
 
 module _ (w m : ℕ) (rest : List ℕ) where
   pub flat-read : (r : ℕ → ℕ → ℕ) (u c : ℕ) → u < m → c < w → getD (flat w m r ++ rest) (u * w + c) 0 ≡ r u c
@@ -85,42 +90,55 @@ module _ (w m : ℕ) (rest : List ℕ) where
 
   -- row p is 0 past the k entries, so there is nothing more to merge
   merge-from :
-      (p u : ℕ) → p < m → u < m → p ≢ u → (k c : ℕ) (r s : ℕ → ℕ → ℕ) → c + k ≤ w → ((d : ℕ) → c + k ≤ d → r p d ≡ 0) → Merges p u c r s →
+      (p u : ℕ) → p < m → u < m → p ≢ u → (k c : ℕ) (r s : ℕ → ℕ → ℕ) → c + k ≤ w → ((d : ℕ) → c + k ≤ d → d < w → r p d ≡ 0) → Merges p u c r s →
       mergeFrom w p u c k (flat w m r ++ rest) ≡ flat w m s ++ rest
   unfolding mergeFrom
-  merge-from p u h i n zero c r s e z f = ap (λ cs. cs ++ rest) (flat-same w m r s (λ v d a b. same v d (decide-eq v u) (decide-lt d c)))
+  merge-from p u h i n zero c r s e z f = ap (λ cs. cs ++ rest) (flat-same w m r s (λ v d a b. same v d b (decide-eq v u) (decide-lt d c)))
     where
-      same : (v d : ℕ) → (v ≡ u) ⊎ (v ≢ u) → (d < c) ⊎ (c ≤ d) → r v d ≡ s v d
-      same v d (inl j) (inl b) = rw j (sym (f .off d b))
-      same v d (inl j) (inr b) = rw j (omega (arith, f .on d b, z d (omega arith)))
-      same v d (inr j) b = sym (f .else v d j)
+      same : (v d : ℕ) → d < w → (v ≡ u) ⊎ (v ≢ u) → (d < c) ⊎ (c ≤ d) → r v d ≡ s v d
+      same v d l (inl j) (inl b) = rw j (sym (f .off d b))
+      same v d l (inl j) (inr b) = rw j (omega (arith, f .on d b, z d (omega arith) l))
+      same v d l (inr j) b = sym (f .else v d j)
   merge-from p u h i n (suc k) c r s e z f =
       rw (merge-at r p u c h i (omega arith))
-      (merge-from p u h i n k (suc c) (edit r p u c) s (omega arith) (λ d g. edit-row r p u c p d n ∙ z d (omega arith)) (merges-next p u c r s n f))
+      (merge-from p u h i n k (suc c) (edit r p u c) s (omega arith) (λ d g l. edit-row r p u c p d n ∙ z d (omega arith) l) (merges-next p u c r s n f))
 
-  pub merge-row :
-      (s : State) (k p u : ℕ) → k ≤ w → ((c : ℕ) → k ≤ c → s .rows p c ≡ 0) → p < m → u < m → p ≢ u →
-      mergeRow w k p u (flat w m (s .rows) ++ rest) ≡ flat w m (merge s p u .rows) ++ rest
-  merge-row s k p u g z h i n = merge-from p u h i n k 0 (s .rows) (merge s p u .rows) (omega arith) (λ d a. z d (omega arith)) (record {
-    on = λ d a. merge-own s p u d;
-    off = λ d a. absurd (omega arith);
-    else = λ v d a. merge-other s p u v d a;
-  })
+  -- row p is 0 where no chain is taken and past its own number
+  pub merged-row :
+      (r : ℕ → ℕ → ℕ) (chains p u : ℕ) → w ≤ 1024 → p < u → u < m → ((c : ℕ) → c < w → (chains ≤ c) ⊎ (p < c) → r p c ≡ 0) →
+      mergeRow w chains p u (flat w m r ++ rest) ≡ flat w m (mergeInto r p u) ++ rest
+  merged-row r chains p u g h i z =
+      merge-row-fits w chains p u (flat w m r ++ rest) h g (omega (arith, flat-length w m r, length-append (flat w m r) rest, mul-le-mul-right w i, suc-mul u w))
+      ∙ merge-from p u (omega arith) i (omega arith) (reach w chains p) 0 r (mergeInto r p u) (omega (arith, reach-le w chains p)) (λ d a b. z d b (reach-past w chains p d b (omega arith))) (record {
+        on = λ d a. into-own r p u d;
+        off = λ d a. absurd (omega arith);
+        else = λ v d a. into-other r p u v d a;
+      })
 
-  pub tick-row : (s : State) (u c : ℕ) → u < m → c < w → tick w u c (flat w m (s .rows) ++ rest) ≡ flat w m (enter s u c .rows) ++ rest
+  pub ticked-row : (r : ℕ → ℕ → ℕ) (u c : ℕ) → u < m → c < w → tick w u c (flat w m r ++ rest) ≡ flat w m (addAt r u c) ++ rest
   unfolding tick
-  tick-row s u c h k =
-      let more : s .rows u c + 1 ≡ enter s u c .rows u c = sym (enter-own s u c c ∙ rw (eq-eqb c c refl)) in
-      rw (flat-read (s .rows) u c h k, more) (flat-store (s .rows) (enter s u c .rows) u c h k but)
+  ticked-row r u c h k =
+      let more : r u c + 1 ≡ addAt r u c u c = sym (add-own r u c c ∙ rw (eq-eqb c c refl)) in
+      rw (flat-read r u c h k, more) (flat-store r (addAt r u c) u c h k but)
     where
-      but : SameBut u c (s .rows) (enter s u c .rows)
-      but = same-but u c (s .rows) (enter s u c .rows) (enter-other s u c) (λ d n. enter-own s u c d ∙ rw (ne-eqb c d (λ f. n (sym f))) (omega arith))
+      but : SameBut u c r (addAt r u c)
+      but = same-but u c r (addAt r u c) (add-other r u c) (λ d n. add-own r u c d ∙ rw (ne-eqb c d (λ f. n (sym f))) (omega arith))
 
--- so the pass leaves the clocks of all that have begun
-module _ (l : Links) (fw : Forward l) (op : ℕ → Op) (n : ℕ) (o : Ordered op n) (makes : Makes op n l) where
-  pub pass-clocks : (w : ℕ) → flat w (begins op n) (after op n .rows) ≡ clocksOf l w (begins op n)
-  unfolding clocksOf
-  pass-clocks w = flat-same w (begins op n) (after op n .rows) (entry l) (filled-rows-at)
-    where
-      filled-rows-at : (u c : ℕ) → u < begins op n → c < w → after op n .rows u c ≡ entry l u c
-      filled-rows-at u c h k = filled-rows l fw op n o makes u c h
+-- in the part of row u
+pub part-entry : (w u c : ℕ) (xs : List ℕ) → u * w + w ≤ length xs → c < w → (c < length (take (u * w + w - u * w) (drop (u * w) xs))) × (getD (take (u * w + w - u * w) (drop (u * w) xs)) c 0 ≡ getD xs (u * w + c) 0)
+part-entry w u c xs h k = (simp (length-take, length-drop) (omega arith), rw (getD-take (u * w + w - u * w) (drop (u * w) xs) c 0 (omega arith), getD-drop (u * w) xs c 0))
+
+pub ticked-part : (w u c : ℕ) (xs ys : List ℕ) → u * w + w ≤ length xs → c < w → ys ≡ set (take (u * w + w - u * w) (drop (u * w) xs)) c (getD (take (u * w + w - u * w) (drop (u * w) xs)) c 0 + 1) → putMid (u * w) (u * w + w - u * w) xs ys ≡ tick w u c xs
+unfolding tick
+ticked-part w u c xs ys h i e = stored (λ x. x + 1) (u * w) (u * w + w - u * w) c xs ys (omega arith) (omega arith) e
+
+-- where no chain has all its members in the row, a new one is chosen
+pub none-chosen : (w u : ℕ) (cs sizes : List ℕ) (chains : ℕ) → NoneFull (u * w) cs sizes chains → chooseIn w u cs sizes chains ≡ chains
+unfolding chooseIn
+none-chosen w u cs sizes chains f =
+    let q = fullAt (u * w) cs sizes in
+    let e : chains - 0 ≡ chains = omega arith in
+    let z : 0 + chains ≡ chains = omega arith in
+    sym (ap (firstFrom q 0) e)
+    ∙ (first-past q chains chains 0 (omega arith) (λ j h. let k : 0 + j ≡ j = omega arith in rw k (ne-eqb _ _ (f j h)))
+    ∙ rw z (first-over q chains chains (omega arith)))

@@ -13,16 +13,16 @@ pub mod RowLaws
 pub mod Theorems
 -- The records: links and begins; the pass that fills the rows, with functions and with lists
 pub mod ScheduleLaws
-pub mod FillLaws
 pub mod FlatLaws
-pub mod TrackLaws
-pub mod PartLaws
+pub mod WalkLaws
+pub mod FillLaws
 pub mod Examples
 pub mod Cases
 -- Traces: their links, ranks and order
 pub mod TraceOrder
 pub mod TraceLaws
 pub mod RankLaws
+pub mod TraceWalk
 pub mod PassLaws
 pub mod TableLaws
 pub mod ComparedLaws

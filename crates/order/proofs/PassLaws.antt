@@ -1,42 +1,43 @@
 -- The pass over the records keeps the rows of those that have begun, and stops at the begin for which the width has no chain left.
 -- Assumes nothing.
-use Prim.Native.Nat.{ℕ, zero, suc, _+_, _*_, _-_, _<_, _≤_, max}
-use mathlib.Core.Path.{_≡_, refl, sym, ap, _∙_, subst}
-use mathlib.Core.Bool.{Bool, true, false, _&&_}
-use mathlib.Core.List.{List, [], _∷_, _++_, append-assoc}
+use Prim.Native.Nat.{ℕ, suc, _+_, _*_, _-_, _<_, _≤_, max}
+use mathlib.Core.Path.{_≡_, refl, sym, ap, ap₂, _∙_, subst}
+use mathlib.Core.Bool.{_&&_}
+use mathlib.Core.List.{List, [], _∷_, _++_, append-assoc, List·Memᴰ·head}
 use mathlib.Core.Logic.{_≢_, _⊎_, inl, inr}
 use native.Mathlib.Omega.{arith}
 use native.Mathlib.Numerals.{add-one}
 use native.Mathlib.Nat.{mul-le-mul-right, suc-mul}
-use borrow.Author.Tests.{eq-eqb, ne-eqb, le-leb, lt-leb, leb-true, leb-false}
-use lib.Dec.{T, leb, eqb, eqb→eq}
-use lib.ListN.{length, getD, set, drop, replicate, length-append, length-replicate}
-use lib.Seq.{set-at, drop-at}
+use borrow.Author.Tests.{le-leb, lt-leb}
+use lib.Dec.{eqb, eqb→eq}
+use lib.ListN.{length, getD, set, drop, replicate, length-append, length-replicate, length-set, getD-replicate, List·getD-append}
+use lib.Seq.{set-at, drop-at, getD-set-same, getD-set-other, ext-getD, getD-append-add}
 use Rattle.records.specs.declared.Record.{Record}
-use Rattle.records.specs.Records.{at, past, isBegin}
+use Rattle.records.specs.Records.{at, isBegin}
 use Rattle.trace.specs.Reading.{Acceptable}
 use Rattle.trace.proofs.Events.{few-events}
 use Rattle.records.proofs.Positions.{lt-or-ge}
-use Rattle.order.specs.Links.{Links, Forward, leq}
-use Rattle.order.specs.Chains.{used, needs}
-use Rattle.order.specs.Clocks.{table, flat, chainOf, clocksOf}
-use Rattle.order.specs.Schedule.{begins, Ordered, Makes, Stands}
-use Rattle.order.specs.Filling.{State, start, choose, merge, enter, next, after, mergeRow, tick, chooseIn}
-use Rattle.order.specs.Pass.{Rows, enterRow, beginRow, turnRows, RoomToBegin, Room, Are}
-use Rattle.order.specs.PassEnds.{Ready, Whole, Short, Passes}
 use Rattle.ranks.specs.Ranks.{ranksOf}
-use Rattle.ranks.specs.Said.{opOf, Op, link, begin, other}
+use Rattle.ranks.specs.Said.{Op, link, begin}
+use Rattle.order.specs.Links.{Links, Forward, leq}
+use Rattle.order.specs.Clocks.{table, flat, chainOf, entry, merged, clocksOf}
+use Rattle.order.specs.Schedule.{begins, linked}
+use Rattle.order.specs.Walk.{Walked, Walks}
+use Rattle.order.specs.Pass.{tick, chooseIn, Rows, enterRow, beginRow, RoomToBegin, Are}
+use Rattle.order.specs.PassEnds.{Ready, Passes}
 use Rattle.order.specs.HappensBefore.{opAt, traceLinks}
 use Rattle.order.specs.Fill.{eventsIn, beginPosition, shortRow, chainsUsed, chainTable, traceClocks, noChains}
-use Rattle.order.proofs.ScheduleLaws.{begins-zero, begins-suc, begins-mono, begin-next, link-between, links-made}
-use Rattle.order.proofs.RowLaws.{flat-length, table-length}
-use Rattle.order.proofs.FillLaws.{filled, chosen, past-chains, rows-le, sizes-le, short-at, wide-enough}
-use Rattle.order.proofs.FlatLaws.{flat-read}
-use Rattle.order.proofs.TrackLaws.{Tracks, tracks-start, tracks-link, choose-is, tracks-begin, tracks-end}
-use Rattle.order.proofs.TraceOrder.{counted, counted-passes, ops-begins, ops-ordered, op-kind, forward-links, link-target}
-use Rattle.order.proofs.RankLaws.{ops-are}
-use Rattle.coverage.proofs.Tests.{both, and, eq→eqb}
-use Rattle.order.proofs.CountLaws.{first-first, first-only}
+use Rattle.coverage.proofs.Tests.{both, and, eq→eqb, decide-eq}
+use Rattle.order.proofs.CountLaws.{firstFrom-local, first-first, first-only}
+use Rattle.order.proofs.ScheduleLaws.{begins-zero, begins-suc, begins-mono, begin-next, links-made, linked-exact}
+use Rattle.order.proofs.ChainLaws.{members-le, needs-at, needs-none}
+use Rattle.order.proofs.ClockLaws.{chain-merged}
+use Rattle.order.proofs.RowLaws.{flat-length, flat-same, flat-zero, table-length, table-at}
+use Rattle.order.proofs.FlatLaws.{addAt, flat-read, ticked-row}
+use Rattle.order.proofs.WalkLaws.{Along, along-start, Noted, linked-zero, noted-none, noted-zero, noted-begin, Arrives, ZeroPast}
+use Rattle.order.proofs.FillLaws.{Taken, taken-start, taken-more, entry-short, row-merged, filling-begin, unlinked, rows-le}
+use Rattle.order.proofs.TraceOrder.{counted, counted-passes, ops-begins, ops-ordered, op-kind, forward-links, link-target, first-begins}
+use Rattle.order.proofs.TraceWalk.{arrives}
 
 -- a begin for which a chain is left, and one for which none is
 enter-room : (w u : ℕ) (s : Rows) (c : ℕ) → c < w → enterRow w u s c ≡ record { clocks = tick w u c (s .clocks); sizes = set (s .sizes) c (getD (s .sizes) c 0 + 1); of = set (s .of) u c; chains = max (s .chains) (suc c) }
@@ -46,6 +47,10 @@ enter-room w u s c h = rw (lt-leb w c h)
 enter-full : (w u : ℕ) (s : Rows) (c : ℕ) → w ≤ c → enterRow w u s c ≡ record { clocks = s .clocks; sizes = s .sizes; of = s .of; chains = suc w }
 unfolding enterRow
 enter-full w u s c h = rw (le-leb w c h)
+
+-- what the code has is what the definition says
+are-rows : (s : Rows) (clocks sizes of : List ℕ) (chains : ℕ) → Are s clocks sizes of chains → record { clocks = clocks; sizes = sizes; of = of; chains = chains } ≡ s
+are-rows s clocks sizes of chains e = rw (e .clocks-are, e .sizes-are, e .of-are, e .chains-are)
 
 module _ {tr : List Record} (a : Acceptable tr) (w : ℕ) (rest : List ℕ) where
   abbrev op : ℕ → Op
@@ -60,6 +65,9 @@ module _ {tr : List Record} (a : Acceptable tr) (w : ℕ) (rest : List ℕ) wher
   abbrev pub m : ℕ
   m = begins (opAt tr) (length tr)
 
+  fw : Forward (traceLinks tr)
+  fw = forward-links a
+
   pub events-are : m ≡ eventsIn tr
   unfolding eventsIn
   events-are = ops-begins a n (omega arith)
@@ -71,52 +79,6 @@ module _ {tr : List Record} (a : Acceptable tr) (w : ℕ) (rest : List ℕ) wher
   abbrev pub chains-of : ℕ → List ℕ
   chains-of k = table k (chainOf l) ++ replicate (1024 - k) 0
 
-  pub record Passing (i : ℕ) (s : Rows) : Type 0 where
-    pub tracks : Tracks w m rest (after op i) (s .clocks) (s .sizes) (s .chains)
-    pub of-are : s .of ≡ chains-of (begins op i)
-
-  row-fits : (u k : ℕ) → u < m → m * w ≤ k → u * w + w ≤ k
-  row-fits u k h g = omega (arith, mul-le-mul-right w h, suc-mul u w)
-
-  clocks-room : {i : ℕ} {s : Rows} → Passing i s → m * w ≤ length (s .clocks)
-  clocks-room {i} {s} p = omega (arith, ap length (p .tracks .clocks-are), length-append (flat w m (after op i .rows)) rest, flat-length w m (after op i .rows))
-
-  pub begun-below : (i u : ℕ) → i < n → op i ≡ begin u → (u ≡ begins op i) × (u < m)
-  begun-below i u h e =
-      let b = begin-next op n (ops-ordered a) i u h e in
-      (b, omega (arith, begins-suc op i (begin u) e, begins-mono op (suc i) n h))
-
-  -- a link that a record makes ends at an event action that begins
-  link-below : (i p u : ℕ) → i < n → op i ≡ link p u → (p < u) × (u < m)
-  link-below i p u h e =
-      let b = link-between op n (ops-ordered a) i p u h e in
-      (omega arith, link-target a i p u h e)
-
-  pub passing-start : w ≤ 1024 → Passing 0 (record { clocks = replicate (m * w) 0 ++ rest; sizes = noChains; of = noChains; chains = 0 })
-  unfolding noChains after table
-  passing-start h = record { tracks = tracks-start w m rest 1024 h; of-are = rw (begins-zero op) refl }
-
-  -- what the next record asks for is there
-  pub passing-room : (i : ℕ) (s : Rows) → i < n → Passing i s → Room w (op i) s
-  passing-room i s h p = go (op i) refl
-    where
-      go : (o : Op) → op i ≡ o → Room w o s
-      go (link q u) e = let b = link-below i q u h e in (b .0, p .tracks .chains-fit, row-fits u (length (s .clocks)) (b .1) (clocks-room p))
-      go (begin u) e =
-          let b = begun-below i u h e in
-          let t = p .tracks in
-          let o = ops-ordered a in
-          let k = links-made op n in
-          record {
-            row = row-fits u (length (s .clocks)) (b .1) (clocks-room p);
-            chains-fit = t .chains-fit;
-            sizes-room = t .sizes-room;
-            of-room = omega (arith, ap length (p .of-are), length-append (table (begins op i) (chainOf l)) (replicate (1024 - begins op i) 0), table-length (begins op i) (chainOf l), length-replicate {A = ℕ} (1024 - begins op i) 0, few);
-            few-entries = λ c g. omega (arith, ap (λ x. getD x (u * w + c) 0) (t .clocks-are), flat-read w m rest (after op i .rows) u c (b .1) g, rows-le l (forward-links a) op n o k i (omega arith) u c, few);
-            few-members = λ c g. omega (arith, t .sizes-are c g, sizes-le l (forward-links a) op n o k i (omega arith) c, few);
-          }
-      go other e = tt
-
   -- one row more in the list of chains
   pub chains-more : (k : ℕ) → k < 1024 → set (chains-of k) k (chainOf l k) ≡ chains-of (suc k)
   unfolding table
@@ -124,42 +86,10 @@ module _ {tr : List Record} (a : Acceptable tr) (w : ℕ) (rest : List ℕ) wher
       let e : 1024 - k ≡ suc (1024 - suc k) = omega arith in
       rw (e, append-assoc) (set-at (table k (chainOf l)) 0 (replicate (1024 - suc k) 0) (chainOf l k) k (table-length k (chainOf l)))
 
-  chosen-is : (i u : ℕ) (s : Rows) → i < n → op i ≡ begin u → Passing i s → chooseIn w u (s .clocks) (s .sizes) (s .chains) ≡ chainOf l u
-  chosen-is i u s h e p =
-      choose-is w m rest (after op i) (s .clocks) (s .sizes) (s .chains) (p .tracks) u (begun-below i u h e .1)
-      ∙ chosen l (forward-links a) op n (ops-ordered a) (links-made op n) i u h e
-
-  -- the state after the next record
-  after-next : (i : ℕ) (o : Op) → op i ≡ o → after op (suc i) ≡ next (after op i) o
-  unfolding after
-  after-next i o e = ap (next (after op i)) e
-
-  -- the record passes where the chains still fit: so it goes on
-  pub passing-next : (i : ℕ) (s : Rows) → i < n → Passing i s → turnRows w (op i) s .chains ≤ w → Passing (suc i) (turnRows w (op i) s)
-  unfolding turnRows next
-  passing-next i s h p k = go (op i) refl k
-    where
-      begun : (u : ℕ) → op i ≡ begin u → (chainOf l u < w) ⊎ (w ≤ chainOf l u) → enterRow w u s (chainOf l u) .chains ≤ w → Passing (suc i) (enterRow w u s (chainOf l u))
-      begun u e (inr t) k = absurd (omega (arith, ap (λ r. r .chains) (enter-full w u s (chainOf l u) t)))
-      begun u e (inl t) k =
-          let b = begun-below i u h e in
-          let c = chosen l (forward-links a) op n (ops-ordered a) (links-made op n) i u h e in
-          rw (enter-room w u s (chainOf l u) t) (record {
-            tracks = rw (after-next i (begin u) e, c) (tracks-begin w m rest (after op i) (s .clocks) (s .sizes) (s .chains) (p .tracks) u (chainOf l u) (b .1) t);
-            of-are = rw (begins-suc op i (begin u) e, p .of-are, b .0) (chains-more (begins op i) (omega (arith, few)));
-          })
-
-      go : (o : Op) → op i ≡ o → turnRows w o s .chains ≤ w → Passing (suc i) (turnRows w o s)
-      go (link q u) e k =
-          let b = link-below i q u h e in
-          let g = link-between op n (ops-ordered a) i q u h e in
-          let z : (c : ℕ) → after op i .chains ≤ c → after op i .rows q c ≡ 0 = λ c k. past-chains l (forward-links a) op n (ops-ordered a) (links-made op n) i (omega arith) q c (g .0) k in
-          record {
-            tracks = rw (after-next i (link q u) e) (tracks-link w m rest (after op i) (s .clocks) (s .sizes) (s .chains) (p .tracks) q u z (omega arith) (b .1) (λ z. omega (arith, b .0)));
-            of-are = rw (begins-suc op i (link q u) e) (p .of-are);
-          }
-      go (begin u) e k = rw (chosen-is i u s h e p) (begun u e (lt-or-ge (chainOf l u) w) (rw (chosen-is i u s h e p) at k))
-      go other e k = record { tracks = rw (after-next i other e) (p .tracks); of-are = rw (begins-suc op i other e) (p .of-are) }
+  pub begun-below : (i u : ℕ) → i < n → op i ≡ begin u → (u ≡ begins op i) × (u < m)
+  begun-below i u h e =
+      let b = begin-next op n (ops-ordered a) i u h e in
+      (b, omega (arith, begins-suc op i (begin u) e, begins-mono op (suc i) n h))
 
   -- the begin of row u stands at one position
   pub begin-position : (i u : ℕ) → i < n → op i ≡ begin u → beginPosition tr u ≡ i
@@ -179,35 +109,116 @@ module _ {tr : List Record} (a : Acceptable tr) (w : ℕ) (rest : List ℕ) wher
             omega (arith, counted-passes tr j i g (eqb→eq (at tr j .kind) 1 (p .0)), eqb→eq (counted tr j) u (p .1), b .0);
       })
 
-  -- no chain is left for the next record: it is the begin that needs one
-  pub record Stopped (i : ℕ) (s : Rows) : Type 0 where
-    pub unchanged : turnRows w (op i) s .clocks ≡ s .clocks
-    pub row : ℕ
-    pub short : shortRow tr w ≡ row
-    pub below : row < eventsIn tr
-    pub place : beginPosition tr row ≡ i
+  -- After the first i records, up to a begin or the end.
+  pub record Passing (i : ℕ) (s : Rows) : Type 0 where
+    pub rows : ℕ → ℕ → ℕ
+    pub clocks-are : s .clocks ≡ flat w m rows ++ rest
+    pub along : Along op (λ u c. 0) (entry l) i rows
+    pub taken : Taken l w (begins op i) (s .sizes) (s .chains)
+    pub of-size : length (s .of) ≡ 1024
+    pub of-done : (u : ℕ) → u < begins op i → getD (s .of) u 0 ≡ chainOf l u
+    pub of-noted : Noted op i (s .of)
 
-  pub passing-stop : (i : ℕ) (s : Rows) → i < n → Passing i s → w < turnRows w (op i) s .chains → Stopped i s
-  unfolding turnRows shortRow
-  passing-stop i s h p k = go (op i) refl k
-    where
-      stops : (u : ℕ) → op i ≡ begin u → (chainOf l u < w) ⊎ (w ≤ chainOf l u) → w < enterRow w u s (chainOf l u) .chains → Stopped i s
-      stops u e (inl t) k = absurd (omega (arith, ap (λ r. r .chains) (enter-room w u s (chainOf l u) t), p .tracks .chains-fit))
-      stops u e (inr t) k =
-          let f = p .tracks in
-          let c = chosen l (forward-links a) op n (ops-ordered a) (links-made op n) i u h e in
-          record {
-            unchanged = rw (e, chosen-is i u s h e p) (ap (λ r. r .clocks) (enter-full w u s (chainOf l u) t));
-            row = u;
-            short = rw (← events-are) (short-at l (forward-links a) op n (ops-ordered a) (links-made op n) w i u h e (omega (arith, f .chains-are, f .chains-fit)) (omega arith));
-            below = omega (arith, events-are, begun-below i u h e .1);
-            place = begin-position i u h e;
-          }
+  pub passing-start : w ≤ 1024 → Passing 0 (record { clocks = replicate (m * w) 0 ++ rest; sizes = noChains; of = noChains; chains = 0 })
+  unfolding noChains
+  passing-start h =
+      let b = begins-zero op in
+      let k = length-replicate {A = ℕ} 1024 0 in
+      record {
+        rows = λ u c. 0;
+        clocks-are = ap (λ cs. cs ++ rest) (flat-zero w m);
+        along = along-start op (λ u c. 0) (entry l) (λ u c. 0) (λ u c. refl);
+        taken = rw b (taken-start l w 1024 h);
+        of-size = k;
+        of-done = λ u g. absurd (omega arith);
+        of-noted = λ u g q. rw (linked-zero op u, getD-replicate {A = ℕ} 1024 u 0 0 (omega arith));
+      }
 
-      go : (o : Op) → op i ≡ o → w < turnRows w o s .chains → Stopped i s
-      go (link q u) e k = absurd (omega (arith, p .tracks .chains-fit))
-      go (begin u) e k = stops u e (lt-or-ge (chainOf l u) w) (rw (chosen-is i u s h e p) at k)
-      go other e k = absurd (omega (arith, p .tracks .chains-fit))
+  module _ (i : ℕ) (s : Rows) (p : Passing i s) where
+    -- what is past the rows stays
+    pub passing-rest : drop (m * w) (s .clocks) ≡ rest
+    passing-rest = rw (p .clocks-are) (drop-at (flat w m (p .rows)) rest (m * w) (flat-length w m (p .rows)))
+
+    -- the rows past the chains taken are 0
+    pub zero-past : ZeroPast op (entry l) w (s .chains) i
+    zero-past q c g k d = entry-short l fw (begins op i) q c g (rw (p .taken .chains-are) at d)
+
+    -- at a begin
+    module _ (u : ℕ) (h : i < n) (e : op i ≡ begin u) where
+      turn : (u ≡ begins op i) × (u < m)
+      turn = begun-below i u h e
+
+      taken : Taken l w u (s .sizes) (s .chains)
+      taken = rw (turn .0) (p .taken)
+
+      row-is : (c : ℕ) → c < w → getD (s .clocks) (u * w + c) 0 ≡ p .rows u c
+      row-is c k = ap (λ x. getD x (u * w + c) 0) (p .clocks-are) ∙ flat-read w m rest (p .rows) u c (turn .1) k
+
+      merged-is : (c : ℕ) → c < w → getD (s .clocks) (u * w + c) 0 ≡ merged l u c
+      merged-is c k = row-is c k ∙ row-merged l fw op n (ops-ordered a) (links-made op n) i u h e (p .rows) (p .along) c
+
+      -- what it asks for is there
+      pub passing-room : w ≤ 1024 → RoomToBegin w u s
+      passing-room narrow = record {
+        narrow = narrow;
+        room = record { row = fits; chains-fit = taken .chains-fit; sizes-room = taken .sizes-room };
+        of-room = inside;
+        few-entries = λ c g. omega (arith, row-is c g, rows-le l fw op n (ops-ordered a) (links-made op n) i (p .rows) (omega arith) (p .along) u c, few, begins-mono op i n (omega arith));
+        few-members = λ c g. omega (arith, taken .sizes-are c g, members-le (leq l) u c, few, turn .1);
+        unlinked = λ z c g q.
+            let k : c < w = omega (arith, taken .chains-fit) in
+            unlinked l fw op n (ops-ordered a) (links-made op n) i u h e (noted-none op i (s .of) (p .of-noted) u (omega (arith, turn .0)) inside z) c (omega (arith, taken .chains-are))
+            (sym (merged-is c k) ∙ (q ∙ taken .sizes-are c k));
+      }
+        where
+          inside : u < length (s .of)
+          inside = omega (arith, p .of-size, few, turn .1)
+
+          fits : u * w + w ≤ length (s .clocks)
+          fits = omega (arith, ap length (p .clocks-are), length-append (flat w m (p .rows)) rest, flat-length w m (p .rows), mul-le-mul-right w (turn .1), suc-mul u w)
+
+      -- the chain chosen is the chain of the event action
+      pub chosen-is : chooseIn w u (s .clocks) (s .sizes) (s .chains) ≡ chainOf l u
+      unfolding chooseIn
+      chosen-is =
+          firstFrom-local _ _ 0 (s .chains) (λ c g k. let j : c < w = omega (arith, taken .chains-fit) in ap₂ eqb (merged-is c j) (taken .sizes-are c j))
+          ∙ (rw (taken .chains-are) (sym (chain-merged l fw u)))
+
+      -- a chain is left for it
+      pub passing-begin : chainOf l u < w → Passing (suc i) (beginRow w u s)
+      passing-begin t = rw (chosen-is, enter-room w u s (chainOf l u) t) (record {
+        rows = addAt (p .rows) u (chainOf l u);
+        clocks-are = ap (tick w u (chainOf l u)) (p .clocks-are) ∙ ticked-row w m rest (p .rows) u (chainOf l u) (turn .1) t;
+        along = filling-begin l fw op n (ops-ordered a) (links-made op n) i u h e (p .rows) (p .along);
+        taken = rw b (taken-more l w u (s .sizes) (s .chains) taken t);
+        of-size = length-set (s .of) u (chainOf l u) ∙ p .of-size;
+        of-done = λ v k. done v (omega (arith, b)) (decide-eq v u);
+        of-noted = noted-begin op i u (chainOf l u) (s .of) e (omega (arith, b)) (p .of-noted);
+      })
+        where
+          b : begins op (suc i) ≡ suc u
+          b = begins-suc op i (begin u) e ∙ ap suc (sym (turn .0))
+
+          done : (v : ℕ) → v < suc u → (v ≡ u) ⊎ (v ≢ u) → getD (set (s .of) u (chainOf l u)) v 0 ≡ chainOf l v
+          done v k (inl j) = rw j (getD-set-same (s .of) u (chainOf l u) 0 (omega (arith, p .of-size, few, turn .1)))
+          done v k (inr j) = getD-set-other (s .of) u v (chainOf l u) 0 j ∙ p .of-done v (omega (arith, turn .0))
+
+      -- none is left: it is the begin that needs one
+      pub short-is : w ≤ chainOf l u → shortRow tr w ≡ u
+      unfolding shortRow
+      short-is t = rw (← events-are) (needs-at (leq l) w m u (turn .1) (omega (arith, taken .chains-are, taken .chains-fit)) t)
+
+    -- along the links to the next begin
+    pub passing-walk : (r : Walked) → Arrives op n (λ u c. 0) (entry l) w rest i (s .of) r → Passing (r .position) (record { clocks = r .clocks; sizes = s .sizes; of = r .linked; chains = s .chains })
+    passing-walk r g = record {
+      rows = g .rows;
+      clocks-are = g .clocks-are;
+      along = g .along;
+      taken = rw (g .none-begun) (p .taken);
+      of-size = g .same-length ∙ p .of-size;
+      of-done = λ u h. let k : u < begins op i = omega (arith, g .none-begun) in g .kept u k ∙ p .of-done u k;
+      of-noted = g .noted (p .of-noted);
+    }
 
   -- all records are passed
   pub record Completed (s : Rows) : Type 0 where
@@ -217,41 +228,52 @@ module _ {tr : List Record} (a : Acceptable tr) (w : ℕ) (rest : List ℕ) wher
     pub enough : shortRow tr w ≡ eventsIn tr
 
   pub passing-end : (s : Rows) → Passing n s → Completed s
-  unfolding traceClocks chainTable chainsUsed shortRow
-  passing-end s p =
-      let t = p .tracks in
-      let f = filled l (forward-links a) op n (ops-ordered a) (links-made op n) n (omega arith) in
-      record {
-        clocks-are = rw (← events-are) (tracks-end l (forward-links a) op n (ops-ordered a) (links-made op n) w rest (s .clocks) (s .sizes) (s .chains) t);
-        of-are = rw (← events-are) (p .of-are);
-        chains-are = rw (← events-are) (t .chains-are ∙ f .taken);
-        enough = rw (← events-are) (wide-enough l (forward-links a) op n (ops-ordered a) (links-made op n) w (omega (arith, t .chains-are, t .chains-fit)));
-      }
+  unfolding traceClocks clocksOf chainTable chainsUsed shortRow
+  passing-end s p = record {
+    clocks-are = rw (← events-are) (p .clocks-are ∙ ap (λ x. x ++ rest) (flat-same w m (p .rows) (entry l) (λ u c h k. p .along .done u c h)));
+    of-are = rw (← events-are) (ext-getD 0 (s .of) (chains-of m) (p .of-size ∙ sym size) (λ u h. each u (omega (arith, p .of-size)) (lt-or-ge u m)));
+    chains-are = rw (← events-are) (p .taken .chains-are);
+    enough = rw (← events-are) (needs-none (leq l) w m .1 (omega (arith, p .taken .chains-are, p .taken .chains-fit)));
+  }
+    where
+      size : length (chains-of m) ≡ 1024
+      size = omega (arith, length-append (table m (chainOf l)) (replicate (1024 - m) 0), table-length m (chainOf l), length-replicate {A = ℕ} (1024 - m) 0, few)
 
-  -- what is past the rows stays
-  pub passing-rest : (i : ℕ) (s : Rows) → Passing i s → drop (m * w) (s .clocks) ≡ rest
-  passing-rest i s p = rw (p .tracks .clocks-are) (drop-at (flat w m (after op i .rows)) rest (m * w) (flat-length w m (after op i .rows)))
+      -- no link comes to a row past the last
+      no-link : (u : ℕ) → m ≤ u → (ps : List ℕ) → linked op n u ≡ ps → ps ≡ []
+      no-link u h [] e = refl
+      no-link u h (q ∷ ps) e =
+          let r = linked-exact op n q u .0 (rw e (List·Memᴰ·head refl)) in
+          absurd (omega (arith, link-target a (r .0) q u (r .1) (r .2)))
 
--- what the code has is what the definition says
-are-rows : (s : Rows) (clocks sizes of : List ℕ) (chains : ℕ) → Are s clocks sizes of chains → record { clocks = clocks; sizes = sizes; of = of; chains = chains } ≡ s
-are-rows s clocks sizes of chains e = rw (e .clocks-are, e .sizes-are, e .of-are, e .chains-are)
+      each : (u : ℕ) → u < 1024 → (u < m) ⊎ (m ≤ u) → getD (s .of) u 0 ≡ getD (chains-of m) u 0
+      each u h (inl k) = p .of-done u k ∙ sym (List·getD-append (table m (chainOf l)) (replicate (1024 - m) 0) 0 u (omega (arith, table-length m (chainOf l))) ∙ table-at m (chainOf l) u k)
+      each u h (inr k) =
+          let z = noted-zero op n (s .of) (p .of-noted) u k (omega (arith, p .of-size)) (no-link u k (linked op n u) refl) in
+          let t = table-length m (chainOf l) in
+          let x : u ≡ length (table m (chainOf l)) + (u - m) = omega arith in
+          z ∙ sym (ap (λ v. getD (chains-of m) v 0) x ∙ (getD-append-add (table m (chainOf l)) (replicate (1024 - m) 0) (u - m) 0 ∙ getD-replicate {A = ℕ} (1024 - m) (u - m) 0 0 (omega (arith, few))))
 
--- The loop of the pass, turn by turn.
+-- The loop of the pass, event action by event action.
 module _ (tr : List Record) (w : ℕ) (ranks clocks₀ : List ℕ) where
-  pub record Going (clocks sizes of : List ℕ) (chains i : ℕ) : Type 0 where
-    pub within : i ≤ length tr
+  pub record Going (clocks sizes of : List ℕ) (chains u i : ℕ) : Type 0 where
     pub acceptable : Acceptable tr
+    pub narrow : w ≤ 1024
     pub ranks-are : ranks ≡ ranksOf tr
+    pub within : i ≤ length tr
+    pub row-is : u ≡ begins (opAt tr) i
+    pub at-begin : i < length tr → opAt tr i ≡ begin u
     pub passing : Passing acceptable w (drop (eventsIn tr * w) clocks₀) i (record { clocks = clocks; sizes = sizes; of = of; chains = chains })
-    pub size : length clocks ≡ length clocks₀
 
-  pub going-start : (sizes of : List ℕ) → Ready tr w ranks clocks₀ sizes of → Going clocks₀ sizes of 0 0
+  pub going-start : (sizes of : List ℕ) → Ready tr w ranks clocks₀ sizes of → Going clocks₀ sizes of 0 0 0
   going-start sizes of r = record {
-    within = omega arith;
     acceptable = r .acceptable;
+    narrow = r .narrow;
     ranks-are = r .ranks-are;
+    within = omega arith;
+    row-is = sym (begins-zero (opAt tr));
+    at-begin = first-begins (r .acceptable);
     passing = rw (r .sizes-clear, r .of-clear) (subst (λ (c : List ℕ). Passing (r .acceptable) w rest 0 (record { clocks = c; sizes = noChains; of = noChains; chains = 0 })) (sym same) (passing-start (r .acceptable) w rest (r .narrow)));
-    size = refl;
   }
     where
       rest : List ℕ
@@ -260,41 +282,67 @@ module _ (tr : List Record) (w : ℕ) (ranks clocks₀ : List ℕ) where
       same : clocks₀ ≡ replicate (m (r .acceptable) w rest * w) 0 ++ rest
       same = rw (events-are (r .acceptable) w rest) (r .clear)
 
-  module _ {clocks sizes of : List ℕ} {chains i : ℕ} (g : Going clocks sizes of chains i) where
-    rows : Rows
-    rows = record { clocks = clocks; sizes = sizes; of = of; chains = chains }
-
-    said : opOf (λ e. getD ranks e 0) (at tr i) ≡ opAt tr i
-    said = rw (g .ranks-are) (ops-are (g .acceptable) i)
-
-    pub going-room : i < length tr → Room w (opOf (λ e. getD ranks e 0) (at tr i)) (record { clocks = clocks; sizes = sizes; of = of; chains = chains })
-    going-room h = rw said (passing-room (g .acceptable) w _ i _ h (g .passing))
-
+  module _ {clocks sizes of : List ℕ} {chains u i : ℕ} (g : Going clocks sizes of chains u i) where
     rest-stays : drop (eventsIn tr * w) clocks ≡ drop (eventsIn tr * w) clocks₀
     rest-stays = subst (λ (k : ℕ). drop (k * w) clocks ≡ drop (eventsIn tr * w) clocks₀) (events-are (g .acceptable) w []) (passing-rest (g .acceptable) w _ i _ (g .passing))
 
-    module _ (h : i < length tr) (clocks′ sizes′ of′ : List ℕ) (next : ℕ)
-        (t : Are (turnRows w (opOf (λ e. getD ranks e 0) (at tr i)) (record { clocks = clocks; sizes = sizes; of = of; chains = chains })) clocks′ sizes′ of′ next) where
-      turned : record { clocks = clocks′; sizes = sizes′; of = of′; chains = next } ≡ turnRows w (opAt tr i) (record { clocks = clocks; sizes = sizes; of = of; chains = chains })
-      turned = are-rows _ clocks′ sizes′ of′ next t ∙ ap (λ o. turnRows w o (record { clocks = clocks; sizes = sizes; of = of; chains = chains })) said
+    module _ (h : i < length tr) where
+      pub going-row : u < 1024
+      going-row = let b = begun-below (g .acceptable) w [] i u h (g .at-begin h) in omega (arith, few (g .acceptable) w [])
 
-      pub going-next : next ≤ w → length clocks′ ≡ length clocks → Going clocks′ sizes′ of′ next (i + 1)
-      going-next k e = record {
-        within = omega arith;
-        acceptable = g .acceptable;
-        ranks-are = g .ranks-are;
-        passing = rw (add-one i, turned) (passing-next (g .acceptable) w _ i _ h (g .passing) (rw (← turned) k));
-        size = e ∙ g .size;
-      }
+      pub going-room : RoomToBegin w u (record { clocks = clocks; sizes = sizes; of = of; chains = chains })
+      going-room = passing-room (g .acceptable) w _ i _ (g .passing) u h (g .at-begin h) (g .narrow)
 
-      pub going-stop : w < next → Passes tr w clocks₀ clocks′ of′ chains i
-      going-stop k =
-          let s = passing-stop (g .acceptable) w _ i _ h (g .passing) (rw (ap (λ r. r .chains) turned) at k) in
-          record {
-            whole = λ e. absurd (omega (arith, s .short, s .below, e));
-            short = λ n. record { place = rw (s .short) (sym (s .place)); inside = h };
-            rest = rw (ap (λ r. r .clocks) turned, s .unchanged) rest-stays;
-          }
+      module _ (clocks′ sizes′ of′ : List ℕ) (next : ℕ) (t : Are (beginRow w u (record { clocks = clocks; sizes = sizes; of = of; chains = chains })) clocks′ sizes′ of′ next) where
+        abbrev chosen : ℕ
+        chosen = chainOf (traceLinks tr) u
+
+        begun : record { clocks = clocks′; sizes = sizes′; of = of′; chains = next } ≡ enterRow w u (record { clocks = clocks; sizes = sizes; of = of; chains = chains }) chosen
+        begun = are-rows _ clocks′ sizes′ of′ next t ∙ ap (enterRow w u (record { clocks = clocks; sizes = sizes; of = of; chains = chains })) (chosen-is (g .acceptable) w _ i _ (g .passing) u h (g .at-begin h))
+
+        -- a chain was left
+        left : next ≤ w → (chosen < w) ⊎ (w ≤ chosen) → chosen < w
+        left k (inl c) = c
+        left k (inr c) = absurd (omega (arith, ap (λ r. r .chains) (begun ∙ enter-full w u _ chosen c)))
+
+        module _ (k : next ≤ w) (clocks″ of″ : List ℕ) (j : ℕ) (x : Walks tr ranks w next (i + 1) clocks′ of′ clocks″ of″ j) where
+          entered : Passing (g .acceptable) w (drop (eventsIn tr * w) clocks₀) (suc i) (record { clocks = clocks′; sizes = sizes′; of = of′; chains = next })
+          entered = rw (are-rows _ clocks′ sizes′ of′ next t) (passing-begin (g .acceptable) w _ i _ (g .passing) u h (g .at-begin h) (left k (lt-or-ge chosen w)))
+
+          arrived : Arrives (opAt tr) (length tr) (λ u c. 0) (entry (traceLinks tr)) w (drop (eventsIn tr * w) clocks₀) (suc i) of′ (record { position = j; clocks = clocks″; linked = of″ })
+          arrived = arrives (g .acceptable) ranks (g .ranks-are) _ _ w next _ (suc i) (entered .rows) clocks′ of′ clocks″ of″ j (g .narrow) h (entered .clocks-are) (entered .along) (zero-past (g .acceptable) w _ (suc i) _ entered) (rw (add-one i) at x)
+
+          pub going-on : i < j
+          going-on = arrived .later
+
+          pub going-next : Going clocks″ sizes′ of″ next (u + 1) j
+          going-next =
+              let b : begins (opAt tr) (suc i) ≡ u + 1 = begins-suc (opAt tr) i (begin u) (g .at-begin h) ∙ omega (arith, g .row-is) in
+              record {
+                acceptable = g .acceptable;
+                narrow = g .narrow;
+                ranks-are = g .ranks-are;
+                within = arrived .inside;
+                row-is = sym (arrived .none-begun ∙ b);
+                at-begin = λ y. arrived .at-begin y ∙ ap begin b;
+                passing = passing-walk (g .acceptable) w _ (suc i) _ entered _ arrived;
+              }
+
+        -- none was left
+        pub going-stop : w < next → Passes tr w clocks₀ clocks′ of′ chains i
+        going-stop k = stops (lt-or-ge chosen w)
+          where
+            stops : (chosen < w) ⊎ (w ≤ chosen) → Passes tr w clocks₀ clocks′ of′ chains i
+            stops (inl c) = absurd (omega (arith, ap (λ r. r .chains) (begun ∙ enter-room w u _ chosen c), g .passing .taken .chains-fit))
+            stops (inr c) =
+                let s = short-is (g .acceptable) w _ i _ (g .passing) u h (g .at-begin h) c in
+                let b = begun-below (g .acceptable) w [] i u h (g .at-begin h) in
+                let e = events-are (g .acceptable) w [] in
+                record {
+                  whole = λ z. absurd (omega arith);
+                  short = λ z. record { place = sym (ap (beginPosition tr) s ∙ begin-position (g .acceptable) w [] i u h (g .at-begin h)); inside = h };
+                  rest = ap (λ r. drop (eventsIn tr * w) (r .clocks)) (begun ∙ enter-full w u _ chosen c) ∙ rest-stays;
+                }
 
     pub going-end : length tr ≤ i → Passes tr w clocks₀ clocks of chains i
     going-end h =

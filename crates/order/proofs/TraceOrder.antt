@@ -2,28 +2,28 @@
 -- Assumes nothing.
 use Prim.Native.Nat.{ℕ, zero, suc, _+_, _-_, _<_, _≤_}
 use mathlib.Core.Path.{_≡_, refl, sym, ap, _∙_, subst}
-use mathlib.Core.Bool.{Bool, true, false, cond, not, _&&_, _||_, and-eq-true-iff}
-use mathlib.Core.List.{List, [], _∷_}
-use mathlib.Core.Logic.{_≢_, _⊎_, inl, inr, ⊎-elim, _↔_}
+use mathlib.Core.Bool.{cond, not, _&&_}
+use mathlib.Core.List.{List}
+use mathlib.Core.Logic.{_≢_, _⊎_, inl, inr, _↔_}
 use native.Mathlib.Omega.{arith}
 use native.Mathlib.Nat.{not-suc-le-zero, eq-or-lt-of-le, le-of-suc-le-suc, suc-inj}
 use native.Mathlib.Decide.{ℕ-discrete}
-use borrow.Author.Tests.{eq-eqb, ne-eqb, eqb-true, eqb-false}
+use borrow.Author.Tests.{eq-eqb, ne-eqb, eqb-true}
 use lib.Dec.{T, eqb, eqb→eq}
 use lib.ListN.{length}
 use Rattle.records.specs.declared.Record.{Record}
-use Rattle.records.specs.Records.{at, past, isBegin, isEnd, isFork, isJoin, has, begun}
+use Rattle.records.specs.Records.{at, past, isBegin, has, begun}
 use Rattle.records.specs.Records as records
 use Rattle.trace.specs.Reading.{Acceptable}
-use Rattle.records.proofs.Positions.{Found, has-found, has-intro, lt-or-ge, decide, true-not-false}
+use Rattle.records.proofs.Positions.{Found}
 use Rattle.trace.proofs.Blocks.{begins-once, event-begins, join-before-begin, body-after-begin, fork-before-begin, join-after-end}
-use Rattle.order.specs.Links.{Links, Forward, leq, _⊢_≼_, _∈_}
+use Rattle.order.specs.Links.{Forward, leq, _⊢_≼_, _∈_}
 use Rattle.order.specs.Links as links
-use Rattle.order.specs.Schedule.{begins, beginsBy, Stands, Ordered, linksOf}
-use Rattle.coverage.proofs.Tests.{both, and, either, or-left, or-right, eq→eqb}
+use Rattle.order.specs.Schedule.{begins, beginsBy, Stands, Ordered}
+use Rattle.coverage.proofs.Tests.{and, either, or-left, or-right, eq→eqb}
 use Rattle.order.proofs.OrderLaws.{≼→leq, leq→≼}
-use Rattle.order.proofs.ScheduleLaws.{begins-zero, begins-suc, linked-exact, links-made, links-forward}
-use Rattle.ranks.specs.Said.{linkOf, pickOp, opOf, Op, link, begin, other}
+use Rattle.order.proofs.ScheduleLaws.{begins-zero, begins-suc, linked-exact, links-forward}
+use Rattle.ranks.specs.Said.{linkOf, opOf, Op, link, begin, other}
 use Rattle.order.specs.HappensBefore.{Begins, Link, fork, join, HappensBefore, same, step, rankIn, rank, opAt, traceLinks, leqRanks, happensBefore}
 
 module _ (tr : List Record) where
@@ -390,6 +390,15 @@ module _ {tr : List Record} (a : Acceptable tr) where
 
   pub decides : (t u : ℕ) → T (happensBefore tr t u) ↔ HappensBefore tr t u
   decides t u = (before-happens t u, happens-before t u)
+
+  -- the first record begins the first event action
+  pub first-begins : 0 < length tr → opAt tr 0 ≡ begin 0
+  first-begins h = go (ℕ-discrete (at tr 0 .kind) 1) (ℕ-discrete (at tr 0 .kind) 4)
+    where
+      go : Dec (at tr 0 .kind ≡ 1) → Dec (at tr 0 .kind ≡ 4) → opAt tr 0 ≡ begin 0
+      go (yes k) d = op-begin 0 h k ∙ ap begin (counted-zero tr)
+      go (no x) (yes k) = absurd (omega (arith, waited-found 0 h k .earlier))
+      go (no x) (no y) = absurd (omega (arith, body-after-begin a 0 h x y .earlier))
 
   -- the later end of a link begins in the trace
   pub link-target : (i p u : ℕ) → i < length tr → opAt tr i ≡ link p u → u < begins (opAt tr) (length tr)

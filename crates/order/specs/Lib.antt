@@ -5,7 +5,7 @@ pub mod Sets
 pub mod Numbering
 pub mod Raising
 pub mod Schedule
-pub mod Filling
+pub mod Walk
 pub mod HappensBefore
 pub mod Compared
 pub mod Pass

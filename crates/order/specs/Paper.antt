@@ -27,10 +27,11 @@ pub record FillsTrace (tr : List Record) (events width : ℕ) (clocks clocks′ 
   pub chains-after : of ≡ chainsAfterReply tr (fillTrace tr events width (length clocks))
   pub ranks-after : all ≡ ranksOf tr
 
--- filling for a call with work space of that room: the answer, the trace to go on with, the lent clocks, the chain of each row, and the ranks of all events
-pub record Prepares (b : List ℕ) (width room : ℕ) (clocks clocks′ of′ all all′ : List ℕ) (r : Filling) (t : Trace) : Type 0 where
-  pub answer : fillPaper r ≡ prepareReply b width (length clocks) room
-  pub trace-is : t ≡ tracePrepared b width (length clocks) room
-  pub clocks-after : clocks′ ≡ clocksPrepared b width room clocks
-  pub chains-after : of′ ≡ chainsPrepared b width (length clocks) room
-  pub ranks-after : all′ ≡ ranksPrepared b width (length clocks) room all
+-- filling for a call that asks about records and has work space of that room: the answer, the trace to go on with, the lent clocks, the chain
+-- of each row, and the ranks of all events
+pub record Prepares (b : List ℕ) (lowest highest width room : ℕ) (clocks clocks′ of′ all all′ : List ℕ) (r : Filling) (t : Trace) : Type 0 where
+  pub answer : fillPaper r ≡ prepareReply b lowest highest width (length clocks) room
+  pub trace-is : t ≡ tracePrepared b lowest highest width (length clocks) room
+  pub clocks-after : clocks′ ≡ clocksPrepared b lowest highest width room clocks
+  pub chains-after : of′ ≡ chainsPrepared b lowest highest width (length clocks) room
+  pub ranks-after : all′ ≡ ranksPrepared b lowest highest width (length clocks) room all

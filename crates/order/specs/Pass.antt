@@ -1,18 +1,34 @@
--- The pass over the records that fills all rows, as the code keeps it: lists, and one number. Assumes nothing.
+-- The pass over the records that fills all rows, as the code keeps it: lists, and one number. At a link the earlier row is merged into the
+-- later one (`Walk`); at a begin the chain is read off the merged row. Assumes nothing.
 use Prim.Native.Nat.{ℕ, suc, _+_, _*_, _≤_, _<_, max}
 use mathlib.Core.Path.{_≡_}
 use mathlib.Core.Bool.{Bool, true, false}
 use mathlib.Core.List.{List}
-use lib.Dec.{leb}
+use lib.Dec.{leb, eqb}
 use lib.ListN.{length, getD, set}
-use Rattle.ranks.specs.Said.{Op, link, begin, other}
-use Rattle.order.specs.Filling.{mergeRow, tick, chooseIn}
+use Rattle.order.specs.Chains.{first}
+
+-- 1 added at entry c of row u
+unfoldable pub tick : ℕ → ℕ → ℕ → List ℕ → List ℕ
+tick width u c cs = set cs (u * width + c) (getD cs (u * width + c) 0 + 1)
+
+-- all members of chain c are in the merged row that starts at a; `sizes` lists the members of each chain
+abbrev pub fullAt : ℕ → List ℕ → List ℕ → ℕ → Bool
+fullAt a cs sizes c = eqb (getD cs (a + c) 0) (getD sizes c 0)
+
+-- the lowest chain all of whose members are in the merged row u, or a new one
+unfoldable pub chooseIn : ℕ → ℕ → List ℕ → List ℕ → ℕ → ℕ
+chooseIn width u cs sizes chains = first (fullAt (u * width) cs sizes) chains
+
+-- no chain is such
+abbrev pub NoneFull : ℕ → List ℕ → List ℕ → ℕ → Type 0
+NoneFull a cs sizes chains = (c : ℕ) → c < chains → getD cs (a + c) 0 ≡ getD sizes c 0 → ⊥
 
 pub record Rows : Type 0 where
   pub clocks : List ℕ
   -- the members of each chain so far
   pub sizes : List ℕ
-  -- the chain of each row
+  -- the chain of each row that has begun; for any other whether a link has come to it
   pub of : List ℕ
   -- how many chains are taken; more than the width where the width has none left
   pub chains : ℕ
@@ -35,25 +51,20 @@ enterRow w u s c = pickRows (leb w c)
 abbrev pub beginRow : ℕ → ℕ → Rows → Rows
 beginRow w u s = enterRow w u s (chooseIn w u (s .clocks) (s .sizes) (s .chains))
 
--- one record's part in it
-unfoldable pub turnRows : ℕ → Op → Rows → Rows
-turnRows w (link p u) s = record { clocks = mergeRow w (s .chains) p u (s .clocks); sizes = s .sizes; of = s .of; chains = s .chains }
-turnRows w (begin u) s = beginRow w u s
-turnRows w other s = s
+-- what the search for a chain must have room for
+pub record RoomToChoose (w u : ℕ) (cs sizes : List ℕ) (chains : ℕ) : Type 0 where
+  pub row : u * w + w ≤ length cs
+  pub chains-fit : chains ≤ w
+  pub sizes-room : w ≤ length sizes
 
--- what the lists must have room for
+-- what the lists must have room for, and that no chain is looked for in vain where no link came
 pub record RoomToBegin (w u : ℕ) (s : Rows) : Type 0 where
-  pub row : u * w + w ≤ length (s .clocks)
-  pub chains-fit : s .chains ≤ w
-  pub sizes-room : w ≤ length (s .sizes)
+  pub narrow : w ≤ 1024
+  pub room : RoomToChoose w u (s .clocks) (s .sizes) (s .chains)
   pub of-room : u < length (s .of)
   pub few-entries : (c : ℕ) → c < w → getD (s .clocks) (u * w + c) 0 < 65535
   pub few-members : (c : ℕ) → c < w → getD (s .sizes) c 0 < 65535
-
-abbrev pub Room : ℕ → Op → Rows → Type 0
-Room w (link p u) s = (p < u) × (s .chains ≤ w) × (u * w + w ≤ length (s .clocks))
-Room w (begin u) s = RoomToBegin w u s
-Room w other s = Unit {0}
+  pub unlinked : getD (s .of) u 0 ≡ 0 → NoneFull (u * w) (s .clocks) (s .sizes) (s .chains)
 
 -- lists and number are those of s
 pub record Are (s : Rows) (clocks sizes of : List ℕ) (chains : ℕ) : Type 0 where

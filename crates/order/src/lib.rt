@@ -1,5 +1,6 @@
 // Happens-before, chains and vector clocks.
 mod clear;
+pub mod links;
 mod merge;
 mod rows;
 
@@ -10,7 +11,7 @@ use trace::Reading;
 use trace::Refusal;
 ghost use mathlib.Core.Path.{_≡_};
 ghost use Rattle.trace.specs.Paper.{paper};
-ghost use Rattle.order.specs.Prepare.{readWithin};
+ghost use Rattle.order.specs.Prepare.{asked, readWithin};
 ghost use Rattle.order.specs.Paper.{Fills, Prepares};
 
 // What filling finds: the number of chains used, or why it is refused.
@@ -25,14 +26,38 @@ pub struct Prepared {
     pub trace: Trace,
 }
 
-// Reads the trace for a call that is lent `space` clocks and `room` bytes: 21 where the rows do not fit the clocks, 22 where there are more event actions than bytes.
-fn read_within(bytes: &[u8], width: usize, space: usize, room: usize) -> Reading
-    ensures { λ r. ⌜ paper r ≡ readWithin (now (bytes .entry)) width space room ⌝ }
+// Are all records from the lowest to the highest asked about in a trace of that many records? From 1 to 0 none is asked about.
+fn has_records(records: usize, lowest: u16, highest: u16) -> bool
+    ensures { λ r. ⌜ r ≡ asked lowest highest records ⌝ }
+{
+    if lowest < 1 {
+        return false;
+    }
+    (highest as usize) <= records
+}
+
+// Reads the trace for a call that asks about those records and is lent `space` clocks and `room` bytes: 11 where a record is not in the trace, 21
+// where the rows do not fit the clocks, 22 where there are more event actions than bytes.
+fn read_within(
+    bytes: &[u8],
+    lowest: u16,
+    highest: u16,
+    width: usize,
+    space: usize,
+    room: usize,
+) -> Reading
+    ensures { λ r. ⌜ paper r ≡ readWithin (now (bytes .entry)) lowest highest width space room ⌝ }
 {
     let reading = trace::read(bytes);
     let Reading::Accepted(t) = reading else {
         return reading;
     };
+    if !has_records(t.records, lowest, highest) {
+        return Reading::Refused(Refusal {
+            number: trace::NOT_IN_TRACE,
+            place: Operation(0),
+        });
+    }
     if !clocks::has_space(width, t.events, space) {
         return Reading::Refused(Refusal {
             number: trace::CLOCK_SPACE,
@@ -48,20 +73,24 @@ fn read_within(bytes: &[u8], width: usize, space: usize, room: usize) -> Reading
     reading
 }
 
-// Reads the trace once and fills the lent clocks, for a call that has a work space of `room` bytes: 22 comes between 21 and 23. Gives the chain of each row in `of`, and the
-// ranks of all events in `all` where the call passes 22.
+// Reads the trace once and fills the lent clocks, for a call that asks about the records from the lowest to the highest and has a work space of `room`
+// bytes: 11 comes before 21, and 22 between 21 and 23. Gives the chain of each row in `of`, and the ranks of all events in `all` where the call
+// passes 22.
 pub fn prepare(
     bytes: &[u8],
+    lowest: u16,
+    highest: u16,
     width: usize,
     room: usize,
     clocks: &mut [u16],
     of: &mut [u16; 1024],
     all: &mut [u16; 1025],
 ) -> Prepared
-    ensures { λ r. ⌜ Prepares (now (bytes .entry)) width room (now (clocks .entry)) (now (clocks .exit)) (now (of .exit)) (now (all .entry)) (now (all .exit)) (r .answer) (r .trace) ⌝ }
+    ensures { λ r. ⌜ Prepares (now (bytes .entry)) lowest highest width room (now (clocks .entry)) (now (clocks .exit)) (now (of .exit))
+        (now (all .entry)) (now (all .exit)) (r .answer) (r .trace) ⌝ }
 {
     clear::clear(of, 1024);
-    let reading = read_within(bytes, width, clocks.len(), room);
+    let reading = read_within(bytes, lowest, highest, width, clocks.len(), room);
     let Reading::Accepted(t) = reading else {
         return rows::unfilled(trace::refusal_of(reading));
     };
@@ -76,7 +105,7 @@ pub fn prepare(
 pub fn fill(bytes: &[u8], width: usize, clocks: &mut [u16]) -> Filling
     ensures { λ r. ⌜ Fills (now (bytes .entry)) width (now (clocks .entry)) (now (clocks .exit)) r ⌝ }
 {
-    let reading = read_within(bytes, width, clocks.len(), 1024);
+    let reading = read_within(bytes, 1, 0, width, clocks.len(), 1024);
     let Reading::Accepted(t) = reading else {
         return Filling::Refused(trace::refusal_of(reading));
     };

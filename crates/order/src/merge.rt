@@ -1,58 +1,41 @@
 // Clock rows in the lent clocks: row u at width w is the part that starts at u × w.
 ghost use mathlib.Core.Path.{_≡_};
-ghost use Prim.Native.Nat.{_+_, _*_, _≤_, _<_, max};
+ghost use mathlib.Core.Bool.{false};
+ghost use Prim.Native.Nat.{ℕ, _+_, _-_, _*_, _≤_, _<_};
 ghost use lib.ListN.{length, getD, set};
-ghost use Rattle.order.specs.Filling.{mergeRow, tick, chooseIn};
+ghost use Rattle.order.specs.Chains.{firstFrom};
+ghost use Rattle.order.specs.Pass.{fullAt, chooseIn, RoomToChoose};
 
-fn larger(x: u16, y: u16) -> u16
-    ensures { λ r. ⌜ r ≡ max x y ⌝ }
+// One more at entry c of a row.
+pub(crate) fn add_one(row: &mut [u16], c: usize)
+    requires { ⌜ (c < length (now row)) × (getD (now row) c 0 < 65535) ⌝ }
+    ensures { λ r. ⌜ now (row .exit) ≡ set (now (row .entry)) c (getD (now (row .entry)) c 0 + 1) ⌝ }
 {
-    if x < y {
-        return y;
+    row[c] += 1;
+}
+
+// Is one of the sixteen entries from `at` on equal to the size beside it?
+fn among_sixteen(clocks: &[u16], at: usize, sizes: &[u16], c: usize) -> bool
+    requires { ⌜ (at + 16 ≤ length (now clocks)) × (c + 16 ≤ length (now sizes)) ⌝ }
+    ensures { λ r. ⌜ (r ≡ false → (j : ℕ) → j < 16 → getD (now (clocks .entry)) (at + j) 0 ≡ getD (now (sizes .entry)) (c + j) 0 → ⊥) ⌝ }
+{
+    let mut hit: u16 = 0;
+    let mut j = 0;
+    while j < 16 {
+        if clocks[at + j] == sizes[c + j] {
+            hit = 1;
+        }
+        j += 1;
     }
-    x
+    hit == 1
 }
 
-// One entry of a row becomes at least the value.
-fn raise(row: &mut [u16], c: usize, value: u16)
-    requires { do ⌜ c < (← ⟦row.len()⟧) ⌝ }
-    ensures { λ r. ⌜ now (row .exit) ≡ set (now (row .entry)) c (max (getD (now (row .entry)) c 0) value) ⌝ }
+// From chain `from` on, entry by entry.
+fn choose_near(clocks: &[u16], a: usize, sizes: &[u16], from: usize, chains: usize) -> usize
+    requires { ⌜ (from ≤ chains) × (a + chains ≤ length (now clocks)) × (chains ≤ length (now sizes)) ⌝ }
+    ensures { λ r. ⌜ r ≡ firstFrom (fullAt a (now (clocks .entry)) (now (sizes .entry))) from (chains - from) ⌝ }
 {
-    row[c] = larger(row[c], value);
-}
-
-// Row p is merged into row u at the chains taken so far; no other part is written.
-pub(crate) fn merge_row(clocks: &mut [u16], width: usize, chains: usize, p: usize, u: usize)
-    requires { do ⌜ (p < u) × (chains ≤ width) × (u * width + width ≤ (← ⟦clocks.len()⟧)) ⌝ }
-    ensures { λ r. ⌜ now (clocks .exit) ≡ mergeRow width chains p u (now (clocks .entry)) ⌝ }
-{
-    let a = u * width;
-    let e = a + width;
-    let b = p * width;
-    let mut c = 0;
-    while c < chains {
-        let value = clocks[b + c];
-        raise(&mut clocks[a..e], c, value);
-        c += 1;
-    }
-}
-
-// One more at entry c of row u.
-pub(crate) fn add_one(clocks: &mut [u16], width: usize, u: usize, c: usize)
-    requires { ⌜ (u * width + c < length (now clocks)) × (getD (now clocks) (u * width + c) 0 < 65535) ⌝ }
-    ensures { λ r. ⌜ now (clocks .exit) ≡ tick width u c (now (clocks .entry)) ⌝ }
-{
-    let at = u * width + c;
-    clocks[at] += 1;
-}
-
-// The lowest chain all of whose members are in the merged row u, or a new one.
-pub(crate) fn choose(clocks: &[u16], width: usize, u: usize, sizes: &[u16], chains: usize) -> usize
-    requires { do ⌜ (u * width + chains ≤ (← ⟦clocks.len()⟧)) × (chains ≤ (← ⟦sizes.len()⟧)) ⌝ }
-    ensures { λ r. ⌜ r ≡ chooseIn width u (now (clocks .entry)) (now (sizes .entry)) chains ⌝ }
-{
-    let a = u * width;
-    let mut c = 0;
+    let mut c = from;
     while c < chains {
         if clocks[a + c] == sizes[c] {
             return c;
@@ -60,4 +43,20 @@ pub(crate) fn choose(clocks: &[u16], width: usize, u: usize, sizes: &[u16], chai
         c += 1;
     }
     c
+}
+
+// The lowest chain all of whose members are in the merged row u, or a new one; sixteen entries at a time.
+pub(crate) fn choose(clocks: &[u16], width: usize, u: usize, sizes: &[u16], chains: usize) -> usize
+    requires { ⌜ RoomToChoose width u (now clocks) (now sizes) chains ⌝ }
+    ensures { λ r. ⌜ r ≡ chooseIn width u (now (clocks .entry)) (now (sizes .entry)) chains ⌝ }
+{
+    let a = u * width;
+    let mut c = 0;
+    while c + 16 <= chains {
+        if among_sixteen(clocks, a + c, sizes, c) {
+            return choose_near(clocks, a, sizes, c, chains);
+        }
+        c += 16;
+    }
+    choose_near(clocks, a, sizes, c, chains)
 }

@@ -2,27 +2,44 @@
 use crate::Filling;
 use crate::Prepared;
 use crate::clear::clear;
+use crate::links::merge_links;
 use crate::merge;
-use ranks::Ordering;
+use clocks::clear_rows;
 use records::Trace;
 use records::access;
 use trace::Operation;
 use trace::Refusal;
 ghost use mathlib.Core.Path.{_≡_};
 ghost use mathlib.Core.Bool.{true};
-ghost use Prim.Native.Nat.{_≤_};
-ghost use lib.ListN.{length, getD};
+ghost use Prim.Native.Nat.{_*_};
+ghost use lib.ListN.{length};
 ghost use Rattle.records.specs.Bytes.{decode};
-ghost use Rattle.records.specs.Records.{at};
 ghost use Rattle.ranks.specs.Ranks.{noRanks};
-ghost use Rattle.ranks.specs.Said.{opOf};
 ghost use Rattle.trace.specs.Reading.{Acceptable};
 ghost use Rattle.clocks.specs.Rows.{spaceFor};
 ghost use Rattle.order.specs.Fill.{eventsIn, noChains};
 ghost use Rattle.order.specs.Prepare.{noTrace};
 ghost use Rattle.order.specs.Paper.{FillsTrace};
 ghost use Rattle.order.specs.PassEnds.{Ready, Passes};
-ghost use Rattle.order.specs.Pass.{Rows, beginRow, turnRows, RoomToBegin, Room, Are};
+ghost use Rattle.order.specs.Pass.{Rows, chooseIn, NoneFull, beginRow, RoomToChoose, RoomToBegin, Are};
+
+// The chain of row u, to which a link came or not: where none came its row is 0, and no chain ends before it.
+fn choose_linked(
+    clocks: &[u16],
+    width: usize,
+    u: usize,
+    sizes: &[u16],
+    chains: usize,
+    linked: u16,
+) -> usize
+    requires { ⌜ RoomToChoose width u (now clocks) (now sizes) chains × (linked ≡ 0 → NoneFull (u * width) (now clocks) (now sizes) chains) ⌝ }
+    ensures { λ r. ⌜ r ≡ chooseIn width u (now (clocks .entry)) (now (sizes .entry)) chains ⌝ }
+{
+    if linked == 0 {
+        return chains;
+    }
+    merge::choose(clocks, width, u, sizes, chains)
+}
 
 // Row u begins: the chains taken after it, or more than the width where none is left for it.
 fn begin_row(
@@ -33,45 +50,23 @@ fn begin_row(
     of: &mut [u16],
     chains: usize,
 ) -> usize
-    requires { ⌜ (width ≤ 1024) × RoomToBegin width u (record { clocks = now clocks; sizes = now sizes; of = now of; chains = chains }) ⌝ }
-    ensures { λ r. ⌜ Are (beginRow width u (record { clocks = now (clocks .entry); sizes = now (sizes .entry); of = now (of .entry); chains = chains })) (now (clocks .exit)) (now (sizes .exit)) (now (of .exit)) r ⌝ }
+    requires { ⌜ RoomToBegin width u (record { clocks = now clocks; sizes = now sizes; of = now of; chains = chains }) ⌝ }
+    ensures { λ r. ⌜ Are (beginRow width u (record { clocks = now (clocks .entry); sizes = now (sizes .entry); of = now (of .entry); chains = chains }))
+        (now (clocks .exit)) (now (sizes .exit)) (now (of .exit)) r ⌝ }
 {
-    let c = merge::choose(clocks, width, u, sizes, chains);
+    let c = choose_linked(clocks, width, u, sizes, chains, of[u]);
     if width <= c {
         return width + 1;
     }
-    merge::add_one(clocks, width, u, c);
+    let a = u * width;
+    let e = a + width;
+    merge::add_one(&mut clocks[a..e], c);
     sizes[c] += 1;
     of[u] = c as u16;
     if chains <= c {
         return c + 1;
     }
     chains
-}
-
-// The record at position i.
-fn turn(
-    recs: &[u8],
-    ranks: &[u16],
-    i: usize,
-    clocks: &mut [u16],
-    width: usize,
-    sizes: &mut [u16],
-    of: &mut [u16],
-    chains: usize,
-) -> usize
-    requires { ⌜ (width ≤ 1024) × Room width (opOf (λ e. getD (now ranks) e 0) (at (decode (now recs)) i)) (record { clocks = now clocks; sizes = now sizes; of = now of; chains = chains }) ⌝ }
-    ensures { λ r. ⌜ Are (turnRows width (opOf (λ e. getD (now (ranks .entry)) e 0) (at (decode (now (recs .entry))) i)) (record { clocks = now (clocks .entry); sizes = now (sizes .entry); of = now (of .entry); chains = chains })) (now (clocks .exit)) (now (sizes .exit)) (now (of .exit)) r ⌝ }
-{
-    let said = ranks::ordering_at(recs, ranks, i);
-    match said {
-        Ordering::Link(p, u) => {
-            merge::merge_row(clocks, width, chains, p as usize, u as usize);
-            chains
-        }
-        Ordering::Begin(u) => begin_row(clocks, width, u as usize, sizes, of, chains),
-        Ordering::Nothing => chains,
-    }
 }
 
 // How far the pass came: the chains taken, and the position of the begin that needs one more than the width has, or the number of records.
@@ -93,9 +88,10 @@ fn pass(
 {
     let n = access::count(recs);
     let mut chains = 0;
+    let mut u = 0;
     let mut i = 0;
     while i < n {
-        let next = turn(recs, ranks, i, clocks, width, sizes, of, chains);
+        let next = begin_row(clocks, width, u, sizes, of, chains);
         if width < next {
             return Passed {
                 chains: chains,
@@ -103,7 +99,8 @@ fn pass(
             };
         }
         chains = next;
-        i += 1;
+        i = merge_links(recs, ranks, width, chains, clocks, of, i + 1);
+        u += 1;
     }
     Passed {
         chains: chains,
@@ -146,17 +143,18 @@ pub(crate) fn fill_rows(
     of: &mut [u16],
     all: &mut [u16; 1025],
 ) -> Filling
-    requires { ⌜ Acceptable (decode (now recs)) × (events ≡ eventsIn (decode (now recs))) × (spaceFor width events (length (now clocks)) ≡ true) × (now of ≡ noChains) ⌝ }
+    requires { ⌜ Acceptable (decode (now recs)) × (events ≡ eventsIn (decode (now recs)))
+        × (spaceFor width events (length (now clocks)) ≡ true) × (now of ≡ noChains) ⌝ }
     ensures { λ r. ⌜ FillsTrace (decode (now (recs .entry))) events width (now (clocks .entry)) (now (clocks .exit)) r (now (of .exit)) (now (all .exit)) ⌝ }
 {
-    let rows = events * width;
+    let rows = events as u16;
     ranks::fill_ranks(recs, all);
     let mut sizes = no_chains();
-    clear(clocks, rows);
+    clear_rows(clocks, width, rows);
     let passed = pass(recs, all, clocks, width, &mut sizes, of);
     let position = passed.position;
     if position < access::count(recs) {
-        clear(clocks, rows);
+        clear_rows(clocks, width, rows);
         clear(of, 1024);
         return Filling::Refused(Refusal {
             number: trace::CHAINS,

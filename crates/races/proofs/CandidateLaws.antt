@@ -1,6 +1,6 @@
 -- No first access that races with b is missed on the way to b. Assumes nothing.
 use Prim.Native.Nat.{ℕ, zero, suc, _+_, _-_, _≤_, _<_}
-use mathlib.Core.Path.{_≡_, refl, sym, _∙_, subst}
+use mathlib.Core.Path.{_≡_, refl, sym, ap, _∙_, subst}
 use mathlib.Core.Logic.{_≢_, _⊎_, inl, inr}
 use mathlib.Core.Bool.{Bool, true, false, not, cond, _&&_}
 use mathlib.Core.List.{List}
@@ -8,7 +8,7 @@ use native.Mathlib.Omega.{arith}
 use native.Mathlib.Numerals.{add-one}
 use native.Mathlib.Nat.{eq-or-lt-of-le, le-of-suc-le-suc}
 use native.Mathlib.Decide.{ℕ-discrete}
-use borrow.Author.Tests.{ne-eqb, le-leb, leb-true}
+use borrow.Author.Tests.{eq-eqb, ne-eqb, le-leb, leb-true, ltb-false}
 use lib.Dec.{T, leb, ltb, eqb, eqb→eq, le→leb, ltb→lt}
 use lib.ListN.{length, getD, set, length-set, length-replicate, getD-replicate}
 use lib.Seq.{getD-set-same, getD-set-other}
@@ -19,16 +19,20 @@ use Rattle.records.specs.Marks.{noMarks}
 use Rattle.trace.specs.Place.{place}
 use Rattle.trace.specs.Rule.{situation, numbered}
 use Rattle.records.proofs.Positions.{lt-or-ge}
-use Rattle.trace.proofs.Blocks.{passes-at}
+use Rattle.trace.proofs.Blocks.{passes-at, contiguous, begins-once, body-after-begin}
 use Rattle.trace.proofs.Marked.{formed}
 use Rattle.trace.proofs.Going.{in-range}
 use Rattle.coverage.specs.Race.{raceb}
 use Rattle.coverage.specs.Neighbours.{conflicts}
-use Rattle.coverage.proofs.Tests.{both, and, either, or-left, or-right, eq→eqb}
+use Rattle.coverage.proofs.Tests.{decide, both, and, either, or-left, or-right, eq→eqb}
 use Rattle.races.specs.Traces.{isAccess, cellsOf, settingOf}
-use Rattle.races.specs.Candidates.{leastKind, cell, accesses, writes, mayRace, startOf, Upto, Number, Numbers, Past, Jump}
-use Rattle.order.specs.HappensBefore.{happensBefore}
-use Rattle.races.proofs.Instance.{laws}
+use Rattle.races.specs.Candidates.{leastKind, cell, accesses, writes, mayRace, startOf, Upto, lastWrite, Seen, Tables, orderedIn, seenAfter, wayFrom, Past, NextAccess}
+use Rattle.clocks.specs.Rows.{compareIn}
+use Rattle.order.specs.HappensBefore.{rank, happensBefore}
+use Rattle.order.proofs.TraceOrder.{counted, counted-zero, counted-begin, counted-other, ranked, record-begins, begins-rank}
+use Rattle.races.specs.Filled.{Filled, RowsIn}
+use Rattle.races.proofs.FilledLaws.{row-inside, rows-in, rows-before}
+use Rattle.races.proofs.Instance.{laws, access-kind}
 
 module _ (tr : List Record) where
   -- a race is between accesses of one cell, one of which writes
@@ -102,13 +106,6 @@ module _ (tr : List Record) where
       go true false m = refl
       go false q m = refl
 
-  -- no write from i on
-  pub start-skip : (short : Bool) (c i d : ℕ) → ((x : ℕ) → i ≤ x → x < i + d → T (writes tr c x) → ⊥) → startOf tr short c (i + d) ≡ startOf tr short c i
-  start-skip short c i zero n = let e : i + 0 ≡ i = omega arith in rw e refl
-  start-skip short c i (suc d) n =
-      let e : i + suc d ≡ suc (i + d) = omega arith in
-      rw e (start-stays short c (i + d) (n (i + d) (omega arith) (omega arith)) ∙ start-skip short c i d (λ x l k. n x l (omega arith)))
-
   pub start-writes : (c i : ℕ) → T (writes tr c i) → startOf tr true c (suc i) ≡ i
   unfolding startOf
   start-writes c i h = go (writes tr c i) h
@@ -117,23 +114,64 @@ module _ (tr : List Record) where
       go true t = refl
       go false t = absurd t
 
-  -- the last write, looked for from i down
-  pub write-found : (c i : ℕ) → 0 < i → writes tr c (i - 1) ≡ true → startOf tr true c i ≡ i - 1
-  write-found c zero l e = absurd (omega arith)
-  write-found c (suc i) l e = let f : suc i - 1 ≡ i = omega arith in rw f (start-writes c i (subst T (sym (rw f at e)) tt))
-
-  pub write-passed : (c i : ℕ) → 0 < i → writes tr c (i - 1) ≡ false → startOf tr true c i ≡ startOf tr true c (i - 1)
-  write-passed c zero l e = absurd (omega arith)
-  write-passed c (suc i) l e = let f : suc i - 1 ≡ i = omega arith in rw f (start-stays true c i (λ t. subst T (rw f at e) t))
-
-  pub write-none : (c i : ℕ) → i ≡ 0 → startOf tr true c i ≡ i
-  unfolding startOf
-  write-none c i e = rw e refl
-
   pub start-all : (c i : ℕ) → startOf tr false c i ≡ 0
   unfolding startOf
   start-all c zero = refl
   start-all c (suc i) = start-all c i
+
+  -- The last write.
+  pub last-write : (c i : ℕ) → T (writes tr c i) → lastWrite tr c (suc i) ≡ suc i
+  unfolding lastWrite
+  last-write c i h = go (writes tr c i) h
+    where
+      go : (q : Bool) → T q → cond q (suc i) (lastWrite tr c i) ≡ suc i
+      go true t = refl
+      go false t = absurd t
+
+  pub last-stays : (c i : ℕ) → (T (writes tr c i) → ⊥) → lastWrite tr c (suc i) ≡ lastWrite tr c i
+  unfolding lastWrite
+  last-stays c i n = go (writes tr c i) n
+    where
+      go : (q : Bool) → (T q → ⊥) → cond q (suc i) (lastWrite tr c i) ≡ lastWrite tr c i
+      go true m = absurd (m tt)
+      go false m = refl
+
+  pub last-zero : (c : ℕ) → lastWrite tr c 0 ≡ 0
+  unfolding lastWrite
+  last-zero c = refl
+
+  pub last-high : (c i : ℕ) → lastWrite tr c i ≤ i
+  last-high c zero = omega (arith, last-zero c)
+  last-high c (suc i) = go (decide (writes tr c i)) (last-high c i)
+    where
+      go : T (writes tr c i) ⊎ (T (writes tr c i) → ⊥) → lastWrite tr c i ≤ i → lastWrite tr c (suc i) ≤ suc i
+      go (inl t) l = omega (arith, last-write c i t)
+      go (inr n) l = omega (arith, last-stays c i n)
+
+  -- none of the records from it on writes the cell
+  pub last-after : (c i x : ℕ) → lastWrite tr c i ≤ x → x < i → T (writes tr c x) → ⊥
+  last-after c zero x l k t = omega arith
+  last-after c (suc i) x l k t = go (decide (writes tr c i)) (near k) (last-after c i x)
+    where
+      go : T (writes tr c i) ⊎ (T (writes tr c i) → ⊥) → (x ≡ i) ⊎ (x < i) → (lastWrite tr c i ≤ x → x < i → T (writes tr c x) → ⊥) → ⊥
+      go (inl w) d f = omega (arith, last-write c i w)
+      go (inr n) (inl d) f = n (subst (λ (y : ℕ). T (writes tr c y)) d t)
+      go (inr n) (inr m) f = f (omega (arith, last-stays c i n)) m t
+
+  -- the start of a cell by its last write
+  last-start : (c i : ℕ) → startOf tr true c i ≡ lastWrite tr c i - 1
+  unfolding startOf lastWrite
+  last-start c zero = refl
+  last-start c (suc i) = go (writes tr c i) (last-start c i)
+    where
+      go : (q : Bool) → startOf tr true c i ≡ lastWrite tr c i - 1 → cond q i (startOf tr true c i) ≡ cond q (suc i) (lastWrite tr c i) - 1
+      go true e = omega arith
+      go false e = e
+
+  pub from-start-is : (short : Bool) (c i : ℕ) → wayFrom short (lastWrite tr c i) ≡ startOf tr short c i
+  unfolding wayFrom
+  from-start-is true c i = sym (last-start c i)
+  from-start-is false c i = sym (start-all c i)
 
   -- the start never falls
   start-rises : (short : Bool) (c b x : ℕ) → startOf tr short c (suc b) ≤ x → x < b → startOf tr short c b ≤ x
@@ -154,108 +192,124 @@ cell-low {tr} a x h = go (ltb (at tr x .kind) 3) (formed (at tr x) (passes-at a 
 
 -- The numbers of the cells, one record after the other.
 module _ (tr : List Record) (short : Bool) where
-  pub numbers-none : Numbers tr short 0 noMarks
+  pub tables-none : Tables tr short 0 noMarks noMarks
   unfolding noMarks
-  numbers-none = record { size = length-replicate {A = ℕ} 1025 0; tells = λ c l. rw (getD-replicate {A = ℕ} 1025 c 0 0 l) none }
-    where
-      none : {c : ℕ} → Number tr short c 0 0
-      none = record {
-        some = λ n. absurd (n refl);
-        low = λ h. omega arith;
-        none = λ h x l k t. omega arith;
-        upto = λ h n. absurd (n refl);
-        start = λ h s. absurd (omega arith);
-        end = λ h s. absurd (omega arith);
-        unwritten = λ h s x l k t. omega arith;
-      }
+  tables-none = record {
+    seen-size = length-replicate {A = ℕ} 1025 0;
+    written-size = length-replicate {A = ℕ} 1025 0;
+    tells = λ c l. rw (getD-replicate {A = ℕ} 1025 c 0 0 l) (record { none = λ e x k t. omega arith; upto = λ n h. absurd (n refl) });
+    last = λ c l. getD-replicate {A = ℕ} 1025 c 0 0 l ∙ sym (last-zero tr c);
+  }
 
   -- a record that does not access the cell
-  number-still : {b c v : ℕ} → (T (accesses tr c b) → ⊥) → Number tr short c b v → Number tr short c (suc b) v
-  number-still {b} {c} {v} n w = record {
-    some = λ z. omega arith;
-    low = λ h. omega (arith, w .low h);
-    none = λ h x l k t. other (near tr k) t (λ m. w .none h x l m t);
-    upto = λ h z. record { tells = λ x l k t. other (near tr k) t (λ m. w .upto h z .tells x (start-rises tr short c b x l m) m t) };
-    start = λ h s. w .start h s ∙ sym (start-stays tr short c b (λ t. n (write-accesses tr c b t)));
-    end = λ h s. omega (arith, w .end h s);
-    unwritten = λ h s x l k t. other (near tr k) (write-accesses tr c x t) (λ m. w .unwritten h s x l m t);
+  seen-still : {b c v : ℕ} → (T (accesses tr c b) → ⊥) → Seen tr short c b v → Seen tr short c (suc b) v
+  seen-still {b} {c} n w = record {
+    none = λ e x k t. other (near tr k) t (λ m. w .none e x m t);
+    upto = λ z h. let (y, l, e, u) = w .upto z h in (y, l, e, record { tells = λ x l k t. other (near tr k) t (λ m. u .tells x (start-rises tr short c b x l m) m t) });
   }
     where
       other : {x : ℕ} {A : Type 0} → (x ≡ b) ⊎ (x < b) → T (accesses tr c x) → (x < b → A) → A
       other (inl e) t f = absurd (n (subst (λ (y : ℕ). T (accesses tr c y)) e t))
       other (inr l) t f = f l
 
-  pub numbers-pass : {b : ℕ} {numbers : List ℕ} → isAccess (at tr b) ≡ false → Numbers tr short b numbers → Numbers tr short (b + 1) numbers
-  numbers-pass {b} f s = rw (add-one b) (record { size = s .size; tells = λ c l. number-still (λ t. subst T f (of-accesses tr c b t .0)) (s .tells c l) })
-
-  pub numbers-next : {b v : ℕ} {numbers : List ℕ} → cell tr b < 1025 → Numbers tr short b numbers → Number tr short (cell tr b) (b + 1) v → (numbers′ : List ℕ) → numbers′ ≡ set numbers (cell tr b) v → Numbers tr short (b + 1) numbers′
-  numbers-next {b} {v} {numbers} low s w numbers′ p = rw p (record { size = length-set numbers (cell tr b) v ∙ s .size; tells = λ c l. go c l (ℕ-discrete c (cell tr b)) })
+  pub tables-pass : {b : ℕ} {seen written : List ℕ} → isAccess (at tr b) ≡ false → Tables tr short b seen written → Tables tr short (b + 1) seen written
+  tables-pass {b} f s = rw (add-one b) (record {
+    seen-size = s .seen-size;
+    written-size = s .written-size;
+    tells = λ c l. seen-still (still c) (s .tells c l);
+    last = λ c l. s .last c l ∙ sym (last-stays tr c b (λ t. still c (write-accesses tr c b t)));
+  })
     where
-      go : (c : ℕ) → c < 1025 → Dec (c ≡ cell tr b) → Number tr short c (b + 1) (getD (set numbers (cell tr b) v) c 0)
-      go c l (yes d) = let z = s .size in rw (d, getD-set-same numbers (cell tr b) v 0 (omega arith)) w
-      go c l (no d) = rw (getD-set-other numbers (cell tr b) c v 0 d, add-one b) (number-still (λ t. d (sym (of-accesses tr c b t .1))) (s .tells c l))
+      still : (c : ℕ) → T (accesses tr c b) → ⊥
+      still c t = subst T f (of-accesses tr c b t .0)
 
--- The number of b's cell after the access b.
-module _ {tr : List Record} (acc : Acceptable tr) where
-  -- its own number, where all accesses of the cell from the start on happen before it
-  number-last : (short : Bool) {b : ℕ} → b < 4096 → ((x : ℕ) → startOf tr short (cell tr b) (suc b) ≤ x → x < b → T (accesses tr (cell tr b) x) → T (happensBefore tr (eventOf (at tr x)) (eventOf (at tr b)))) → Number tr short (cell tr b) (b + 1) (b + 1)
-  number-last short {b} h q =
-      let e : suc b - 1 ≡ b = omega arith in
+  module _ (b v : ℕ) (seen written : List ℕ) (low : cell tr b < 1025) (s : Tables tr short b seen written) (w : Seen tr short (cell tr b) (b + 1) v) where
+    seen-next : (c : ℕ) → c < 1025 → Dec (c ≡ cell tr b) → Seen tr short c (b + 1) (getD (set seen (cell tr b) v) c 0)
+    seen-next c l (yes d) = let z = s .seen-size in rw (d, getD-set-same seen (cell tr b) v 0 (omega arith)) w
+    seen-next c l (no d) = rw (getD-set-other seen (cell tr b) c v 0 d, add-one b) (seen-still (λ t. d (sym (of-accesses tr c b t .1))) (s .tells c l))
+
+    module _ (kind : ℕ) (e : kind ≡ at tr b .kind) where
+      abbrev after : Bool → List ℕ
+      after q = cond q (set written (cell tr b) (b + 1)) written
+
+      size-next : (q : Bool) → length (after q) ≡ 1025
+      size-next true = length-set written (cell tr b) (b + 1) ∙ s .written-size
+      size-next false = s .written-size
+
+      last-next : (c : ℕ) → c < 1025 → (q : Bool) → eqb kind 6 ≡ q → Dec (c ≡ cell tr b) → getD (after q) c 0 ≡ lastWrite tr c (b + 1)
+      last-next c l true f (yes d) =
+          let z = s .written-size in
+          let x : T (isWrite (at tr b)) = subst T (sym (ap (λ k. eqb k 6) (sym e) ∙ f)) tt in
+          rw (d, getD-set-same written (cell tr b) (b + 1) 0 (omega arith), add-one b) (sym (last-write tr (cell tr b) b (and (eqb (cell tr b) (cell tr b)) (isWrite (at tr b)) (eq→eqb (cell tr b) (cell tr b) refl) x)))
+      last-next c l true f (no d) = rw (getD-set-other written (cell tr b) c (b + 1) 0 d, add-one b) (s .last c l ∙ sym (last-stays tr c b (λ t. d (sym (of-accesses tr c b (write-accesses tr c b t) .1)))))
+      last-next c l false f d = rw (add-one b) (s .last c l ∙ sym (last-stays tr c b (λ t. subst T (ap (λ k. eqb k 6) (sym e) ∙ f) (both (eqb (cell tr b) c) (isWrite (at tr b)) t .1))))
+
+      -- after the access b
+      pub tables-next : (seen′ written′ : List ℕ) → seen′ ≡ set seen (cell tr b) v → written′ ≡ after (eqb kind 6) → Tables tr short (b + 1) seen′ written′
+      tables-next seen′ written′ p q = rw (p, q) (record {
+        seen-size = length-set seen (cell tr b) v ∙ s .seen-size;
+        written-size = size-next (eqb kind 6);
+        tells = λ c l. seen-next c l (ℕ-discrete c (cell tr b));
+        last = λ c l. last-next c l (eqb kind 6) refl (ℕ-discrete c (cell tr b));
+      })
+
+-- The number of b's cell after the access b, of row u.
+module _ {tr : List Record} (acc : Acceptable tr) (b u : ℕ) (inside : b < length tr) (row : u ≡ rank tr (eventOf (at tr b)) - 1) where
+  has-rank : rank tr (eventOf (at tr b)) ≢ 0
+  has-rank z = omega (arith, begins-rank acc (record-begins acc b inside), z)
+
+  -- the rank of its event action, where all accesses of the cell from the start on happen before it
+  seen-last : (short : Bool) → ((x : ℕ) → startOf tr short (cell tr b) (suc b) ≤ x → x < b → T (accesses tr (cell tr b) x) → T (happensBefore tr (eventOf (at tr x)) (eventOf (at tr b)))) → Seen tr short (cell tr b) (b + 1) (u + 1)
+  seen-last short q =
+      let n = has-rank in
+      let e : u + 1 ≡ rank tr (eventOf (at tr b)) = omega arith in
       rw (add-one b) (record {
-        some = λ z. omega arith;
-        low = λ m. omega arith;
-        none = λ m x l k t. omega arith;
-        upto = λ m z. rw e (record { tells = λ x l k t. go x l (near tr k) t });
-        start = λ m s. absurd (omega arith);
-        end = λ m s. absurd (omega arith);
-        unwritten = λ m s x l k t. omega arith;
+        none = λ z x k t. omega arith;
+        upto = λ z h. (b, inside, e, record { tells = λ x l k t. go x l (near tr k) t });
       })
     where
       go : (x : ℕ) → startOf tr short (cell tr b) (suc b) ≤ x → (x ≡ b) ⊎ (x < b) → T (accesses tr (cell tr b) x) → T (happensBefore tr (eventOf (at tr x)) (eventOf (at tr b)))
       go x l (inl d) t = subst (λ (y : ℕ). T (happensBefore tr (eventOf (at tr y)) (eventOf (at tr b)))) (sym d) (laws acc .le-refl (eventOf (at tr b)))
       go x l (inr k) t = q x l k t
 
-  pub number-own : (short : Bool) {b : ℕ} → b < 4096 → Upto tr short (cell tr b) b (eventOf (at tr b)) → Number tr short (cell tr b) (b + 1) (b + 1)
-  number-own short {b} h q = number-last short h (λ x l k t. q .tells x (start-rises tr short (cell tr b) b x l k) k t)
+  seen-lost : (short : Bool) → Seen tr short (cell tr b) (b + 1) 1025
+  seen-lost short = record { none = λ e. absurd (omega (arith, e)); upto = λ z h. absurd (omega arith) }
 
-  -- a write of the short list is the start itself
-  pub number-write : {b : ℕ} → b < 4096 → T (writes tr (cell tr b) b) → Number tr true (cell tr b) (b + 1) (b + 1)
-  number-write {b} h t = number-last true h (λ x l k u. absurd (omega (arith, l, start-writes tr (cell tr b) b t)))
+  module _ (kind : ℕ) (e : kind ≡ at tr b .kind) where
+    restart : (short : Bool) → T (short && eqb kind 6) → Seen tr short (cell tr b) (b + 1) (u + 1)
+    restart true t = seen-last true (λ x l k h. absurd (omega (arith, l, start-writes tr (cell tr b) b (and (eqb (cell tr b) (cell tr b)) (isWrite (at tr b)) (eq→eqb (cell tr b) (cell tr b) refl) (subst (λ (k : ℕ). T (eqb k 6)) e t)))))
+    restart false t = absurd t
 
-  -- b's event action comes after that of the last access, or there is none
-  pub upto-ordered : (short : Bool) {b v : ℕ} → Number tr short (cell tr b) b v → v ≤ 4096 → v ≢ 0 → T (happensBefore tr (eventOf (at tr (v - 1))) (eventOf (at tr b))) → Upto tr short (cell tr b) b (eventOf (at tr b))
-  upto-ordered short w h n t = record { tells = λ x l k u. laws acc .le-trans _ _ _ (w .upto h n .tells x l k u) t }
+    pub seen-after : (short ordered : Bool) → (ordered ≡ true → Upto tr short (cell tr b) b (eventOf (at tr b))) → Seen tr short (cell tr b) (b + 1) (seenAfter ordered short kind u)
+    unfolding seenAfter
+    seen-after short true q = seen-last short (λ x l k t. q refl .tells x (start-rises tr short (cell tr b) b x l k) k t)
+    seen-after short false q = go (short && eqb kind 6) refl
+      where
+        go : (p : Bool) → (short && eqb kind 6) ≡ p → Seen tr short (cell tr b) (b + 1) (cond p (u + 1) 1025)
+        go true f = restart short (subst T (sym f) tt)
+        go false f = seen-lost short
 
-  pub upto-none : (short : Bool) {b : ℕ} → Number tr short (cell tr b) b 0 → Upto tr short (cell tr b) b (eventOf (at tr b))
-  upto-none short w = record { tells = λ x l k u. absurd (w .none (omega arith) x (omega arith) k u) }
+-- What the number of b's cell says over filled clocks.
+module _ {tr : List Record} {ranks of : List ℕ} {width : ℕ} {clocks : List ℕ} (f : Filled tr ranks of width clocks) (short : Bool) (b u v : ℕ) (inside : b < length tr) (row : u ≡ rank tr (eventOf (at tr b)) - 1) (w : Seen tr short (cell tr b) b v) where
+  pub seen-rows : v ≢ 0 → v ≤ 1024 → RowsIn of width clocks (v - 1) u
+  seen-rows n h =
+      let (y, l, e, _) = w .upto n h in
+      let x = row-inside f y l in
+      let z = row-inside f b inside in
+      rows-in f (v - 1) u (omega arith) (omega arith)
 
--- In the short list a read leaves the start where it is.
-pub number-start : (tr : List Record) (b : ℕ) → (T (writes tr (cell tr b) b) → ⊥) → {v : ℕ} → v ≡ startOf tr true (cell tr b) b → Number tr true (cell tr b) (b + 1) (v + 4097)
-number-start tr b n {v} e =
-    let f : v + 4097 - 4097 ≡ v = omega arith in
-    rw (add-one b) (record {
-      some = λ z. omega arith;
-      low = λ m. absurd (omega arith);
-      none = λ m x l k u. omega arith;
-      upto = λ m z. absurd (omega arith);
-      start = λ m s. f ∙ (e ∙ sym (start-stays tr true (cell tr b) b n));
-      end = λ m s. absurd s;
-      unwritten = λ m s x l k u. s;
-    })
-
--- In the list of all races, where the cell is not written from v on.
-pub number-end : (tr : List Record) {c i v : ℕ} → 0 < i → v ≤ i → ((x : ℕ) → v ≤ x → x < i → T (writes tr c x) → ⊥) → Number tr false c i (v + 4097)
-number-end tr {c} {i} {v} p h n =
-    let f : v + 4097 - 4097 ≡ v = omega arith in
-    record {
-      some = λ z. p;
-      low = λ m. absurd (omega arith);
-      none = λ m x l k u. omega arith;
-      upto = λ m z. absurd (omega arith);
-      start = λ m s. absurd s;
-      end = λ m s. rw f h;
-      unwritten = λ m s x l k u. n x (rw f at l) k u;
-    }
+  pub ordered-upto : orderedIn of width clocks v u ≡ true → Upto tr short (cell tr b) b (eventOf (at tr b))
+  unfolding orderedIn
+  ordered-upto g = go (eqb v 0) refl (ltb 1024 v) refl g
+    where
+      go : (p : Bool) → eqb v 0 ≡ p → (q : Bool) → ltb 1024 v ≡ q → cond p true (cond q false (compareIn clocks width (getD of (v - 1) 0) (v - 1) u)) ≡ true → Upto tr short (cell tr b) b (eventOf (at tr b))
+      go true d q e g = record { tells = λ x l k t. absurd (w .none (eqb→eq v 0 (subst T (sym d) tt)) x k t) }
+      go false d true e g = absurd (subst T (sym g) tt)
+      go false d false e g =
+          let n : v ≢ 0 = λ z. subst T d (eq→eqb v 0 z) in
+          let (y, l, r, t) = w .upto n (ltb-false 1024 v e) in
+          let h = subst T (sym (sym (rows-before f y b (v - 1) u l inside (ap (λ k. k - 1) r) row) ∙ g)) tt in
+          record { tells = λ x m k s. laws (f .acceptable) .le-trans _ _ _ (t .tells x m k s) h }
 
 -- From i on past records that may not race with an access of cell c.
 module _ (tr : List Record) (least c : ℕ) where
@@ -276,6 +330,17 @@ module _ (tr : List Record) (least c : ℕ) where
       go x l k (inl m) t = v .none x l m t
       go x l k (inr m) t = w .none x m k t
 
+  pub next-here : {from to r q : ℕ} → q ≡ r → r ≤ to → Past tr least c from r → mayRace tr least c q ≡ true → NextAccess tr least c from to r
+  next-here {from} {to} {r} e h w t = record { high = h; past = w; found = λ l. subst (λ (x : ℕ). T (mayRace tr least c x)) e (subst T (sym t) tt) }
+
+  pub next-none : {from to r : ℕ} → r ≡ to → Past tr least c from r → NextAccess tr least c from to r
+  next-none e w = record { high = omega arith; past = w; found = λ l. absurd (omega arith) }
+
+  pub next-on : {from i to end r : ℕ} → Past tr least c from i → NextAccess tr least c i end r → end ≤ to → (r ≡ end → end ≡ to) → NextAccess tr least c from to r
+  next-on {from} {i} {to} {end} {r} v w l q =
+      let h = w .high in
+      record { high = omega arith; past = past-on v (w .past); found = λ k. w .found (let g : r ≡ end → ⊥ = λ (e : r ≡ end). let z = q e in omega arith in omega (arith, g)) }
+
 -- what races with b is such a record
 pub race-may : (tr : List Record) (a b : ℕ) (least : ℕ) → least ≡ leastKind (at tr b .kind) → T (raceb (settingOf tr) a b) → T (mayRace tr least (cell tr b) a)
 unfolding mayRace leastKind
@@ -293,9 +358,9 @@ race-may tr a b least f t = let r = racing tr a b t in and (eqb (cell tr a) (cel
     go false e (inl u) w = high 5 (omega (arith, eqb→eq k 5 u))
     go false e (inr u) w = high 5 (omega (arith, eqb→eq k 6 u))
 
--- On the way to b that is the next one.
-pub next-jump : (tr : List Record) {a b to r : ℕ} {least c : ℕ} → to ≤ b → c ≡ cell tr b → least ≡ leastKind (at tr b .kind) → r ≤ to → Past tr least c (a + 1) r → Jump tr b a r
-next-jump tr {a} {b} {to} {r} {least} {c} h e f m w = record { ahead = omega (arith, w .low); high = omega arith; none = λ x l k t. w .none x (omega arith) k (rw e (race-may tr x b least f t)) }
+-- so no record that is passed races with b
+pub past-quiet : (tr : List Record) {i r least c : ℕ} (b : ℕ) → c ≡ cell tr b → least ≡ leastKind (at tr b .kind) → Past tr least c i r → (x : ℕ) → i ≤ x → x < r → T (raceb (settingOf tr) x b) → ⊥
+past-quiet tr {i} {r} {least} b e f w x l k t = w .none x l k (rw e (race-may tr x b least f t))
 
 -- a record of an acceptable trace that is none of the first four kinds is an access
 pub kind-access : {tr : List Record} (a : Acceptable tr) (i : ℕ) → i < length tr → 5 ≤ at tr i .kind → T (isAccess (at tr i))
@@ -324,3 +389,50 @@ kind-access {tr} a i h l = go (leb (at tr i .kind) 6) refl
 
 pub kind-no-access : (r : Record) → r .kind < 5 → isAccess r ≡ false
 kind-no-access r l = rw (ne-eqb (r .kind) 5 (λ e. omega arith), ne-eqb (r .kind) 6 (λ e. omega arith)) refl
+
+-- The rank of an access is the number of begins before it.
+module _ {tr : List Record} (acc : Acceptable tr) where
+  access-kinds : (b : ℕ) → T (isAccess (at tr b)) → (at tr b .kind ≢ 1) × (at tr b .kind ≢ 4)
+  access-kinds b t = go (access-kind (at tr b) t)
+    where
+      go : (at tr b .kind ≡ 5) ⊎ (at tr b .kind ≡ 6) → (at tr b .kind ≢ 1) × (at tr b .kind ≢ 4)
+      go (inl e) = (λ z. omega arith, λ z. omega arith)
+      go (inr e) = (λ z. omega arith, λ z. omega arith)
+
+  pub access-rank : (b : ℕ) → b < length tr → T (isAccess (at tr b)) → rank tr (eventOf (at tr b)) ≡ counted tr b
+  access-rank b h t =
+      let (n, m) = access-kinds b t in
+      let f = body-after-begin acc b h n m in
+      let p = f .at-position in
+      let k : at tr p .kind ≡ 1 = eqb→eq (at tr p .kind) 1 (subst T (sym (f .passes)) tt) in
+      let e : rank tr (eventOf (at tr b)) ≡ counted tr p + 1 = ap (rank tr) (sym (f .event)) ∙ ranked acc p (omega (arith, f .earlier)) k in
+      let q : suc p + (b - suc p) ≡ b = omega (arith, f .earlier) in
+      e ∙ sym (counted-begin tr p k) ∙ sym (rw q at (stays p (f .earlier) k (f .event) (b - suc p) (omega arith)))
+    where
+      -- no begin stands between
+      stays : (p : ℕ) → p < b → at tr p .kind ≡ 1 → eventOf (at tr p) ≡ eventOf (at tr b) → (d : ℕ) → suc p + d ≤ b → counted tr (suc p + d) ≡ counted tr (suc p)
+      stays p l k e zero q = let z : suc p + 0 ≡ suc p = omega arith in rw z refl
+      stays p l k e (suc d) q = let z : suc p + suc d ≡ suc (suc p + d) = omega arith in rw z (counted-other tr (suc p + d) (λ x. omega (arith, begins-once acc p (suc p + d) (omega arith) (omega arith) k x (e ∙ sym (contiguous acc p (suc p + d) b (omega arith) (omega arith) h e ∙ e)))) ∙ stays p l k e d (omega arith))
+
+  pub access-ranked : (b : ℕ) → b < length tr → rank tr (eventOf (at tr b)) ≢ 0
+  access-ranked b h z = omega (arith, begins-rank acc (record-begins acc b h), z)
+
+-- begins counted one record after the other
+module _ (tr : List Record) where
+  pub counted-le : (i : ℕ) → counted tr i ≤ i
+  counted-le zero = omega (arith, counted-zero tr)
+  counted-le (suc i) = go (ℕ-discrete (at tr i .kind) 1) (counted-le i)
+    where
+      go : Dec (at tr i .kind ≡ 1) → counted tr i ≤ i → counted tr (suc i) ≤ suc i
+      go (yes k) l = omega (arith, counted-begin tr i k)
+      go (no n) l = omega (arith, counted-other tr i n)
+
+  pub begun-next : (b : ℕ) {kind begun r : ℕ} → kind ≡ at tr b .kind → begun ≡ counted tr b → r ≡ cond (eqb kind 1) (begun + 1) begun → r ≡ counted tr (b + 1)
+  begun-next b {kind} {begun} {r} e f g = rw (add-one b) (go (ℕ-discrete kind 1))
+    where
+      go : Dec (kind ≡ 1) → r ≡ counted tr (suc b)
+      go (yes k) = omega (arith, counted-begin tr b (sym e ∙ k), rw (eq-eqb kind 1 k) at g)
+      go (no n) = omega (arith, counted-other tr b (λ z. n (e ∙ z)), rw (ne-eqb kind 1 n) at g)
+
+  pub access-begun : (b : ℕ) → 5 ≤ at tr b .kind → counted tr (b + 1) ≡ counted tr b
+  access-begun b l = rw (add-one b) (counted-other tr b (λ z. omega arith))

@@ -1,33 +1,41 @@
 -- The search for a cover: the next race is found, and the races found are a cover. Assumes nothing.
-use Prim.Native.Nat.{ℕ, zero, suc, _+_, _*_, _-_, _≤_, _<_}
-use mathlib.Core.Path.{_≡_, refl, sym, ap, _∙_, subst}
+use Prim.Native.Nat.{ℕ, _+_, _*_, _-_, _≤_, _<_}
+use mathlib.Core.Path.{_≡_, refl, sym, ap, ap₂, _∙_, subst}
 use mathlib.Core.Logic.{_≢_, _⊎_, inl, inr}
-use mathlib.Core.Bool.{Bool, true, false, _&&_}
-use mathlib.Core.List.{List, [], _∷_, _++_, map, append-assoc}
+use mathlib.Core.Bool.{Bool, true, false, not, _&&_}
+use mathlib.Core.List.{List, [], _∷_, _++_, append-assoc}
 use native.Mathlib.Omega.{arith}
 use native.Mathlib.Decide.{ℕ-discrete}
 use lib.Dec.{T}
-use lib.ListN.{length, set, length-append, length-map}
+use lib.ListN.{length, getD, set, length-append, length-map}
 use Rattle.records.specs.declared.Record.{Record}
 use Rattle.records.specs.Records.{at, eventOf}
 use Rattle.trace.specs.Reading.{Acceptable}
 use Rattle.records.proofs.Positions.{lt-or-ge}
 use Rattle.order.specs.HappensBefore.{rank, happensBefore}
+use Rattle.order.specs.Fill.{eventsIn}
 use Rattle.coverage.specs.Race.{before, Race, raceb}
 use Rattle.coverage.specs.Cover.{CoversFrom, one, more}
 use Rattle.coverage.specs.Leading.{leads, coveredb}
 use Rattle.coverage.proofs.Tests.{both, and}
-use Rattle.coverage.proofs.Order.{le-before, before-le, race-of, of-race, race-not-le, race-apart, race-after}
+use Rattle.coverage.proofs.Order.{le-before, before-le, race-of, of-race, race-apart, race-after}
 use Rattle.coverage.proofs.Theorems.{cover-next}
 use Rattle.coverage.proofs.Leads.{le-leads}
 use Rattle.races.specs.Traces.{settingOf}
-use Rattle.races.specs.Leading.{rows}
-use Rattle.races.specs.Pair.{flat, withEntries, raceEntry, raceEntries, GivesCover}
-use Rattle.races.specs.LeadingPass.{Starts}
-use Rattle.races.specs.PairSearch.{racesFrom, First, NoRace, Sought, Next, Written}
+use Rattle.races.specs.Leading.{mark, rows}
+use Rattle.races.specs.Filled.{Filled, RowsIn}
+use Rattle.races.specs.ListPass.{Marks}
+use Rattle.races.specs.Candidates.{cell, leastKind, mayRace, Past, NextAccess}
+use Rattle.races.specs.Pair.{raceEntry, raceEntries, GivesCover}
+use Rattle.races.specs.Kept.{rowOf, Starts}
+use Rattle.races.specs.PairSearch.{racesFrom, First, NoneFrom, FirstFrom, goesOn, NoRace, Sought, Next, Written}
 use Rattle.races.proofs.Instance.{laws}
-use Rattle.races.proofs.NoteLaws.{starts-parted}
-use Rattle.races.proofs.PairEntries.{flat-length, no-entries, entries-room, put-more, rank-rises, rank-some, rank-few}
+use Rattle.races.proofs.RecordRows.{starts-parted, rank-rises, rank-some, rank-few, row-low}
+use Rattle.races.proofs.RowMarks.{marks-tell}
+use Rattle.races.proofs.FilledLaws.{rank-is, rows-in, rows-before}
+use Rattle.races.proofs.CandidateLaws.{racing, past-quiet, kind-access, kind-no-access}
+use Rattle.races.proofs.ListLaws.{may-race, may-found}
+use Rattle.races.proofs.PairEntries.{no-entries, entries-room, put-more}
 
 module _ {tr : List Record} (a : Acceptable tr) (b : ℕ) (inside : b < length tr) where
   abbrev ev : ℕ → ℕ
@@ -41,30 +49,6 @@ module _ {tr : List Record} (a : Acceptable tr) (b : ℕ) (inside : b < length t
   of-parts : (t c d : ℕ) → Race (settingOf tr) c d → T (happensBefore tr (ev t) (ev c)) → T (racesFrom tr t c d)
   unfolding racesFrom
   of-parts t c d r h = and (raceb (settingOf tr) c d) (happensBefore tr (ev t) (ev c)) (of-race (settingOf tr) c d r) h
-
-  module _ (lo t d : ℕ) where
-    pub first-apart : leads (settingOf tr) b (ev d) ≡ false → First tr b lo t d d
-    first-apart e = record { found = λ l. absurd (omega arith); none = λ l x m h. absurd (subst T e h) }
-
-    -- none from lo on, before c
-    abbrev pub Missing : ℕ → Type 0
-    Missing c = (lo ≤ c) × ((x : ℕ) → lo ≤ x → x < c → T (racesFrom tr t x d) → ⊥)
-
-    pub missing-start : Missing lo
-    missing-start = (omega arith, λ x l k. absurd (omega arith))
-
-    pub missing-next : (c : ℕ) → Missing c → racesFrom tr t c d ≡ false → Missing (c + 1)
-    missing-next c m e = (omega (arith, m .0), λ x l k h. go x l k h (ℕ-discrete x c))
-      where
-        go : (x : ℕ) → lo ≤ x → x < c + 1 → T (racesFrom tr t x d) → Dec (x ≡ c) → ⊥
-        go x l k h (yes z) = subst T (ap (λ (y : ℕ). racesFrom tr t y d) z ∙ e) h
-        go x l k h (no n) = m .1 x l (omega arith) h
-
-    pub first-found : (c : ℕ) → leads (settingOf tr) b (ev d) ≡ true → racesFrom tr t c d ≡ true → c < d → First tr b lo t d c
-    first-found c e f l = record { found = λ _. (subst T (sym e) tt, subst T (sym f) tt); none = λ k. absurd (omega arith) }
-
-    pub first-none : (c : ℕ) → d ≤ c → Missing c → First tr b lo t d c
-    first-none c l m = record { found = λ k. absurd (omega arith); none = λ k x n h r. let p = parts t x d r .0 .first in m .1 x n (omega arith) r }
 
   module _ (t lo : ℕ) where
     pub no-race-start : NoRace tr b lo t lo
@@ -104,6 +88,91 @@ module _ {tr : List Record} (a : Acceptable tr) (b : ℕ) (inside : b < length t
 
         go : (c d : ℕ) × Race (settingOf tr) c d × T (happensBefore tr (ev t) (ev c)) × (d < b) × (T (before (settingOf tr) d b) ⊎ (T (leads (settingOf tr) b (ev d)) × (T (happensBefore tr (ev d) (ev b)) → ⊥))) → ⊥
         go (x, y, r, h, l, w) = n x y (later x (omega (arith, r .first)) h) (omega arith) (leading y w) (of-parts t x y r h)
+
+-- the row that the code finds
+pub row-told : {tr : List Record} {ranks of : List ℕ} {width : ℕ} {clocks : List ℕ} (f : Filled tr ranks of width clocks) (x : ℕ) → x < length tr → {r : ℕ} → r ≡ getD ranks (eventOf (at tr x)) 0 - 1 → rowOf tr x ≡ r
+row-told f x h e = sym (e ∙ ap (λ (k : ℕ). k - 1) (rank-is f x h))
+
+-- The first record that so races with d, looked for along the accesses of its cell.
+module _ {tr : List Record} {ranks of : List ℕ} {width : ℕ} {clocks : List ℕ} (f : Filled tr ranks of width clocks) (lo t d : ℕ) (inside : d < length tr) where
+  abbrev acc : Acceptable tr
+  acc = f .acceptable
+
+  first-none : (b x c : ℕ) → d ≤ c → ((y : ℕ) → lo ≤ y → y < d → T (leads (settingOf tr) b (eventOf (at tr d))) → T (racesFrom tr x y d) → ⊥) → First tr b lo x d c
+  first-none b x c l n = record { found = λ k. absurd (omega arith); none = λ _ y m h r. n y m (parts acc d inside x y d r .0 .first) h r }
+
+  -- d is no access
+  pub from-no-access : (work : List ℕ) → at tr d .kind < 5 → FirstFrom tr ranks work lo t d d
+  from-no-access work l b x m h e = first-none b x d (omega arith) (λ y k i q r. subst T (kind-no-access (at tr d) l) (racing tr y d (of-race (settingOf tr) y d (parts acc d inside x y d r .0)) .second))
+
+  -- or its event action is not marked
+  row-of-d : (u : ℕ) → u ≡ getD ranks (eventOf (at tr d)) 0 - 1 → u ≡ rowOf tr d
+  row-of-d u e = sym (row-told f d inside e)
+
+  marked : (work : List ℕ) (u : ℕ) → u ≡ getD ranks (eventOf (at tr d)) 0 - 1 → (b : ℕ) → Marks tr ranks work b → getD work u 0 ≡ mark (leads (settingOf tr) b (eventOf (at tr d)))
+  marked work u e b m = ap (λ (r : ℕ). getD work r 0) (row-of-d u e) ∙ marks-tell m d inside
+
+  pub from-unmarked : (work : List ℕ) (u : ℕ) → u ≡ getD ranks (eventOf (at tr d)) 0 - 1 → getD work u 0 ≡ 0 → FirstFrom tr ranks work lo t d d
+  from-unmarked work u e z b x m h k = first-none b x d (omega arith) (λ y i j q r. no (leads (settingOf tr) b (eventOf (at tr d))) (sym z ∙ marked work u e b m) q)
+    where
+      no : (v : Bool) → 0 ≡ mark v → T v → ⊥
+      no true z q = omega arith
+      no false z q = q
+
+  -- Along the accesses of its cell that may race with it, at c: none before has raced so.
+  pub record Along (work : List ℕ) (u x least c : ℕ) : Type 0 where
+    pub cell-is : x ≡ cell tr d
+    pub least-is : least ≡ leastKind (at tr d .kind)
+    pub access : 5 ≤ at tr d .kind
+    pub row-is : u ≡ getD ranks (eventOf (at tr d)) 0 - 1
+    pub marked-is : getD work u 0 ≢ 0
+    pub high : c ≤ d
+    pub may : c < d → T (mayRace tr least x c)
+    pub none : NoneFrom tr t lo d c
+
+  -- none that is passed races with d
+  passed-none : {least c i r : ℕ} → c ≡ cell tr d → least ≡ leastKind (at tr d .kind) → Past tr least c i r → (x y : ℕ) → i ≤ y → y < r → T (racesFrom tr x y d) → ⊥
+  passed-none e g p x y l k t = past-quiet tr d e g p y l k (of-race (settingOf tr) y d (parts acc d inside x y d t .0))
+
+  pub along-start : {work : List ℕ} {u x least c : ℕ} → x ≡ cell tr d → least ≡ leastKind (at tr d .kind) → 5 ≤ at tr d .kind → u ≡ getD ranks (eventOf (at tr d)) 0 - 1 → getD work u 0 ≢ 0 → NextAccess tr least x lo d c → Along work u x least c
+  along-start e g five eu m n = record { cell-is = e; least-is = g; access = five; row-is = eu; marked-is = m; high = n .high; may = n .found; none = λ x y h q l k. passed-none e g (n .past) x y l k }
+
+  module _ {work : List ℕ} {u x least c : ℕ} (n : Along work u x least c) where
+    pub along-end : d ≤ c → FirstFrom tr ranks work lo t d c
+    along-end l b y m h q = first-none b y c l (λ z k i _ r. n .none y z h q k (omega arith) r)
+
+    -- the test of c, of row s
+    module _ (l : c < d) {s : ℕ} (es : s ≡ getD ranks (eventOf (at tr c)) 0 - 1) where
+      inside-c : c < length tr
+      inside-c = omega arith
+
+      row-c : s ≡ rowOf tr c
+      row-c = sym (row-told f c inside-c es)
+
+      pub along-rows : t < rows tr → RowsIn of width clocks s u × RowsIn of width clocks t s
+      unfolding eventsIn
+      along-rows k = (rows-in f s u (omega (arith, row-c, row-low acc c inside-c)) (omega (arith, row-of-d u (n .row-is), row-low acc d inside)), rows-in f t s k (omega (arith, row-c, row-low acc c inside-c)))
+
+      told : (y : ℕ) → y < length tr → rowOf tr y ≡ t → racesFrom tr y c d ≡ goesOn of width clocks t s u
+      unfolding racesFrom goesOn
+      told y h q = ap₂ _&&_
+          (may-race tr acc c d l inside (kind-access acc d inside (n .access)) (may-found tr c d (n .cell-is) (n .least-is) (n .may l)) ∙ ap not (sym (rows-before f c d s u inside-c inside row-c (row-of-d u (n .row-is)))))
+          (sym (rows-before f y c t s h inside-c (sym q) row-c))
+
+      pub along-found : goesOn of width clocks t s u ≡ true → FirstFrom tr ranks work lo t d c
+      along-found v b y m h q = record { found = λ k. (leading (leads (settingOf tr) b (eventOf (at tr d))) (marked work u (n .row-is) b m), subst T (sym (told y h q ∙ v)) tt); none = λ k. absurd (omega arith) }
+        where
+          leading : (v : Bool) → getD work u 0 ≡ mark v → T v
+          leading true z = tt
+          leading false z = absurd (n .marked-is z)
+
+      pub along-next : {r : ℕ} → goesOn of width clocks t s u ≡ false → NextAccess tr least x (c + 1) d r → Along work u x least r
+      along-next {r} off p = record { cell-is = n .cell-is; least-is = n .least-is; access = n .access; row-is = n .row-is; marked-is = n .marked-is; high = p .high; may = p .found; none = λ y z h q m k w. go y z h q m k w (lt-or-ge z c) (lt-or-ge c z) }
+        where
+          go : (y z : ℕ) → y < length tr → rowOf tr y ≡ t → lo ≤ z → z < r → T (racesFrom tr y z d) → (z < c) ⊎ (c ≤ z) → (c < z) ⊎ (z ≤ c) → ⊥
+          go y z h q m k w (inl i) _ = n .none y z h q m i w
+          go y z h q m k w (inr i) (inl j) = passed-none (n .cell-is) (n .least-is) (p .past) y z (omega arith) k w
+          go y z h q m k w (inr i) (inr j) = let e : z ≡ c = omega arith in subst T (told y h q ∙ off) (subst (λ (o : ℕ). T (racesFrom tr y o d)) e w)
 
 race-snoc : (es : List (ℕ × ℕ)) (c d : ℕ) → raceEntries (es ++ (c, d) ∷ []) ≡ raceEntries es ++ (c + 1, d + 1) ∷ []
 unfolding raceEntries

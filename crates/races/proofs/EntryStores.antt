@@ -1,26 +1,24 @@
 -- Entries stored one after the other.
 -- Assumes nothing.
 use Prim.Native.Nat.{ℕ, zero, suc, _+_, _*_, _-_, _≤_, _<_}
-use mathlib.Core.Path.{_≡_, refl, sym, ap, ap₂, _∙_, subst}
+use mathlib.Core.Path.{_≡_, refl, sym, ap, _∙_, subst}
 use mathlib.Core.Bool.{Bool, true, false, cond, _&&_}
-use mathlib.Core.List.{List, [], _∷_, _++_, append-assoc, append-nil, map}
-use mathlib.Core.Logic.{_⊎_, inl, inr}
-use Rattle.records.proofs.Positions.{lt-or-ge}
-use lib.Dec.{T}
+use mathlib.Core.List.{List, [], _∷_, _++_, append-assoc, append-nil}
+use lib.Dec.{T, eqb}
 use native.Mathlib.Omega.{arith}
 use native.Mathlib.Nat.{add-zero}
 use native.Mathlib.Numerals.{add-one}
-use lib.ListN.{length, set, length-append, length-map}
+use lib.ListN.{length, getD, set, length-append, length-map}
 use lib.Seq.{sets, length-sets}
 use Rattle.records.specs.declared.Record.{Record}
-use Rattle.records.specs.Records.{at}
+use Rattle.records.specs.Records.{at, eventOf}
 use Rattle.coverage.specs.Race.{raceb}
 use Rattle.races.specs.Traces.{isAccess, settingOf}
 use Rattle.races.specs.Lists.{shapeOf}
-use Rattle.races.specs.Candidates.{Jump, Range}
-use Rattle.races.specs.ListPass.{fromOf, firsts, withSecond, pairsBelow, raw, raws, entryIf, OneWrites, RoomIf, Writes, WritesAll, Ranges}
-use Rattle.races.proofs.CandidateLaws.{racing}
-use Rattle.races.proofs.ListLaws.{firsts-start, firsts-yes, firsts-no, firsts-grow, firsts-skip, firsts-empty, firsts-length, below-none, below-more, below-length}
+use Rattle.races.specs.Candidates.{cell, Upto, Seen, Tables, orderedIn, seenAfter, wayFrom, wayTo, Range}
+use Rattle.races.specs.ListPass.{fromOf, firsts, withSecond, pairsBelow, raw, raws, entryIf, Second, OneWrites, RoomIf, Writes, WritesAll, Ranges}
+use Rattle.races.proofs.CandidateLaws.{racing, cell-low, tables-next, seen-after, ordered-upto}
+use Rattle.races.proofs.ListLaws.{firsts-start, firsts-yes, firsts-no, firsts-grow, firsts-skip, firsts-empty, firsts-length, below-none, below-more, below-length, quiet, way-found}
 
 pub five-stores : (l : List ℕ) (i a b c d e : ℕ) → set (set (set (set (set l i a) (i + 1) b) (i + 2) c) (i + 3) d) (i + 4) e ≡ sets l i (a ∷ b ∷ c ∷ d ∷ e ∷ [])
 five-stores l i a b c d e =
@@ -145,26 +143,22 @@ module _ {writing : Bool} {tr : List Record} {b from k : ℕ} {list₀ list : Li
     high = omega arith;
   }
 
-  -- on to the next access of the cell
-  pub writing-jump : {p : ℕ} → a ≡ p + 1 → {r : ℕ} → Jump tr b p r → Writing writing tr b from k list₀ list next r
-  writing-jump {p} e {r} j =
-      let l = j .ahead in
+  -- past records that do not race with b
+  pub writing-past : {r : ℕ} → a ≤ r → r ≤ b → ((x : ℕ) → a ≤ x → x < r → T (raceb (settingOf tr) x b) → ⊥) → Writing writing tr b from k list₀ list next r
+  writing-past {r} l h n =
       let m = w .low in
-      let f = firsts-skip tr from b a r (omega arith) (λ x u v. j .none x (omega arith) v) in
+      let f = firsts-skip tr from b a r l n in
       record {
         next-is = w .next-is ∙ ap (λ xs. k + length xs) (sym f);
         list-is = w .list-is ∙ ap (λ xs. cond writing (sets list₀ (5 * k) (raws tr (withSecond tr b xs))) list₀) (sym f);
         low = omega arith;
-        high = j .high;
+        high = h;
       }
 
   pub writing-end : {to : ℕ} → to ≤ a → Range tr b from to → Writes writing tr b from k list₀ list next
   writing-end {to} h g =
       let f = firsts-skip tr from b a b (w .high) (λ x l m. g .none x (omega arith) m) in
       record { next = w .next-is ∙ ap (λ xs. k + length xs) (sym f); list-is = w .list-is ∙ ap (λ xs. cond writing (sets list₀ (5 * k) (raws tr (withSecond tr b xs))) list₀) (sym f) }
-
-pub writing-next : {writing : Bool} {tr : List Record} {b from k : ℕ} {list₀ list : List ℕ} {next a : ℕ} → Writing writing tr b from k list₀ list next a → a < b → (list′ : List ℕ) (r : ℕ) → OneWrites writing tr a b next list list′ r → (a′ : ℕ) → Jump tr b a a′ → Writing writing tr b from k list₀ list′ r a′
-writing-next w l list′ r o a′ j = writing-jump (writing-one w l list′ r o) refl j
 
 -- a second access without races has no entries
 pub no-entries : (writing : Bool) {tr : List Record} {b from : ℕ} (k : ℕ) (list : List ℕ) → ((x : ℕ) → from ≤ x → x < b → T (raceb (settingOf tr) x b) → ⊥) → Writes writing tr b from k list list k
@@ -250,3 +244,26 @@ module _ {writing : Bool} {tr : List Record} {short : Bool} {list₀ list : List
       let u = w .within in
       let e : b ≡ length tr = omega arith in
       record { count = w .next-is ∙ ap (λ i. length (pairsBelow tr short i)) e; list-is = w .list-is ∙ ap (λ i. cond writing (sets list₀ 0 (raws tr (pairsBelow tr short i))) list₀) e }
+
+-- One access: what its cell's numbers say, and what becomes of them.
+module _ {tr : List Record} {ranks of : List ℕ} {width : ℕ} {clocks : List ℕ} {b u : ℕ} (s : Second tr ranks of width clocks b u) {short : Bool} {seen written : List ℕ} (w : Tables tr short b seen written)
+    {kind c : ℕ} {ordered : Bool} (ek : kind ≡ at tr b .kind) (ec : c ≡ cell tr b) (eo : ordered ≡ orderedIn of width clocks (getD seen c 0) u) where
+  low : cell tr b < 1025
+  low = cell-low (s .filled .acceptable) b (s .inside)
+
+  told : Seen tr short (cell tr b) b (getD seen c 0)
+  told = rw ec (w .tells (cell tr b) low)
+
+  all-before : ordered ≡ true → Upto tr short (cell tr b) b (eventOf (at tr b))
+  all-before h = ordered-upto (s .filled) short b u (getD seen c 0) (s .inside) (s .row) told (sym eo ∙ h)
+
+  pub access-tables : (seen′ written′ : List ℕ) → seen′ ≡ set seen c (seenAfter ordered short kind u) → written′ ≡ cond (eqb kind 6) (set written c (b + 1)) written → Tables tr short (b + 1) seen′ written′
+  access-tables seen′ written′ p q =
+      tables-next tr short b (seenAfter ordered short kind u) seen written low w (seen-after (s .filled .acceptable) b u (s .inside) (s .row) kind ek short ordered all-before) kind ek seen′ written′
+      (p ∙ ap (λ x. set seen x (seenAfter ordered short kind u)) ec) (q ∙ ap (λ x. cond (eqb kind 6) (set written x (b + 1)) written) ec)
+
+  pub access-quiet : ordered ≡ true → (writing : Bool) (k : ℕ) (list : List ℕ) → Writes writing tr b (fromOf tr short b) k list list k
+  access-quiet h writing k list = no-entries writing k list (quiet tr (s .filled .acceptable) short (all-before h))
+
+  pub access-way : (from to : ℕ) → from ≡ wayFrom short (getD written c 0) → to ≡ wayTo kind (getD written c 0) b → Ranges tr short b from to
+  access-way from to p q = let e = ap (λ x. getD written x 0) ec ∙ w .last (cell tr b) low in way-found tr b kind ek short from to (p ∙ ap (wayFrom short) e) (q ∙ ap (λ x. wayTo kind x b) e)

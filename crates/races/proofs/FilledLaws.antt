@@ -1,6 +1,6 @@
 -- Filled clocks answer for the records of a trace.
 -- Assumes nothing.
-use Prim.Native.Nat.{ℕ, zero, suc, _+_, _-_, _≤_, _<_}
+use Prim.Native.Nat.{ℕ, zero, suc, _+_, _*_, _-_, _≤_, _<_}
 use mathlib.Core.Path.{_≡_, refl, sym, ap, _∙_, subst}
 use mathlib.Core.Bool.{Bool, true, false, not, cond, _&&_}
 use mathlib.Core.List.{List, _++_}
@@ -15,10 +15,12 @@ use Rattle.ranks.proofs.RankLaws.{ranks-many}
 use Rattle.clocks.specs.Rows.{compareIn}
 use Rattle.order.specs.Clocks.{table, chainOf}
 use Rattle.order.specs.HappensBefore.{rank, traceLinks, happensBefore}
-use Rattle.order.specs.Fill.{eventsIn, chainTable}
+use Rattle.order.specs.Links.{leq}
+use Rattle.order.specs.Fill.{eventsIn, shortRow, chainTable, traceClocks}
 use Rattle.order.specs.Compared.{compared}
 use Rattle.order.proofs.RankLaws.{ranks-are}
-use Rattle.order.proofs.RowLaws.{table-length}
+use Rattle.order.proofs.ChainLaws.{chain-below, needs-none}
+use Rattle.order.proofs.RowLaws.{table-length, clocks-length, place}
 use Rattle.order.proofs.TraceOrder.{record-begins, begins-rank}
 use Rattle.order.proofs.TableLaws.{rank-row, events-few, chain-at}
 use Rattle.order.proofs.ComparedLaws.{compared-before}
@@ -26,7 +28,7 @@ use Rattle.coverage.specs.Race.{before, raceb}
 use Rattle.coverage.specs.Neighbours.{conflicts}
 use Rattle.races.specs.Traces.{cellsOf, settingOf, conflict, clash}
 use Rattle.coverage.proofs.Tests.{eq→eqb}
-use Rattle.races.specs.Filled.{Filled}
+use Rattle.races.specs.Filled.{Filled, RowsIn}
 
 module _ {tr : List Record} {ranks of : List ℕ} {width : ℕ} {clocks : List ℕ} (f : Filled tr ranks of width clocks) where
   abbrev ev : ℕ → ℕ
@@ -62,6 +64,30 @@ module _ {tr : List Record} {ranks of : List ℕ} {width : ℕ} {clocks : List �
       let c : getD of (rank tr (ev a) - 1) 0 ≡ chainOf (traceLinks tr) (rank tr (ev a) - 1) = ap (λ o. getD o (rank tr (ev a) - 1) 0) (f .of-are) ∙ chain-at (f .acceptable) (rank tr (ev a) - 1) (row-inside a h) in
       rw (rank-is a h, rank-is b k, c, f .clocks-are) (compared-before (f .acceptable) width (f .enough) (f .rest) (ev a) (ev b) (has-rank a h) (has-rank b k))
 
+  -- the chain of a row has its place in the width
+  pub chain-fits : (r : ℕ) → r < eventsIn tr → getD of r 0 < width
+  unfolding shortRow
+  chain-fits r h =
+      let c : getD of r 0 ≡ chainOf (traceLinks tr) r = ap (λ o. getD o r 0) (f .of-are) ∙ chain-at (f .acceptable) r h in
+      let u = needs-none (leq (traceLinks tr)) width (eventsIn tr) .0 (f .enough) in
+      omega (arith, chain-below (leq (traceLinks tr)) r (eventsIn tr) h)
+
+  pub clocks-hold : eventsIn tr * width ≤ length clocks
+  unfolding traceClocks
+  clocks-hold = omega (arith, ap length (f .clocks-are), length-append (traceClocks tr width) (f .rest), clocks-length (traceLinks tr) width (eventsIn tr))
+
+  -- rows that have begun stand in the clocks
+  pub rows-in : (t u : ℕ) → t < eventsIn tr → u < eventsIn tr → RowsIn of width clocks t u
+  rows-in t u h k = record {
+    known = omega (arith, of-length, events-few (f .acceptable));
+    own = omega (arith, clocks-hold, place width (eventsIn tr) t (getD of t 0) h (chain-fits t h));
+    other = omega (arith, clocks-hold, place width (eventsIn tr) u (getD of t 0) k (chain-fits t h));
+  }
+
+  -- over filled clocks rows say what happens before what
+  pub rows-before : (a b t u : ℕ) → a < length tr → b < length tr → t ≡ rank tr (ev a) - 1 → u ≡ rank tr (ev b) - 1 → compareIn clocks width (getD of t 0) t u ≡ happensBefore tr (ev a) (ev b)
+  rows-before a b t u h k d e = rw (d, e) (rw (rank-is a h, rank-is b k) at (before-is a b h k))
+
 -- a race, by its parts
 pub conflict-is : (tr : List Record) (a b : ℕ) → conflict (at tr a) (at tr b) ≡ conflicts (cellsOf tr) a b
 unfolding conflict conflicts
@@ -72,11 +98,11 @@ module _ (tr : List Record) (a b : ℕ) (l : a < b) (h : b < length tr) where
   unfolding raceb
   no-conflict c = rw (lt-ltb a b l, lt-ltb b (length tr) h, ← conflict-is tr a b, c)
 
-  same-event : conflict (at tr a) (at tr b) ≡ true → eventOf (at tr a) ≡ eventOf (at tr b) → raceb (settingOf tr) a b ≡ false
+  pub same-event : conflict (at tr a) (at tr b) ≡ true → eventOf (at tr a) ≡ eventOf (at tr b) → raceb (settingOf tr) a b ≡ false
   unfolding raceb before
   same-event c e = rw (lt-ltb a b l, lt-ltb b (length tr) h, ← conflict-is tr a b, c, eq-eqb _ _ e)
 
-  other-event : conflict (at tr a) (at tr b) ≡ true → eventOf (at tr a) ≢ eventOf (at tr b) → raceb (settingOf tr) a b ≡ not (happensBefore tr (eventOf (at tr a)) (eventOf (at tr b)))
+  pub other-event : conflict (at tr a) (at tr b) ≡ true → eventOf (at tr a) ≢ eventOf (at tr b) → raceb (settingOf tr) a b ≡ not (happensBefore tr (eventOf (at tr a)) (eventOf (at tr b)))
   unfolding raceb before
   other-event c n = rw (lt-ltb a b l, lt-ltb b (length tr) h, ← conflict-is tr a b, c, ne-eqb _ _ n)
 

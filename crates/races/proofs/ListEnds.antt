@@ -9,7 +9,7 @@ use native.Mathlib.Omega.{arith}
 use borrow.Author.Tests.{le-leb, lt-leb}
 use lib.Dec.{leb, eqb}
 use lib.ListN.{length, drop, replicate}
-use lib.Seq.{sets, sets-eq}
+use lib.Seq.{sets, sets-eq, drop-at}
 use Rattle.records.specs.declared.Record.{Record}
 use Rattle.records.specs.declared.Trace.{Trace}
 use Rattle.records.specs.Bytes.{decode, part}
@@ -17,22 +17,24 @@ use Rattle.trace.specs.Reading as reading
 use Rattle.trace.specs.Reading.{Reply, recordsIn, readReply}
 use Rattle.clocks.specs.Rows.{spaceFor}
 use Rattle.order.specs.Fill as fill
-use Rattle.order.specs.Fill.{shortRow, beginPosition, chainsUsed}
+use Rattle.order.specs.Fill.{eventsIn, shortRow, beginPosition, chainsUsed}
 use Rattle.order.specs.Prepare.{prepareTrace}
 use Rattle.order.specs.Paper.{fillPaper, Prepares}
 use Rattle.order.specs.declared.Filling.{Filling}
 use Rattle.order.proofs.EntryLaws.{records-are}
-use Rattle.order.proofs.PrepareLaws.{refused-reply, refused-trace, refused-clocks, accepted-reply, accepted-trace}
+use Rattle.order.proofs.PrepareLaws.{none-asked, refused-reply, refused-trace, refused-clocks, accepted-reply, accepted-trace}
 use Rattle.races.specs.declared.Listing.{Listing}
 use Rattle.races.specs.Lists.{pairsOf, numbers, ListReply, refused, listed, demand, listFilled, listTrace, listRead, listReply, listAfter, clocksRead, workRead, listAfterRead}
 use Rattle.races.specs.Paper.{listPaper, Lists, ListsFilled}
-use Rattle.races.specs.ListPass.{pairsBelow, WritesAll, Counts, ListsAll, Clear}
+use Rattle.races.specs.ListPass.{pairsBelow, raws, WritesAll, Counts, ListsAll}
+use Rattle.races.specs.Raising.{Unmarked, MarksList}
+use Rattle.races.proofs.EntryStores.{raws-length}
 use Rattle.races.specs.Filled.{Filled}
 use Rattle.races.specs.Traces.{cellsOf, settingOf}
 use Rattle.coverage.proofs.Total.{short-total}
 use Rattle.races.proofs.ListLaws.{pairs-below}
 use Rattle.races.proofs.DemandLaws.{numbers-length}
-use Rattle.races.proofs.PreparedLaws.{after-clocks, after-work, passed, filled-whole, work-clear}
+use Rattle.races.proofs.PreparedLaws.{after-clocks, after-work, passed, filled-whole, events-are}
 
 -- a trace whose clocks are filled
 module _ (tr : List Record) (short : Bool) (events : ℕ) (list : List ℕ) (count : ℕ) (c : count ≡ length (pairsBelow tr short (length tr))) where
@@ -82,6 +84,33 @@ module _ (tr : List Record) (short : Bool) (space : ℕ) where
       few : length (pairsBelow tr short (length tr)) ≤ space / 5
       few = rw (e, pairs-below tr true) (omega (arith, short-total (settingOf tr) (cellsOf tr)))
 
+-- All entries are written, and then marked.
+module _ (tr : List Record) (short : Bool) (list : List ℕ) (room : 5 * length (pairsBelow tr short (length tr)) ≤ length list) {list₁ : List ℕ} {found : ℕ} (w : WritesAll true tr short list list₁ found) where
+  found-is : found ≡ length (pairsOf tr short)
+  found-is = w .count ∙ ap length (pairs-below tr short)
+
+  -- the entries stand at the front
+  front : (xs : List ℕ) → length xs ≡ 5 * length (pairsOf tr short) → sets list 0 xs ≡ xs ++ drop (5 * found) list
+  front xs e =
+      let k = ap length (pairs-below tr short) in
+      let d : 0 + length xs ≡ 5 * found = omega (arith, found-is) in
+      sets-eq xs list 0 (omega arith) ∙ rw d refl
+
+  raw-front : list₁ ≡ raws tr (pairsOf tr short) ++ drop (5 * found) list
+  raw-front = w .list-is ∙ rw (pairs-below tr short) (front (raws tr (pairsOf tr short)) (raws-length tr (pairsOf tr short)))
+
+  same-rest : drop (5 * found) list₁ ≡ drop (5 * found) list
+  same-rest = ap (drop (5 * found)) raw-front ∙ drop-at (raws tr (pairsOf tr short)) (drop (5 * found) list) (5 * found) (omega (arith, raws-length tr (pairsOf tr short), found-is))
+
+  pub written-unmarked : Unmarked tr list₁ found
+  written-unmarked = record { short = short; count-is = found-is; list-is = rw same-rest raw-front }
+
+  pub written-marked : {clocks clocks′ list₂ : List ℕ} → MarksList tr clocks clocks′ list₁ list₂ found → ListsAll tr short list list₂ found
+  written-marked m = record {
+    count = w .count;
+    list-is = m .list-is (record { short = short; count-is = found-is; list-is = rw same-rest raw-front }) ∙ ap (λ r. numbers tr (pairsOf tr short) ++ r) same-rest ∙ sym (rw (pairs-below tr short) (front (numbers tr (pairsOf tr short)) (numbers-length tr (pairsOf tr short))));
+  }
+
 -- counted, and then written: the count leaves the list space as it is
 module _ (tr : List Record) (short : Bool) (events : ℕ) (list list₁ : List ℕ) (counted : ℕ) (w : Counts tr short (length list) counted) (k : list₁ ≡ list) where
   total : ℕ
@@ -91,13 +120,13 @@ module _ (tr : List Record) (short : Bool) (events : ℕ) (list list₁ : List �
   unfolding total
   total-is = refl
 
-  pub all-refused : (work : List ℕ) → length list₁ / 5 < counted → (r : Listing) → listPaper r ≡ refused 24 0 → ListsFilled short tr events work work list list₁ r
+  pub all-refused : (clocks : List ℕ) → length list₁ / 5 < counted → (r : Listing) → listPaper r ≡ refused 24 0 → ListsFilled short tr events clocks clocks list list₁ r
   unfolding total
-  all-refused work h r p =
+  all-refused clocks h r p =
       let q = w .long (subst (λ (xs : List ℕ). length xs / 5 < counted) k h) in
       record {
         answer = p ∙ sym (too-long tr short events list total total-is q);
-        work-after = refl;
+        clocks-after = refl;
         list-after = k ∙ too-long-list tr short events list total total-is q;
       }
 
@@ -109,17 +138,17 @@ module _ (tr : List Record) (short : Bool) (events : ℕ) (list list₁ : List �
     pub all-room : 5 * length (pairsBelow tr short (length tr)) ≤ length list₁
     all-room = omega (arith, fit, total-is, ap length k)
 
-    pub all-listed : {work work₂ list₂ : List ℕ} {found : ℕ} → ListsAll tr short list₁ list₂ found → work₂ ≡ work → (n chains : ℕ) → n ≡ length tr → chains ≡ chainsUsed tr → (r : Listing) → listPaper r ≡ listed events n chains found → ListsFilled short tr events work work₂ list list₂ r
+    pub all-listed : {clocks clocks₂ list₂ : List ℕ} {found : ℕ} → ListsAll tr short list₁ list₂ found → clocks₂ ≡ clocks → (n chains : ℕ) → n ≡ length tr → chains ≡ chainsUsed tr → (r : Listing) → listPaper r ≡ listed events n chains found → ListsFilled short tr events clocks clocks₂ list list₂ r
     all-listed v e n chains m c r p = record {
       answer = p ∙ sym (fits tr short events list total total-is fit ∙ rw (← c, ← m, total-is, ← v .count) refl);
-      work-after = e;
+      clocks-after = e;
       list-after = v .list-is ∙ (ap (λ (xs : List ℕ). sets xs 0 (numbers tr (pairsBelow tr short (length tr)))) k ∙ fits-list tr short events list total total-is fit);
     }
 
     -- none at all
-    pub none-listed : counted ≡ 0 → (work : List ℕ) (n chains : ℕ) → n ≡ length tr → chains ≡ chainsUsed tr → (r : Listing) → listPaper r ≡ listed events n chains 0 → ListsFilled short tr events work work list list₁ r
+    pub none-listed : counted ≡ 0 → (clocks : List ℕ) (n chains : ℕ) → n ≡ length tr → chains ≡ chainsUsed tr → (r : Listing) → listPaper r ≡ listed events n chains 0 → ListsFilled short tr events clocks clocks list list₁ r
     unfolding numbers
-    none-listed z work n chains m c r p = all-listed (record { count = sym (w .none z); list-is = go (pairsBelow tr short (length tr)) (w .none z) }) refl n chains m c r p
+    none-listed z clocks n chains m c r p = all-listed (record { count = sym (w .none z); list-is = go (pairsBelow tr short (length tr)) (w .none z) }) refl n chains m c r p
       where
         go : (ps : List (ℕ × ℕ)) → length ps ≡ 0 → list₁ ≡ sets list₁ 0 (numbers tr ps)
         go [] e = refl
@@ -134,7 +163,7 @@ refusal true false z place chains k i next e = cc
 refusal false y z place chains k i next e = cc
 
 -- the trace was prepared, and then the marks of its event actions were taken away
-module _ (b : List ℕ) (short : Bool) (w : ℕ) (cs cs′ work work′ of list : List ℕ) (f : Filling) (t : Trace) {all all′ : List ℕ} (p : Prepares b w (length work) cs cs′ of all all′ f t) (cleared : work′ ≡ replicate (t .events) 0 ++ drop (t .events) work) where
+module _ (b : List ℕ) (short : Bool) (w : ℕ) (cs cs′ work work′ of list : List ℕ) (f : Filling) (t : Trace) {all all′ : List ℕ} (p : Prepares b 1 0 w (length work) cs cs′ of all all′ f t) (cleared : work′ ≡ replicate (t .events) 0 ++ drop (t .events) work) where
   -- 1 to 10
   unread : (n i : ℕ) → reading.refused n i ≡ readReply b → (r : Listing) → listPaper r ≡ refused n i → Lists short b w cs cs′ work work′ list list r
   unfolding listReply listRead clocksRead workRead listAfterRead
@@ -151,12 +180,12 @@ module _ (b : List ℕ) (short : Bool) (w : ℕ) (cs cs′ work work′ of list 
     tr = recordsIn b s n
 
     -- the promise, by the records
-    lists-by : (work″ list′ : List ℕ) (r : Listing) (x : ListReply) → listTrace short tr m w (length cs) (length work) (length list) ≡ x → listPaper r ≡ x → work″ ≡ work′ → list′ ≡ listAfter tr x (pairsOf tr short) list → Lists short b w cs cs′ work work″ list list′ r
+    lists-by : (cs″ list′ : List ℕ) (r : Listing) (x : ListReply) → listTrace short tr m w (length cs) (length work) (length list) ≡ x → listPaper r ≡ x → cs″ ≡ cs′ → list′ ≡ listAfter tr x (pairsOf tr short) list → Lists short b w cs cs″ work work′ list list′ r
     unfolding listReply listRead clocksRead workRead listAfterRead
-    lists-by work″ list′ r x q a k l = record {
+    lists-by cs″ list′ r x q a k l = record {
       answer = rw (← e, q) a;
-      clocks-after = rw (← e) (after-clocks work p s n m e);
-      work-after = rw (← e) (k ∙ after-work work p s n m e work′ cleared);
+      clocks-after = rw (← e) (k ∙ after-clocks work p s n m e (none-asked n));
+      work-after = rw (← e) (after-work work p s n m e (none-asked n) work′ cleared);
       list-after = rw (← e, q) l;
     }
 
@@ -164,15 +193,15 @@ module _ (b : List ℕ) (short : Bool) (w : ℕ) (cs cs′ work work′ of list 
     unlisted : (k i : ℕ) → fillPaper f ≡ fill.refused k i → (r : Listing) → listPaper r ≡ refused k i → Lists short b w cs cs′ work work′ list list r
     unfolding prepareTrace listTrace listAfter
     unlisted k i z r q =
-        let x = refusal (spaceFor w m (length cs)) (leb m (length work)) (eqb (shortRow tr w) m) (beginPosition tr (shortRow tr w) + 1) (chainsUsed tr) k i (listFilled short tr m (length list)) (sym z ∙ accepted-reply p s n m e) in
-        lists-by work′ list r (refused k i) x q refl refl
+        let x = refusal (spaceFor w m (length cs)) (leb m (length work)) (eqb (shortRow tr w) m) (beginPosition tr (shortRow tr w) + 1) (chainsUsed tr) k i (listFilled short tr m (length list)) (sym z ∙ accepted-reply p s n m e (none-asked n)) in
+        lists-by cs′ list r (refused k i) x q refl refl
 
     -- the clocks are filled
-    list-done : (chains : ℕ) → fillPaper f ≡ fill.filled chains → (work″ list′ : List ℕ) (r : Listing) → ListsFilled short tr m work′ work″ list list′ r → Lists short b w cs cs′ work work″ list list′ r
+    list-done : (chains : ℕ) → fillPaper f ≡ fill.filled chains → (cs″ list′ : List ℕ) (r : Listing) → ListsFilled short tr m cs′ cs″ list list′ r → Lists short b w cs cs″ work work′ list list′ r
     unfolding listTrace demand
-    list-done chains z work″ list′ r l =
-        let q = passed work p s n m e chains z in
-        lists-by work″ list′ r (listFilled short tr m (length list)) (rw (q .space, q .room, q .enough) refl) (l .answer) (l .work-after) (l .list-after)
+    list-done chains z cs″ list′ r l =
+        let q = passed work p s n m e (none-asked n) chains z in
+        lists-by cs″ list′ r (listFilled short tr m (length list)) (rw (q .space, q .room, q .enough) refl) (l .answer) (l .clocks-after) (l .list-after)
 
   pub not-listed : (k i : ℕ) → fillPaper f ≡ fill.refused k i → (r : Listing) → listPaper r ≡ refused k i → Lists short b w cs cs′ work work′ list list r
   not-listed k i z r q = go (readReply b) refl
@@ -185,9 +214,9 @@ module _ (b : List ℕ) (short : Bool) (w : ℕ) (cs cs′ work work′ of list 
   module _ (chains : ℕ) (z : fillPaper f ≡ fill.filled chains) (recs : List ℕ) (y : recs ≡ part b (t .start) (t .records)) where
     pub record Listable : Type 0 where
       pub filled : Filled (decode recs) all′ of w cs′
-      pub clear : Clear (decode recs) (t .events) work′
+      pub events-are : t .events ≡ eventsIn (decode recs)
       pub chains-used : chains ≡ chainsUsed (decode recs)
-      pub done : (work″ list′ : List ℕ) (r : Listing) → ListsFilled short (decode recs) (t .events) work′ work″ list list′ r → Lists short b w cs cs′ work work″ list list′ r
+      pub done : (cs″ list′ : List ℕ) (r : Listing) → ListsFilled short (decode recs) (t .events) cs′ cs″ list list′ r → Lists short b w cs cs″ work work′ list list′ r
 
     pub listable : Listable
     listable = go (readReply b) refl
@@ -195,13 +224,13 @@ module _ (b : List ℕ) (short : Bool) (w : ℕ) (cs cs′ work work′ of list 
         go : (x : Reply) → x ≡ readReply b → Listable
         go (reading.refused n i) e = let o : fill.filled chains ≡ fill.refused n i = sym z ∙ refused-reply p n i e in let v : _≡_ {A = ℕ} 0 1 = cc in absurd (omega arith)
         go (reading.accepted s n m) e =
-            let g = passed work p s n m e chains z in
-            let q : t ≡ record { start = s; records = n; events = m } = accepted-trace p s n m e ∙ rw (g .space, g .room) refl in
+            let g = passed work p s n m e (none-asked n) chains z in
+            let q : t ≡ record { start = s; records = n; events = m } = accepted-trace p s n m e (none-asked n) ∙ rw (g .space, g .room) refl in
             let d : decode recs ≡ recordsIn b s n = records-are b s n m e recs (subst (λ (x : Trace). recs ≡ part b (x .start) (x .records)) q y) in
             let v : t .events ≡ m = ap (λ (x : Trace). x .events) q in
             record {
-              filled = rw d (filled-whole work p s n m e chains z);
-              clear = rw (d, v) (work-clear work p s n m e chains z work′ cleared);
+              filled = rw d (filled-whole work p s n m e (none-asked n) chains z);
+              events-are = rw (d, v) (events-are work p s n m e (none-asked n) chains z);
               chains-used = rw d (g .chains-are);
-              done = λ work″ list′ r u. list-done s n m e chains z work″ list′ r (rw (d, v) at u);
+              done = λ cs″ list′ r u. list-done s n m e chains z cs″ list′ r (rw (d, v) at u);
             }

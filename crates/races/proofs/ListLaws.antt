@@ -2,16 +2,15 @@
 -- Assumes nothing.
 use Prim.Native.Nat.{ℕ, zero, suc, _+_, _-_, _≤_, _<_}
 use mathlib.Core.Path.{_≡_, refl, sym, ap, ap₂, _∙_, subst}
-use mathlib.Core.Bool.{Bool, true, false, not, cond, _&&_}
+use mathlib.Core.Bool.{Bool, true, false, not, cond, _&&_, _||_}
 use mathlib.Core.List.{List, [], _∷_, _++_, map}
 use mathlib.Core.Logic.{_⊎_, inl, inr}
 use native.Mathlib.Omega.{arith}
 use native.Mathlib.Numerals.{add-one}
-use native.Mathlib.Nat.{eq-or-lt-of-le, le-of-suc-le-suc}
 use native.Mathlib.Decide.{ℕ-discrete}
-use borrow.Author.Tests.{le-leb, lt-ltb}
+use borrow.Author.Tests.{eq-eqb, le-leb, lt-ltb}
 use lib.Dec.{T, leb, ltb, eqb, eqb→eq, leb→le, le→leb, ltb→lt, T-not, not-T}
-use lib.ListN.{length, length-append, length-map}
+use lib.ListN.{length, getD, length-append, length-map}
 use Rattle.records.specs.declared.Record.{Record}
 use Rattle.records.specs.Records.{at, isRead, isWrite, eventOf}
 use Rattle.trace.specs.Reading.{Acceptable}
@@ -20,16 +19,20 @@ use Rattle.coverage.specs.Below.{upto, pairs, only}
 use Rattle.coverage.specs.Race.{raceb}
 use Rattle.coverage.specs.Neighbours.{conflicts, writeBetween, neighbour}
 use Rattle.coverage.specs.Lists.{allRaces, shortList}
-use Rattle.coverage.proofs.Tests.{both, and, or-right, decide, found, find, eq→eqb}
+use Rattle.coverage.proofs.Tests.{both, and, or-left, or-right, decide, found, find, eq→eqb, passed}
 use Rattle.coverage.proofs.Tests.{same as equal-tests}
 use Rattle.coverage.proofs.Lists.{upto-ext, upto-zero, upto-yes, upto-no, upto-empty}
-use Rattle.races.specs.Traces.{isAccess, cellsOf, settingOf}
+use Rattle.races.specs.Traces.{isAccess, cellsOf, settingOf, conflict}
 use Rattle.races.specs.Lists.{pairsOf}
-use Rattle.races.specs.Candidates.{cell, accesses, writes, startOf, Upto, Number}
-use Rattle.races.specs.ListPass.{fromOf, firsts, withSecond, pairsBelow, Ranges, Ways}
+use Rattle.races.specs.Candidates.{leastKind, cell, accesses, writes, mayRace, Upto, lastWrite, wayFrom, wayTo}
+use Rattle.races.specs.ListPass.{fromOf, firsts, withSecond, pairsBelow, Ranges, OneRoom}
+use Rattle.races.specs.Filled.{RowsIn}
 use Rattle.coverage.proofs.Order.{race-of, race-not-le}
-use Rattle.races.proofs.Instance.{laws}
-use Rattle.races.proofs.CandidateLaws.{Start, start, start-all, start-skip, write-accesses, racing, race-accesses, number-own, number-write, number-start, number-end}
+use Rattle.clocks.specs.Rows.{compareIn}
+use Rattle.order.specs.HappensBefore.{rank, happensBefore}
+use Rattle.races.proofs.Instance.{laws, access-kind}
+use Rattle.races.proofs.FilledLaws.{same-event, other-event, rank-is, row-inside, rows-in, rows-before}
+use Rattle.races.proofs.CandidateLaws.{start, racing, race-accesses, last-high, last-after, from-start-is, kind-access}
 
 module _ (tr : List Record) where
   abbrev race : ℕ → ℕ → Bool
@@ -150,77 +153,76 @@ module _ (tr : List Record) where
           (neighbour-of a b (p .1) (λ k. let f = between-found a b k in start tr true (cell tr b) b .after tt (f .0) (omega (arith, f .1)) (f .2) (and (eqb (cell tr (f .0)) (cell tr b)) (isWrite (at tr (f .0))) (both (isAccess (at tr (f .0))) (eqb (cell tr (f .0)) (cell tr b)) (f .3) .1) (f .4))))
           (p .1)
 
-  -- The ways that the code finds. Where all accesses of the cell happen before b there is none.
-  pub way-quiet : Acceptable tr → (short : Bool) {b : ℕ} → b < 4096 → Upto tr short (cell tr b) b (eventOf (at tr b)) → Ways tr short b b b (b + 1)
-  way-quiet acc short {b} h q = record {
-    ranges = record {
-      range = record { low = omega arith; high = omega arith; none = λ x l k. absurd (omega arith) };
-      firsts-are = firsts-empty (fromOf tr short b) b b silent ∙ sym (firsts-empty b b b (λ x l k. absurd (omega arith)));
-    };
-    number-is = number-own acc short h q;
-  }
-    where
-      silent : (x : ℕ) → fromOf tr short b ≤ x → x < b → T (race x b) → ⊥
-      silent x l k t = race-not-le (settingOf tr) (laws acc) x b (race-of (settingOf tr) x b t) (q .tells x l k (race-accesses tr x b t))
+  -- Where all accesses of the cell from its start on happen before b none races with b.
+  pub quiet : Acceptable tr → (short : Bool) {b : ℕ} → Upto tr short (cell tr b) b (eventOf (at tr b)) → (x : ℕ) → fromOf tr short b ≤ x → x < b → T (race x b) → ⊥
+  quiet acc short {b} q x l k t = race-not-le (settingOf tr) (laws acc) x b (race-of (settingOf tr) x b t) (q .tells x l k (race-accesses tr x b t))
 
-  -- up to where first accesses race with b
-  way-upto : (short : Bool) {b from to : ℕ} → from ≡ fromOf tr short b → from ≤ b → to ≤ b → ((x : ℕ) → to ≤ x → x < b → T (race x b) → ⊥) → Ranges tr short b from to
-  way-upto short {b} e l h n = record { range = record { low = l; high = h; none = n }; firsts-are = ap (λ x. firsts tr x b b) (sym e) }
-
+  -- The way to b by the last write of its cell.
   module _ (b kind : ℕ) (e : kind ≡ at tr b .kind) where
-    is-write : eqb kind 6 ≡ true → T (writes tr (cell tr b) b)
-    is-write f = and (eqb (cell tr b) (cell tr b)) (isWrite (at tr b)) (eq→eqb (cell tr b) (cell tr b) refl) (subst T (sym (ap (λ x. eqb x 6) (sym e) ∙ f)) tt)
-
-    no-write : eqb kind 6 ≡ false → T (isWrite (at tr b)) → ⊥
-    no-write f t = subst T (ap (λ x. eqb x 6) (sym e) ∙ f) t
-
     -- a read races with writes alone
-    read-write : eqb kind 6 ≡ false → (x : ℕ) → T (race x b) → T (writes tr (cell tr b) x)
+    read-write : eqb kind 5 ≡ true → (x : ℕ) → T (race x b) → T (writes tr (cell tr b) x)
     read-write f x h = let r = racing tr x b h in and (eqb (cell tr x) (cell tr b)) (isWrite (at tr x)) (eq→eqb (cell tr x) (cell tr b) (r .same)) (go (r .one))
       where
         go : T (isWrite (at tr x)) ⊎ T (isWrite (at tr b)) → T (isWrite (at tr x))
         go (inl t) = t
-        go (inr t) = absurd (no-write f t)
+        go (inr t) =
+            let z = eqb→eq kind 5 (subst T (sym f) tt) in
+            let y = eqb→eq (at tr b .kind) 6 t in
+            absurd (omega arith)
 
-    silent-write : eqb kind 6 ≡ false → T (writes tr (cell tr b) b) → ⊥
-    silent-write f t = no-write f (both (eqb (cell tr b) (cell tr b)) _ t .1)
+    from-before : (short : Bool) (last : ℕ) → wayFrom short last ≤ last
+    unfolding wayFrom
+    from-before true last = omega arith
+    from-before false last = omega arith
 
-    pub way-short : Acceptable tr → (short : Bool) → T short → b < 4096 → 0 < b → {from to : ℕ} → from ≡ startOf tr short (cell tr b) b → to ≤ b → ((x : ℕ) → to ≤ x → x < b → T (accesses tr (cell tr b) x) → ⊥) → Ways tr short b from (cond (eqb kind 6) to (from + 1)) (cond (eqb kind 6) (b + 1) (from + 4097))
-    way-short acc false s h z f l n = absurd s
-    way-short acc true s h z {from} {to} f l n = go (eqb kind 6) refl
-      where
-        w : Start tr true (cell tr b) b from
-        w = rw f (start tr true (cell tr b) b)
+    abbrev last : ℕ
+    last = lastWrite tr (cell tr b) b
 
-        below : from < b
-        below = go-below (ℕ-discrete from 0)
-          where
-            go-below : Dec (from ≡ 0) → from < b
-            go-below (yes d) = omega arith
-            go-below (no d) = w .before d .2
+    way-ends : (r : Bool) → eqb kind 5 ≡ r → (short : Bool) → (wayFrom short last ≤ wayTo kind last b) × (wayTo kind last b ≤ b) × ((x : ℕ) → wayTo kind last b ≤ x → x < b → T (race x b) → ⊥)
+    unfolding wayTo
+    way-ends true f s = rw f (from-before s last, last-high tr (cell tr b) b, λ x l k t. last-after tr (cell tr b) b x l k (read-write f x t))
+    way-ends false f s = rw f (omega (arith, from-before s last, last-high tr (cell tr b) b), omega arith, λ x l k t. omega arith)
 
-        go : (q : Bool) → eqb kind 6 ≡ q → Ways tr true b from (cond q to (from + 1)) (cond q (b + 1) (from + 4097))
-        go true g = record { ranges = way-upto true f (w .high) l (λ x m k t. n x m k (race-accesses tr x b t)); number-is = number-write acc h (is-write g) }
-        go false g = record { ranges = way-upto true f (w .high) (omega (arith, below)) (λ x m k t. w .after tt x (omega arith) k (read-write g x t)); number-is = number-start tr b (silent-write g) f }
+    pub way-found : (short : Bool) (from to : ℕ) → from ≡ wayFrom short (lastWrite tr (cell tr b) b) → to ≡ wayTo kind (lastWrite tr (cell tr b) b) b → Ranges tr short b from to
+    way-found short from to p q =
+        let (l, h, n) = way-ends (eqb kind 5) refl short in
+        record {
+          range = record { low = omega arith; high = omega arith; none = λ x m k t. n x (omega arith) k t };
+          firsts-are = ap (λ x. firsts tr x b b) (sym (p ∙ from-start-is tr short (cell tr b) b));
+        }
 
-    -- the start of the cell is where it was at its last access
-    pub last-start : (short : Bool) → T short → {v : ℕ} → Number tr short (cell tr b) b v → v ≤ 4096 → startOf tr true (cell tr b) v ≡ startOf tr short (cell tr b) b
-    last-start false s w h = absurd s
-    last-start true s {v} w h =
-        let d : v + (b - v) ≡ b = omega (arith, w .low h) in
-        sym (rw d at (start-skip tr true (cell tr b) v (b - v) (λ x l k t. w .none h x l (omega arith) (write-accesses tr (cell tr b) x t))))
+  may-conflict : Acceptable tr → (a b : ℕ) → a < length tr → T (isAccess (at tr b)) → T (mayRace tr (leastKind (at tr b .kind)) (cell tr b) a) → conflict (at tr a) (at tr b) ≡ true
+  unfolding mayRace leastKind conflict
+  may-conflict acc a b i y m = passed (conflict (at tr a) (at tr b)) (and (isAccess (at tr a) && isAccess (at tr b)) _ (and (isAccess (at tr a)) (isAccess (at tr b)) x y) (and (eqb (cell tr a) (cell tr b)) _ (p .0) (go (access-kind (at tr b) y) (leb→le _ (at tr a .kind) (p .1)))))
+    where
+      p : T (eqb (cell tr a) (cell tr b)) × T (leb (cond (eqb (at tr b .kind) 5) 6 5) (at tr a .kind))
+      p = both (eqb (cell tr a) (cell tr b)) (leb (cond (eqb (at tr b .kind) 5) 6 5) (at tr a .kind)) m
 
-    pub way-long : (short : Bool) → T (not short) → 0 < b → {end : ℕ} → end ≤ b → ((x : ℕ) → end ≤ x → x < b → T (writes tr (cell tr b) x) → ⊥) → Ways tr short b 0 (cond (eqb kind 6) b end) (cond (eqb kind 6) (b + 1) end + 4097)
-    way-long true s z h n = absurd s
-    way-long false s z {end} h n = go (eqb kind 6) refl
-      where
-        go : (q : Bool) → eqb kind 6 ≡ q → Ways tr false b 0 (cond q b end) (cond q (b + 1) end + 4097)
-        go true g = record { ranges = way-upto false (sym (start-all tr (cell tr b) b)) (omega arith) (omega arith) (λ x m k. absurd (omega arith)); number-is = number-end tr (omega arith) (omega arith) (λ x m k t. omega arith) }
-        go false g = record { ranges = way-upto false (sym (start-all tr (cell tr b) b)) (omega arith) h (λ x m k t. n x m k (read-write g x t)); number-is = number-end tr (omega arith) (omega arith) (λ x m k t. last x m (eq-or-lt-of-le (le-of-suc-le-suc (rw (add-one b) at k))) t) }
-          where
-            last : (x : ℕ) → end ≤ x → (x ≡ b) ⊎ (x < b) → T (writes tr (cell tr b) x) → ⊥
-            last x m (inl d) t = silent-write g (subst (λ (y : ℕ). T (writes tr (cell tr b) y)) d t)
-            last x m (inr k) t = n x m k t
+      five : (q : Bool) → cond q 6 5 ≤ at tr a .kind → 5 ≤ at tr a .kind
+      five true k = omega arith
+      five false k = k
+
+      x : T (isAccess (at tr a))
+      x = kind-access acc a i (five (eqb (at tr b .kind) 5) (leb→le _ (at tr a .kind) (p .1)))
+
+      go : (at tr b .kind ≡ 5) ⊎ (at tr b .kind ≡ 6) → cond (eqb (at tr b .kind) 5) 6 5 ≤ at tr a .kind → T (isWrite (at tr a) || isWrite (at tr b))
+      go (inl e) k = or-left (isWrite (at tr a)) (isWrite (at tr b)) (six (access-kind (at tr a) x))
+        where
+          six : (at tr a .kind ≡ 5) ⊎ (at tr a .kind ≡ 6) → T (isWrite (at tr a))
+          six (inl d) = let z : 6 ≤ at tr a .kind = rw (eq-eqb (at tr b .kind) 5 e) at k in absurd (omega arith)
+          six (inr d) = eq→eqb (at tr a .kind) 6 d
+      go (inr e) k = or-right (isWrite (at tr a)) (isWrite (at tr b)) (eq→eqb (at tr b .kind) 6 e)
+
+  -- what may race with an access b and stands before it races exactly where its event action does not happen before that of b
+  pub may-race : Acceptable tr → (a b : ℕ) → a < b → b < length tr → T (isAccess (at tr b)) → T (mayRace tr (leastKind (at tr b .kind)) (cell tr b) a) → race a b ≡ not (happensBefore tr (eventOf (at tr a)) (eventOf (at tr b)))
+  may-race acc a b l h y m = go (ℕ-discrete (eventOf (at tr a)) (eventOf (at tr b)))
+    where
+      c : conflict (at tr a) (at tr b) ≡ true
+      c = may-conflict acc a b (omega arith) y m
+
+      go : Dec (eventOf (at tr a) ≡ eventOf (at tr b)) → race a b ≡ not (happensBefore tr (eventOf (at tr a)) (eventOf (at tr b)))
+      go (yes e) = same-event tr a b l h c e ∙ sym (ap not (passed (happensBefore tr (eventOf (at tr a)) (eventOf (at tr b))) (subst (λ (x : ℕ). T (happensBefore tr (eventOf (at tr a)) x)) e (laws acc .le-refl (eventOf (at tr a))))))
+      go (no n) = other-event tr a b l h c n
 
   -- so the pairs found below n are the list's
   all-test : (a b : ℕ) → test (fromOf tr false b) b a ≡ race a b
@@ -267,3 +269,23 @@ module _ (tr : List Record) where
       let more = upto-mono (a + 1) (m - (a + 1)) (test from b) in
       let q : a + 1 + (m - (a + 1)) ≡ m = omega arith in
       omega (arith, ap length (firsts-yes from b a h e), length-append (upto a (test from b)) (a ∷ []), rw q at more)
+
+-- The test of one pair of records by their rows.
+module _ {writing : Bool} {tr : List Record} {ranks of : List ℕ} {width : ℕ} {clocks : List ℕ} {a b u k : ℕ} {list : List ℕ} (r : OneRoom writing tr ranks of width clocks a b u k list) (t : ℕ) (e : t ≡ getD ranks (eventOf (at tr a)) 0 - 1) where
+  first-inside : a < length tr
+  first-inside = omega (arith, r .earlier, r .second .inside)
+
+  row-is : t ≡ rank tr (eventOf (at tr a)) - 1
+  row-is = e ∙ ap (λ x. x - 1) (rank-is (r .second .filled) a first-inside)
+
+  pub race-rows : RowsIn of width clocks t u
+  race-rows = rows-in (r .second .filled) t u (omega (arith, row-is, row-inside (r .second .filled) a first-inside)) (omega (arith, r .second .row, row-inside (r .second .filled) b (r .second .inside)))
+
+  pub race-told : (v : Bool) → v ≡ compareIn clocks width (getD of t 0) t u → raceb (settingOf tr) a b ≡ not v
+  race-told v q =
+      may-race tr (r .second .filled .acceptable) a b (r .earlier) (r .second .inside) (r .second .access) (r .may)
+      ∙ ap not (sym (q ∙ rows-before (r .second .filled) a b t u first-inside (r .second .inside) row-is (r .second .row)))
+
+-- what was found on the way to b may race with it
+pub may-found : (tr : List Record) {least c : ℕ} (a b : ℕ) → c ≡ cell tr b → least ≡ leastKind (at tr b .kind) → T (mayRace tr least c a) → T (mayRace tr (leastKind (at tr b .kind)) (cell tr b) a)
+may-found tr a b e f t = rw (e, f) at t

@@ -2,18 +2,17 @@
 use Prim.Native.Nat.{ℕ, zero, suc, _+_, _*_, _-_, _≤_, _<_}
 use mathlib.Core.Path.{_≡_, refl, sym, ap, ap₂, _∙_, subst}
 use mathlib.Core.Logic.{_≢_, _⊎_, inl, inr}
-use mathlib.Core.Bool.{Bool, true, false, not, _&&_, _||_}
+use mathlib.Core.Bool.{Bool, true, false, not}
 use mathlib.Core.List.{List, [], _∷_, _++_, map, append-assoc}
 use native.Mathlib.Omega.{arith}
 use lib.Dec.{T, eqb, eqb→eq, T-not}
-use lib.ListN.{length, getD, take, drop, set, length-append, length-drop, length-map}
+use lib.ListN.{length, getD, drop, set, length-append, length-drop, length-map}
 use lib.Seq.{drop-cons, set-at}
 use Rattle.records.specs.declared.Record.{Record}
 use Rattle.records.specs.Records.{at, eventOf}
 use Rattle.trace.specs.Reading.{Acceptable}
-use Rattle.trace.proofs.Blocks.{contiguous, apart}
+use Rattle.trace.proofs.Blocks.{contiguous}
 use Rattle.order.specs.HappensBefore.{rank}
-use Rattle.order.proofs.TraceOrder.{record-begins, begins-rank, begins-at, counted-passes}
 use Rattle.coverage.specs.Below.{upto}
 use Rattle.coverage.specs.Leading.{leads, lastKept, entries}
 use Rattle.coverage.proofs.Tests.{both, either, decide, decide-eq, eq→eqb}
@@ -22,7 +21,7 @@ use Rattle.races.specs.Traces.{settingOf}
 use Rattle.races.specs.Leading.{rows}
 use Rattle.races.specs.Pair.{flat, withEntries, keptEntry, keptEntries}
 use Rattle.races.specs.PairSearch.{entryAt, keptBelow}
-use Rattle.races.proofs.LeadingLaws.{row-low}
+use Rattle.races.proofs.RecordRows.{rank-rises, rank-some, rank-few}
 
 pub flat-length : (es : List (ℕ × ℕ)) → length (flat es) ≡ 2 * length es
 flat-length [] = refl
@@ -58,24 +57,10 @@ put-more es k x y entry list e h l =
     ∙ append-assoc (flat es) (x ∷ []) (y ∷ rest)
     ∙ sym (rw (m, flat-snoc es x y) (append-assoc (flat es) (x ∷ y ∷ []) rest))
 
--- Ranks rise along the trace.
+-- Each event action has one entry at most.
 module _ {tr : List Record} (a : Acceptable tr) where
   abbrev ev : ℕ → ℕ
   ev i = eventOf (at tr i)
-
-  pub rank-rises : (i j : ℕ) → i < j → j < length tr → ev i ≢ ev j → rank tr (ev i) < rank tr (ev j)
-  rank-rises i j l h n =
-      let p = record-begins a i (omega arith) in
-      let q = record-begins a j h in
-      let k : p .position < q .position = apart a i (p .position) j (q .position) (p .inside) h (sym (p .of-event)) (sym (q .of-event)) n l in
-      let c = counted-passes tr (p .position) (q .position) k (begins-at a p) in
-      omega (arith, begins-rank a p, begins-rank a q)
-
-  pub rank-some : (i : ℕ) → i < length tr → 0 < rank tr (ev i)
-  rank-some i h = omega (arith, begins-rank a (record-begins a i h))
-
-  pub rank-few : (i : ℕ) → i < length tr → rank tr (ev i) ≤ rows tr
-  rank-few i h = omega (arith, row-low a i h)
 
   module _ (b : ℕ) (inside : b < length tr) where
     abbrev test : ℕ → Bool
@@ -100,9 +85,9 @@ module _ {tr : List Record} (a : Acceptable tr) where
       where
         go : T (test i) ⊎ (T (test i) → ⊥) → ((r : ℕ) → ((j : ℕ) → j < i → T (test j) → rank tr (ev j) ≤ r) → length (upto i test) ≤ r) → length (upto (suc i) test) ≤ r
         go (inl t) g =
-            let k = g (rank tr (ev i) - 1) (λ j l u. let z = rank-rises j i l (omega arith) (last-apart j i l (omega arith) u) in omega arith) in
+            let k = g (rank tr (ev i) - 1) (λ j l u. let z = rank-rises a j i l (omega arith) (last-apart j i l (omega arith) u) in omega arith) in
             let m = f i (omega arith) t in
-            let p = rank-some i (omega arith) in
+            let p = rank-some a i (omega arith) in
             rw (upto-yes i test t) (simp length-append (omega arith))
         go (inr n) g = rw (upto-no i test n) (g r (λ j l u. f j (omega arith) u))
 
@@ -110,14 +95,14 @@ module _ {tr : List Record} (a : Acceptable tr) where
     pub kept-room : (i : ℕ) → i ≤ b → T (test i) → length (keptBelow tr b i) < rows tr
     unfolding keptBelow
     kept-room i h t =
-        let k = kept-ranks i (omega arith) (rank tr (ev i) - 1) (λ j l u. let z = rank-rises j i l (omega arith) (last-apart j i l h u) in omega arith) in
-        let p = rank-some i (omega arith) in
-        let q = rank-few i (omega arith) in
+        let k = kept-ranks i (omega arith) (rank tr (ev i) - 1) (λ j l u. let z = rank-rises a j i l (omega arith) (last-apart j i l h u) in omega arith) in
+        let p = rank-some a i (omega arith) in
+        let q = rank-few a i (omega arith) in
         omega (arith, length-map (upto i test) (entryAt tr))
 
     pub kept-few : (i : ℕ) → i ≤ suc b → length (keptBelow tr b i) ≤ rows tr
     unfolding keptBelow
-    kept-few i h = omega (arith, length-map (upto i test) (entryAt tr), kept-ranks i h (rows tr) (λ j l u. rank-few j (omega arith)))
+    kept-few i h = omega (arith, length-map (upto i test) (entryAt tr), kept-ranks i h (rows tr) (λ j l u. rank-few a j (omega arith)))
 
 -- The entries of an open pair, record by record.
 map-snoc : (f : ℕ → ℕ × ℕ) (l : List ℕ) (x : ℕ) → map f (l ++ x ∷ []) ≡ map f l ++ f x ∷ []

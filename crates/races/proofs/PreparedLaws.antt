@@ -15,12 +15,12 @@ use Rattle.trace.proofs.Accepted.{accepts}
 use Rattle.ranks.specs.Ranks.{ranksOf}
 use Rattle.clocks.specs.Rows.{spaceFor}
 use Rattle.order.specs.Fill.{filled, demand, eventsIn, shortRow, beginPosition, chainsUsed, chainTable, traceClocks, clocksAfterTrace, chainsAfterReply, pickList}
-use Rattle.order.specs.Prepare.{prepareTrace, noTrace, pickTrace}
+use Rattle.order.specs.Prepare.{asked, prepareTrace, noTrace, pickTrace}
 use Rattle.order.specs.Paper.{fillPaper, Prepares}
 use Rattle.order.specs.declared.Filling.{Filling}
 use Rattle.order.proofs.SpaceLaws.{has-room, cleared-length}
 use Rattle.order.proofs.SpaceLaws.{cleared as cleared-zeros}
-use Rattle.order.proofs.PrepareLaws.{refused-trace, accepted-reply, accepted-trace, accepted-clocks, accepted-chains, accepted-ranks}
+use Rattle.order.proofs.PrepareLaws.{refused-trace, missing-trace, accepted-reply, accepted-trace, accepted-clocks, accepted-chains, accepted-ranks}
 use Rattle.races.specs.Lists.{clocksTrace, workTrace}
 use Rattle.races.specs.ListPass.{Clear}
 use Rattle.races.specs.Filled.{Filled}
@@ -33,7 +33,7 @@ passes true true false place chains k e = absurd (let o : _≡_ {A = ℕ} 0 1 = 
 passes true false z place chains k e = absurd (let o : _≡_ {A = ℕ} 0 1 = cc in omega arith)
 passes false y z place chains k e = absurd (let o : _≡_ {A = ℕ} 0 1 = cc in omega arith)
 
-module _ (work : List ℕ) {b : List ℕ} {w : ℕ} {cs cs′ of all all′ : List ℕ} {f : Filling} {t : Trace} (p : Prepares b w (length work) cs cs′ of all all′ f t) where
+module _ (work : List ℕ) {b : List ℕ} {lo hi w : ℕ} {cs cs′ of all all′ : List ℕ} {f : Filling} {t : Trace} (p : Prepares b lo hi w (length work) cs cs′ of all all′ f t) where
   -- the marks that are taken away are in the work space
   pub marks-fit : t .events ≤ length work
   marks-fit = go (readReply b) refl
@@ -46,22 +46,26 @@ module _ (work : List ℕ) {b : List ℕ} {w : ℕ} {cs cs′ of all all′ : Li
       past s n m true false g q = none q
       past s n m false y g q = none q
 
+      there : (s n m : ℕ) → reading.accepted s n m ≡ readReply b → (x : Bool) → asked lo hi n ≡ x → t .events ≤ length work
+      there s n m e true h = past s n m (spaceFor w m (length cs)) (leb m (length work)) refl (accepted-trace p s n m e h)
+      there s n m e false h = none (missing-trace p s n m e h)
+
       go : (r : Reply) → r ≡ readReply b → t .events ≤ length work
       go (reading.refused n i) e = none (refused-trace p n i e)
-      go (reading.accepted s n m) e = past s n m (spaceFor w m (length cs)) (leb m (length work)) refl (accepted-trace p s n m e)
+      go (reading.accepted s n m) e = there s n m e (asked lo hi n) refl
 
-  -- an accepted trace
-  module _ (s n m : ℕ) (e : reading.accepted s n m ≡ readReply b) where
+  -- an accepted trace that has the records asked about
+  module _ (s n m : ℕ) (e : reading.accepted s n m ≡ readReply b) (h : asked lo hi n ≡ true) where
     abbrev tr : List Record
     tr = recordsIn b s n
 
     pub after-clocks : cs′ ≡ clocksTrace tr m w (length work) cs
     unfolding clocksTrace
-    after-clocks = accepted-clocks p s n m e
+    after-clocks = accepted-clocks p s n m e h
 
     pub after-work : (work′ : List ℕ) → work′ ≡ replicate (t .events) 0 ++ drop (t .events) work → work′ ≡ workTrace tr m w (length cs) work
     unfolding workTrace
-    after-work work′ c = c ∙ go (spaceFor w m (length cs) && leb m (length work)) (accepted-trace p s n m e)
+    after-work work′ c = c ∙ go (spaceFor w m (length cs) && leb m (length work)) (accepted-trace p s n m e h)
       where
         go : (x : Bool) → t ≡ pickTrace x (record { start = s; records = n; events = m }) → replicate (t .events) 0 ++ drop (t .events) work ≡ pickList x (replicate m 0 ++ drop m work) work
         go true q = ap (λ (x : Trace). replicate (x .events) 0 ++ drop (x .events) work) q
@@ -78,23 +82,23 @@ module _ (work : List ℕ) {b : List ℕ} {w : ℕ} {cs cs′ of all all′ : Li
       pub passed : Passed
       unfolding prepareTrace
       passed =
-          let q = passes (spaceFor w m (length cs)) (leb m (length work)) (eqb (shortRow tr w) m) (beginPosition tr (shortRow tr w) + 1) (chainsUsed tr) k (sym z ∙ accepted-reply p s n m e) in
+          let q = passes (spaceFor w m (length cs)) (leb m (length work)) (eqb (shortRow tr w) m) (beginPosition tr (shortRow tr w) + 1) (chainsUsed tr) k (sym z ∙ accepted-reply p s n m e h) in
           record { space = q .0; room = q .1; enough = q .2; chains-are = q .3 }
 
-      events-are : m ≡ eventsIn tr
+      pub events-are : m ≡ eventsIn tr
       unfolding eventsIn
       events-are = let a = accepts b s n m e in rw (a .counts) (sym (a .begun))
 
       chains-whole : of ≡ chainTable tr
       unfolding chainsAfterReply
-      chains-whole = accepted-chains p s n m e ∙ ap (chainsAfterReply tr) (sym (accepted-reply p s n m e) ∙ z)
+      chains-whole = accepted-chains p s n m e h ∙ ap (chainsAfterReply tr) (sym (accepted-reply p s n m e h) ∙ z)
 
       clocks-whole : cs′ ≡ traceClocks tr w ++ drop (m * w) cs
       unfolding clocksAfterTrace
-      clocks-whole = accepted-clocks p s n m e ∙ rw (passed .space, passed .room, passed .enough) refl
+      clocks-whole = accepted-clocks p s n m e h ∙ rw (passed .space, passed .room, passed .enough) refl
 
       ranks-whole : all′ ≡ ranksOf tr
-      ranks-whole = accepted-ranks p s n m e ∙ rw (passed .space, passed .room) refl
+      ranks-whole = accepted-ranks p s n m e h ∙ rw (passed .space, passed .room) refl
 
       pub filled-whole : Filled tr all′ of w cs′
       filled-whole = record {

@@ -3,19 +3,35 @@
 use Prim.Native.Nat.{ℕ, zero, suc, _+_, _-_, _≤_, _<_}
 use mathlib.Core.Path.{_≡_}
 use mathlib.Core.Logic.{_≢_}
-use mathlib.Core.Bool.{Bool, not, cond, _&&_}
+use mathlib.Core.Bool.{Bool, true, false, cond, _&&_, _||_}
 use mathlib.Core.List.{List}
-use lib.Dec.{T, leb, eqb}
+use lib.Dec.{T, leb, ltb, eqb}
 use lib.ListN.{length, getD}
 use Rattle.records.specs.declared.Record.{Record}
 use Rattle.records.specs.Records.{at, isWrite, eventOf}
-use Rattle.order.specs.HappensBefore.{happensBefore}
+use Rattle.clocks.specs.Rows.{compareIn}
+use Rattle.order.specs.HappensBefore.{rank, happensBefore}
 use Rattle.coverage.specs.Race.{raceb}
 use Rattle.races.specs.Traces.{isAccess, settingOf}
 
 -- the least kind of record that races with an access of that kind: with a read only a write does
 unfoldable pub leastKind : ℕ → ℕ
 leastKind kind = cond (eqb kind 5) 6 5
+
+-- by the number of a cell: do all its accesses from the start on happen before row u, or belong to it?
+unfoldable pub orderedIn : List ℕ → ℕ → List ℕ → ℕ → ℕ → Bool
+orderedIn of width clocks seen u = cond (eqb seen 0) true (cond (ltb 1024 seen) false (compareIn clocks width (getD of (seen - 1) 0) (seen - 1) u))
+
+-- the number of a cell after an access of row u; in the short list a write is its start
+unfoldable pub seenAfter : Bool → Bool → ℕ → ℕ → ℕ
+seenAfter ordered short kind u = cond (ordered || (short && eqb kind 6)) (u + 1) 1025
+
+-- from where on, and up to where, first accesses of an access b of that kind are looked for, where its cell's last write has the number `last`
+unfoldable pub wayFrom : Bool → ℕ → ℕ
+wayFrom short last = cond short (last - 1) 0
+
+unfoldable pub wayTo : ℕ → ℕ → ℕ → ℕ
+wayTo kind last b = cond (eqb kind 5) last b
 
 module _ (tr : List Record) where
   abbrev pub cell : ℕ → ℕ
@@ -40,34 +56,37 @@ module _ (tr : List Record) where
   pub record Upto (short : Bool) (c i e : ℕ) : Type 0 where
     pub tells : (x : ℕ) → startOf short c i ≤ x → x < i → T (accesses c x) → T (happensBefore tr (eventOf (at tr x)) e)
 
-  -- What the number v of a cell tells before record i. Up to 4,096 it is the number of its last access, whose event action comes after all its accesses from the start on, or 0
-  -- where it has none. Above, and 4,097 less, it is its start in the short list, and in the list of all races a place from which on it is not written.
-  pub record Number (short : Bool) (c i v : ℕ) : Type 0 where
-    pub some : v ≢ 0 → 0 < i
-    pub low : v ≤ 4096 → v ≤ i
-    pub none : v ≤ 4096 → (x : ℕ) → v ≤ x → x < i → T (accesses c x) → ⊥
-    pub upto : v ≤ 4096 → v ≢ 0 → Upto short c i (eventOf (at tr (v - 1)))
-    pub start : 4096 < v → T short → v - 4097 ≡ startOf short c i
-    pub end : 4096 < v → T (not short) → v - 4097 ≤ i
-    pub unwritten : 4096 < v → T (not short) → (x : ℕ) → v - 4097 ≤ x → x < i → T (writes c x) → ⊥
+  -- the number of a cell's last write before record i, 0 where it has none
+  unfoldable pub lastWrite : ℕ → ℕ → ℕ
+  lastWrite c zero = 0
+  lastWrite c (suc i) = cond (writes c i) (suc i) (lastWrite c i)
 
-  pub record Numbers (short : Bool) (i : ℕ) (numbers : List ℕ) : Type 0 where
-    pub size : length numbers ≡ 1025
-    pub tells : (c : ℕ) → c < 1025 → Number short c i (getD numbers c 0)
+  -- What the number v of a cell tells before record i: 0, it is not accessed; up to 1,024 it is the rank of an event action which all its accesses from the
+  -- start on happen before or belong to.
+  pub record Seen (short : Bool) (c i v : ℕ) : Type 0 where
+    pub none : v ≡ 0 → (x : ℕ) → x < i → T (accesses c x) → ⊥
+    pub upto : v ≢ 0 → v ≤ 1024 → (y : ℕ) × (y < length tr) × (v ≡ rank tr (eventOf (at tr y))) × Upto short c i (eventOf (at tr y))
+
+  -- both numbers of each cell
+  pub record Tables (short : Bool) (i : ℕ) (seen written : List ℕ) : Type 0 where
+    pub seen-size : length seen ≡ 1025
+    pub written-size : length written ≡ 1025
+    pub tells : (c : ℕ) → c < 1025 → Seen short c i (getD seen c 0)
+    pub last : (c : ℕ) → c < 1025 → getD written c 0 ≡ lastWrite c i
 
   -- none of the records from i on, before r, may race with an access of cell c
   pub record Past (least c i r : ℕ) : Type 0 where
     pub low : i ≤ r
     pub none : (x : ℕ) → i ≤ x → x < r → T (mayRace least c x) → ⊥
 
-  -- from a on to r, not past b, past no record that races with b
-  pub record Jump (b a r : ℕ) : Type 0 where
-    pub ahead : a < r
-    pub high : r ≤ b
-    pub none : (x : ℕ) → a < x → x < r → T (raceb (settingOf tr) x b) → ⊥
+  -- r is the next record from `from` on, before `to`, that may race with an access of cell c, or `to`
+  pub record NextAccess (least c from to r : ℕ) : Type 0 where
+    pub high : r ≤ to
+    pub past : Past least c from r
+    pub found : r < to → T (mayRace least c r)
 
   -- the way to b goes from `from` on, and from `to` on no record races with b
   pub record Range (b from to : ℕ) : Type 0 where
-    pub low : from ≤ b
+    pub low : from ≤ to
     pub high : to ≤ b
     pub none : (x : ℕ) → to ≤ x → x < b → T (raceb (settingOf tr) x b) → ⊥

@@ -1,7 +1,8 @@
 -- What is at hand once the clocks of an accepted trace are filled. Assumes nothing.
-use Prim.Native.Nat.{ℕ, _≤_}
+use Prim.Native.Nat.{ℕ, _+_, _*_, _≤_, _<_}
 use mathlib.Core.Path.{_≡_}
 use mathlib.Core.List.{List, _++_}
+use lib.ListN.{length, getD}
 use Rattle.records.specs.declared.Record.{Record}
 use Rattle.trace.specs.Reading.{Acceptable}
 use Rattle.ranks.specs.Ranks.{ranksOf}
@@ -16,3 +17,9 @@ pub record Filled (tr : List Record) (ranks of : List ℕ) (width : ℕ) (clocks
   pub enough : shortRow tr width ≡ eventsIn tr
   pub rest : List ℕ
   pub clocks-are : clocks ≡ traceClocks tr width ++ rest
+
+-- rows t and u stand in the clocks, and the chain of row t is known
+pub record RowsIn (of : List ℕ) (width : ℕ) (clocks : List ℕ) (t u : ℕ) : Type 0 where
+  pub known : t < length of
+  pub own : t * width + getD of t 0 < length clocks
+  pub other : u * width + getD of t 0 < length clocks

@@ -1,14 +1,14 @@
 pub mod Traces
 pub mod Leading
-pub mod Slots
-pub mod LeadingPass
 pub mod Filled
 pub mod Lists
 pub mod Paper
 pub mod Candidates
 pub mod ListPass
+pub mod Kept
 pub mod Marking
-pub mod Few
 pub mod Pair
 pub mod PairSearch
 pub mod Demand
+pub mod Raising
+pub mod Refilling

@@ -5,18 +5,19 @@ use mathlib.Core.Path.{_≡_}
 use mathlib.Core.Bool.{Bool, true, false, cond, _&&_}
 use mathlib.Core.List.{List, [], _∷_, _++_, map}
 use lib.Dec.{T, leb}
-use lib.ListN.{length, drop, replicate, take}
+use lib.ListN.{length, drop, replicate}
 use lib.Seq.{sets}
 use Rattle.records.specs.declared.Record.{Record}
-use Rattle.records.specs.Records.{at}
+use Rattle.records.specs.Records.{at, eventOf}
 use Rattle.trace.specs.Reading.{Acceptable}
 use Rattle.ranks.specs.Ranks.{ranksOf}
+use Rattle.order.specs.HappensBefore.{rank}
 use Rattle.coverage.specs.Below.{upto}
 use Rattle.coverage.specs.Race.{raceb}
-use Rattle.races.specs.Traces.{settingOf}
+use Rattle.races.specs.Traces.{isAccess, settingOf}
 use Rattle.races.specs.Leading.{rows, leadingMarks}
 use Rattle.races.specs.Lists.{shapeOf, numbers}
-use Rattle.races.specs.Candidates.{cell, startOf, Number, Range}
+use Rattle.races.specs.Candidates.{cell, leastKind, mayRace, startOf, Range}
 use Rattle.races.specs.Filled.{Filled}
 
 module _ (tr : List Record) where
@@ -56,16 +57,18 @@ pub record Ranges (tr : List Record) (short : Bool) (b from to : ℕ) : Type 0 w
   pub range : Range tr b from to
   pub firsts-are : firsts tr (fromOf tr short b) b b ≡ firsts tr from b b
 
--- so has it, and the number of b's cell after b is known
-pub record Ways (tr : List Record) (short : Bool) (b from to number : ℕ) : Type 0 where
-  pub ranges : Ranges tr short b from to
-  pub number-is : Number tr short (cell tr b) (b + 1) number
+-- an access b of a trace whose clocks are filled, and its row
+pub record Second (tr : List Record) (ranks of : List ℕ) (width : ℕ) (clocks : List ℕ) (b u : ℕ) : Type 0 where
+  pub filled : Filled tr ranks of width clocks
+  pub inside : b < length tr
+  pub access : T (isAccess (at tr b))
+  pub row : u ≡ rank tr (eventOf (at tr b)) - 1
 
 -- what one pair of records asks for, and what becomes of entry k, written or only counted
-pub record OneRoom (writing : Bool) (tr : List Record) (ranks of : List ℕ) (width : ℕ) (clocks : List ℕ) (a b k : ℕ) (list : List ℕ) : Type 0 where
-  pub filled : Filled tr ranks of width clocks
+pub record OneRoom (writing : Bool) (tr : List Record) (ranks of : List ℕ) (width : ℕ) (clocks : List ℕ) (a b u k : ℕ) (list : List ℕ) : Type 0 where
+  pub second : Second tr ranks of width clocks b u
   pub earlier : a < b
-  pub inside : b < length tr
+  pub may : T (mayRace tr (leastKind (at tr b .kind)) (cell tr b) a)
   pub few : k ≤ 4096 * b + a
   pub space : T writing → raceb (settingOf tr) a b ≡ true → 5 * k + 5 ≤ length list
 

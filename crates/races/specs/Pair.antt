@@ -123,13 +123,6 @@ pub record AnswersFilled (tr : List Record) (events a b : ℕ) (list list′ : L
   pub answer : pairPaper r ≡ pairFilled tr events (length list) a b
   pub list-after : ListAfter tr a b (pairFilled tr events (length list) a b) (entriesGiven r) list list′
 
--- of an accepted trace's records: the answer and all that is lent
-pub record AnswersTrace (tr : List Record) (events width : ℕ) (clocks clocks′ work work′ list list′ : List ℕ) (a b : ℕ) (r : PairAnswer) : Type 0 where
-  pub answer : pairPaper r ≡ pairTrace tr events width (length clocks) (length work) (length list) a b
-  pub clocks-after : clocks′ ≡ pairClocks tr events width clocks (length work) a b
-  pub work-after : work′ ≡ pairWork tr events width (length clocks) work a b
-  pub list-after : ListAfter tr (a - 1) (b - 1) (pairTrace tr events width (length clocks) (length work) (length list) a b) (entriesGiven r) list list′
-
 -- The same by the bytes.
 unfoldable pub pairRead : List ℕ → Reply → ℕ → ℕ → ℕ → ℕ → ℕ → ℕ → PairReply
 pairRead bytes (reading.refused n p) width clockSpace workSpace listSpace a b = refused n p

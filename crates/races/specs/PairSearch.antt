@@ -1,27 +1,23 @@
 -- How the entries of the pair question are found. Definitions alone. Assumes nothing.
 use Prim.Native.Nat.{ℕ, _+_, _*_, _≤_, _<_}
 use mathlib.Core.Path.{_≡_}
-use mathlib.Core.Bool.{Bool, _&&_}
+use mathlib.Core.Logic.{_≢_}
+use mathlib.Core.Bool.{Bool, not, _&&_}
 use mathlib.Core.List.{List, _++_, map}
 use lib.Dec.{T}
-use lib.ListN.{length}
+use lib.ListN.{length, getD, set}
 use Rattle.records.specs.declared.Record.{Record}
 use Rattle.records.specs.Records.{at, eventOf}
-use Rattle.trace.specs.Reading.{accepted, recordsIn, readReply}
+use Rattle.clocks.specs.Rows.{compareIn}
 use Rattle.order.specs.HappensBefore.{rank, happensBefore}
 use Rattle.coverage.specs.Below.{upto}
 use Rattle.coverage.specs.Race.{before, Race, raceb}
 use Rattle.coverage.specs.Cover.{CoversFrom}
 use Rattle.coverage.specs.Leading.{leads, lastKept}
 use Rattle.races.specs.Traces.{settingOf}
+use Rattle.races.specs.Kept.{rowOf}
+use Rattle.races.specs.ListPass.{Marks}
 use Rattle.races.specs.Pair.{withEntries, raceEntries}
-
--- the trace that was read in the bytes
-pub record ReadAs (bytes : List ℕ) (tr : List Record) (events : ℕ) : Type 0 where
-  pub start : ℕ
-  pub count : ℕ
-  pub reply : accepted start count events ≡ readReply bytes
-  pub records : tr ≡ recordsIn bytes start count
 
 -- the entries of an open pair from the records before i: the event, and the last record kept by its number
 abbrev pub entryAt : List Record → ℕ → ℕ × ℕ
@@ -29,6 +25,11 @@ entryAt tr i = (eventOf (at tr i), i + 1)
 
 unfoldable pub keptBelow : List Record → ℕ → ℕ → List (ℕ × ℕ)
 keptBelow tr b i = map (entryAt tr) (upto i (lastKept (settingOf tr) b))
+
+-- the entry of an event action that ends at record i is written where its mark is 1
+pub record PutsEnd (tr : List Record) (byte i k : ℕ) (list list′ : List ℕ) (r : ℕ) : Type 0 where
+  pub put : byte ≡ 1 → (r ≡ k + 1) × (list′ ≡ set (set list (2 * k) (eventOf (at tr i))) (2 * k + 1) (i + 1))
+  pub skipped : byte ≢ 1 → (r ≡ k) × (list′ ≡ list)
 
 -- record c races with record d, and the event action of t happens before that of c
 unfoldable pub racesFrom : List Record → ℕ → ℕ → ℕ → Bool
@@ -38,6 +39,18 @@ racesFrom tr t c d = raceb (settingOf tr) c d && happensBefore tr (eventOf (at t
 pub record First (tr : List Record) (b lo t d c : ℕ) : Type 0 where
   pub found : c < d → T (leads (settingOf tr) b (eventOf (at tr d))) × T (racesFrom tr t c d)
   pub none : d ≤ c → (x : ℕ) → lo ≤ x → T (leads (settingOf tr) b (eventOf (at tr d))) → T (racesFrom tr t x d) → ⊥
+
+-- no record from lo on, before c, so races with d, from an event action of row t
+abbrev pub NoneFrom : List Record → ℕ → ℕ → ℕ → ℕ → Type 0
+NoneFrom tr t lo d c = (x y : ℕ) → x < length tr → rowOf tr x ≡ t → lo ≤ y → y < c → T (racesFrom tr x y d) → ⊥
+
+-- c is the first that so races with d, from an event action of row t, whatever b the marks are for
+abbrev pub FirstFrom : List Record → List ℕ → List ℕ → ℕ → ℕ → ℕ → ℕ → Type 0
+FirstFrom tr ranks work lo t d c = (b x : ℕ) → Marks tr ranks work b → x < length tr → rowOf tr x ≡ t → First tr b lo x d c
+
+-- row c does not happen before row d, and row t happens before it
+unfoldable pub goesOn : List ℕ → ℕ → List ℕ → ℕ → ℕ → ℕ → Bool
+goesOn of width clocks t c d = not (compareIn clocks width (getD of c 0) c d) && compareIn clocks width (getD of t 0) t c
 
 -- no record before d has such a race
 abbrev pub NoRace : List Record → ℕ → ℕ → ℕ → ℕ → Type 0

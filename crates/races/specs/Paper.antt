@@ -22,7 +22,7 @@ pub record Lists (short : Bool) (b : List ℕ) (width : ℕ) (clocks clocks′ w
   pub list-after : list′ ≡ listAfterRead short b (readReply b) width (length clocks) (length work) list
 
 -- the same of a trace whose clocks are filled
-pub record ListsFilled (short : Bool) (tr : List Record) (events : ℕ) (work work′ list list′ : List ℕ) (r : Listing) : Type 0 where
+pub record ListsFilled (short : Bool) (tr : List Record) (events : ℕ) (clocks clocks′ list list′ : List ℕ) (r : Listing) : Type 0 where
   pub answer : listPaper r ≡ listFilled short tr events (length list)
-  pub work-after : work′ ≡ work
+  pub clocks-after : clocks′ ≡ clocks
   pub list-after : list′ ≡ listAfter tr (listFilled short tr events (length list)) (pairsOf tr short) list

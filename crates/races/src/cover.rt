@@ -1,8 +1,13 @@
 // A cover of a race, found forwards and without further memory: from an event action that leads to b, the next race whose second record's event action leads
 // to b.
-use crate::leading;
+use crate::candidates::least_kind;
+use crate::candidates::next_access;
+use crate::kept;
 use crate::pair;
 use crate::racing;
+use crate::racing::comes_before;
+use crate::racing::row_at;
+use records::access;
 ghost use mathlib.Core.Path.{_≡_};
 ghost use Prim.Native.Nat.{_*_, _≤_, _<_};
 ghost use lib.ListN.{length};
@@ -10,10 +15,10 @@ ghost use Rattle.records.specs.Bytes.{decode};
 ghost use Rattle.coverage.specs.Race.{Race};
 ghost use Rattle.coverage.specs.Leading.{coveredb};
 ghost use Rattle.races.specs.Traces.{settingOf};
-ghost use Rattle.races.specs.Filled.{Filled};
+ghost use Rattle.races.specs.Filled.{Filled, RowsIn};
 ghost use Rattle.races.specs.Leading.{rows};
 ghost use Rattle.races.specs.Pair.{GivesCover};
-ghost use Rattle.races.specs.PairSearch.{racesFrom, First, Sought, Next};
+ghost use Rattle.races.specs.PairSearch.{goesOn, FirstFrom, Sought, Next};
 ghost use Rattle.races.specs.ListPass.{Marks};
 ghost use lib.Dec.{T};
 
@@ -23,27 +28,19 @@ pub(crate) struct Step {
     pub second: usize,
 }
 
-// Does record c race with record d, and does the event action of t happen before that of c?
-fn races_from(
-    recs: &[u8],
-    ranks: &[u16],
-    of: &[u16],
-    width: usize,
-    clocks: &[u16],
-    t: usize,
-    c: usize,
-    d: usize,
-) -> bool
-    requires { ⌜ Filled (decode (now recs)) (now ranks) (now of) width (now clocks) × (t < length (decode (now recs))) × (c < d) × (d < length (decode (now recs))) ⌝ }
-    ensures { λ r. ⌜ r ≡ racesFrom (decode (now (recs .entry))) t c d ⌝ }
+// Is row c unordered with row d, and does row t happen before it?
+fn leads_on(of: &[u16], width: usize, clocks: &[u16], t: usize, c: usize, d: usize) -> bool
+    requires { ⌜ RowsIn (now of) width (now clocks) c d × RowsIn (now of) width (now clocks) t c ⌝ }
+    ensures { λ r. ⌜ r ≡ goesOn (now (of .entry)) width (now (clocks .entry)) t c d ⌝ }
 {
-    if !racing::is_race(recs, ranks, of, width, clocks, c, d) {
+    if comes_before(of, width, clocks, c, d) {
         return false;
     }
-    racing::is_before(recs, ranks, of, width, clocks, t, c)
+    comes_before(of, width, clocks, t, c)
 }
 
-// The first record from lo on, before d, that so races with d, where the event action of d leads to b; d where there is none.
+// The first record from lo on, before d, that races with d and that the event action of row t happens before, where the event action of d is marked; d where
+// there is none.
 fn find_first(
     recs: &[u8],
     ranks: &[u16],
@@ -53,22 +50,28 @@ fn find_first(
     work: &[u8],
     lo: usize,
     t: usize,
-    b: usize,
     d: usize,
 ) -> usize
-    requires { ⌜ Filled (decode (now recs)) (now ranks) (now of) width (now clocks) × Marks (decode (now recs)) (now ranks) (now work) b ⌝ }
-    requires { ⌜ (t < b) × (lo ≤ d) × (d < b) ⌝ }
-    ensures { λ r. ⌜ First (decode (now (recs .entry))) b lo t d r ⌝ }
+    requires { ⌜ Filled (decode (now recs)) (now ranks) (now of) width (now clocks) ⌝ }
+    requires { ⌜ (rows (decode (now recs)) ≤ length (now work)) × (t < rows (decode (now recs))) × (lo ≤ d) × (d < length (decode (now recs))) ⌝ }
+    ensures { λ r. ⌜ FirstFrom (decode (now (recs .entry))) (now (ranks .entry)) (now (work .entry)) lo t d r ⌝ }
 {
-    if !leading::is_leading(recs, ranks, work, d) {
+    let kind = access::kind_at(recs, d);
+    if kind < 5 {
         return d;
     }
-    let mut c = lo;
+    let u = row_at(recs, ranks, d);
+    if work[u] == 0 {
+        return d;
+    }
+    let x = access::second_at(recs, d);
+    let least = least_kind(kind);
+    let mut c = next_access(recs, lo, d, x, least);
     while c < d {
-        if races_from(recs, ranks, of, width, clocks, t, c, d) {
+        if leads_on(of, width, clocks, t, row_at(recs, ranks, c), u) {
             return c;
         }
-        c += 1;
+        c = next_access(recs, c + 1, d, x, least);
     }
     c
 }
@@ -89,10 +92,11 @@ fn find_race(
     requires { ⌜ Sought (decode (now recs)) b t ⌝ }
     ensures { λ r. ⌜ Next (decode (now (recs .entry))) b t (r .first) (r .second) ⌝ }
 {
-    let lo = leading::block_start(recs, t);
+    let lo = kept::block_start(recs, t);
+    let r = row_at(recs, ranks, t);
     let mut d = lo;
     while d < b {
-        let c = find_first(recs, ranks, of, width, clocks, work, lo, t, b, d);
+        let c = find_first(recs, ranks, of, width, clocks, work, lo, r, d);
         if c < d {
             return Step {
                 first: c,
@@ -120,7 +124,8 @@ pub(crate) fn put_cover(
     b: usize,
 ) -> usize
     requires { ⌜ Filled (decode (now recs)) (now ranks) (now of) width (now clocks) × Marks (decode (now recs)) (now ranks) (now work) b ⌝ }
-    requires { ⌜ Race (settingOf (decode (now recs))) a b × T (coveredb (settingOf (decode (now recs))) a b) × (2 * rows (decode (now recs)) ≤ length (now list)) ⌝ }
+    requires { ⌜ Race (settingOf (decode (now recs))) a b × T (coveredb (settingOf (decode (now recs))) a b)
+        × (2 * rows (decode (now recs)) ≤ length (now list)) ⌝ }
     ensures { λ r. ⌜ GivesCover (decode (now (recs .entry))) a b r (now (list .entry)) (now (list .exit)) ⌝ }
 {
     let mut t = a;

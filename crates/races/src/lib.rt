@@ -1,12 +1,12 @@
 // Races of a trace: the event actions that lead to an access.
 mod candidates;
 mod cover;
-mod few;
-mod leading;
+mod kept;
 mod lists;
-mod marking;
 pub mod pair;
 mod racing;
+mod raising;
+mod refilling;
 mod workspace;
 
 use trace::Refusal;

@@ -1,33 +1,34 @@
 // Both lists: for each second access, the first accesses that race with it, counted, then written, then marked.
 use crate::Listing;
 use crate::Summary;
+use crate::candidates::is_ordered;
 use crate::candidates::least_kind;
 use crate::candidates::next_access;
 use crate::candidates::no_numbers;
-use crate::candidates::note_number;
+use crate::candidates::note_access;
+use crate::candidates::way_from;
 use crate::candidates::way_to;
-use crate::few;
-use crate::marking;
-use crate::racing::is_before;
-use crate::racing::is_clash;
+use crate::racing::comes_before;
+use crate::racing::row_at;
+use crate::raising;
 use crate::workspace;
 use order::Filling;
 use records::access;
 use trace::Operation;
 use trace::Refusal;
 ghost use mathlib.Core.Path.{_≡_};
-ghost use mathlib.Core.Bool.{true};
+ghost use mathlib.Core.Bool.{true, cond};
 ghost use Prim.Native.Nat.{_+_, _*_, _/_, _≤_, _<_};
-ghost use lib.Dec.{T};
+ghost use lib.Dec.{T, eqb};
 ghost use lib.ListN.{length};
 ghost use lib.Seq.{sets};
 ghost use Rattle.records.specs.Bytes.{decode};
 ghost use Rattle.ranks.specs.Ranks.{noRanks};
-ghost use Rattle.order.specs.Fill.{chainsUsed, noChains};
+ghost use Rattle.order.specs.Fill.{eventsIn, chainsUsed, noChains};
 ghost use Rattle.races.specs.Lists.{shapeOf, ListReply};
 ghost use Rattle.races.specs.Paper.{listPaper, ListsFilled, Lists};
-ghost use Rattle.races.specs.ListPass.{fromOf, pairsBelow, raw, OneRoom, OneWrites, Clear, RoomIf, Writes, WritesAll, Counts, ListsAll};
-ghost use Rattle.races.specs.Candidates.{Range, Numbers};
+ghost use Rattle.races.specs.ListPass.{fromOf, pairsBelow, raw, Second, OneRoom, OneWrites, RoomIf, Writes, WritesAll, Counts, ListsAll};
+ghost use Rattle.races.specs.Candidates.{Range, Tables};
 ghost use Rattle.races.specs.Filled.{Filled};
 
 // 1 for ww, 2 for wr, 3 for rw.
@@ -56,7 +57,7 @@ fn put_entry(recs: &[u8], a: usize, b: usize, list: &mut [u16], k: usize)
     list[at + 4] = 0;
 }
 
-// Records a and b: entry k where they are a race, written or only counted. The next entry.
+// Records a and b, of row u, of which a may race with b: entry k where it does, written or only counted. The next entry.
 fn list_race(
     recs: &[u8],
     ranks: &[u16],
@@ -65,17 +66,15 @@ fn list_race(
     clocks: &[u16],
     a: usize,
     b: usize,
+    u: usize,
     list: &mut [u16],
     k: usize,
     writing: bool,
 ) -> usize
-    requires { ⌜ OneRoom writing (decode (now recs)) (now ranks) (now of) width (now clocks) a b k (now list) ⌝ }
+    requires { ⌜ OneRoom writing (decode (now recs)) (now ranks) (now of) width (now clocks) a b u k (now list) ⌝ }
     ensures { λ r. ⌜ OneWrites writing (decode (now (recs .entry))) a b k (now (list .entry)) (now (list .exit)) r ⌝ }
 {
-    if !is_clash(recs, a, b) {
-        return k;
-    }
-    if is_before(recs, ranks, of, width, clocks, a, b) {
+    if comes_before(of, width, clocks, row_at(recs, ranks, a), u) {
         return k;
     }
     if writing {
@@ -85,7 +84,7 @@ fn list_race(
     k + 1
 }
 
-// The races on the way to b, from entry k on, written or only counted.
+// The races on the way to b, of row u, from entry k on, written or only counted.
 fn list_way(
     recs: &[u8],
     ranks: &[u16],
@@ -95,64 +94,83 @@ fn list_way(
     from: usize,
     to: usize,
     b: usize,
+    u: usize,
     list: &mut [u16],
     k: usize,
     writing: bool,
 ) -> usize
-    requires { ⌜ Filled (decode (now recs)) (now ranks) (now of) width (now clocks) × (b < length (decode (now recs))) × Range (decode (now recs)) b from to ⌝ }
+    requires { ⌜ Second (decode (now recs)) (now ranks) (now of) width (now clocks) b u × Range (decode (now recs)) b from to ⌝ }
     requires { ⌜ RoomIf writing (decode (now recs)) b from k (now list) ⌝ }
     ensures { λ r. ⌜ Writes writing (decode (now (recs .entry))) b from k (now (list .entry)) (now (list .exit)) r ⌝ }
 {
     let c = access::second_at(recs, b);
     let least = least_kind(access::kind_at(recs, b));
     let mut next = k;
-    let mut a = from;
+    let mut a = next_access(recs, from, to, c, least);
     while a < to {
-        next = list_race(recs, ranks, of, width, clocks, a, b, list, next, writing);
+        next = list_race(recs, ranks, of, width, clocks, a, b, u, list, next, writing);
         a = next_access(recs, a + 1, to, c, least);
     }
     next
 }
 
-// The entries of record b where it is an access, from entry k on, written or only counted; the next entry. Takes the access into account.
-fn list_record(
+// The entries of the access b of row u, from entry k on, written or only counted; the next entry. Takes the access into account.
+fn list_access(
     recs: &[u8],
     ranks: &[u16],
     of: &[u16],
     width: usize,
     clocks: &[u16],
-    numbers: &mut [u16],
+    seen: &mut [u16],
+    written: &mut [u16],
     b: usize,
+    u: usize,
     list: &mut [u16],
     k: usize,
     short: bool,
     writing: bool,
 ) -> usize
-    requires { ⌜ Filled (decode (now recs)) (now ranks) (now of) width (now clocks) × (b < length (decode (now recs))) × RoomIf writing (decode (now recs)) b (fromOf (decode (now recs)) short b) k (now list) ⌝ }
-    requires { ⌜ Numbers (decode (now recs)) short b (now numbers) ⌝ }
-    ensures { λ r. ⌜ Writes writing (decode (now (recs .entry))) b (fromOf (decode (now (recs .entry))) short b) k (now (list .entry)) (now (list .exit)) r × Numbers (decode (now (recs .entry))) short (b + 1) (now (numbers .exit)) ⌝ }
+    requires { ⌜ Second (decode (now recs)) (now ranks) (now of) width (now clocks) b u ⌝ }
+    requires { ⌜ RoomIf writing (decode (now recs)) b (fromOf (decode (now recs)) short b) k (now list) ⌝ }
+    requires { ⌜ Tables (decode (now recs)) short b (now seen) (now written) ⌝ }
+    ensures { λ r. ⌜ Writes writing (decode (now (recs .entry))) b (fromOf (decode (now (recs .entry))) short b) k (now (list .entry)) (now (list .exit)) r ⌝ }
+    ensures { λ r. ⌜ Tables (decode (now (recs .entry))) short (b + 1) (now (seen .exit)) (now (written .exit)) ⌝ }
 {
-    if access::kind_at(recs, b) < 5 {
+    let kind = access::kind_at(recs, b);
+    let c = access::second_at(recs, b) as usize;
+    let last = written[c] as usize;
+    let ordered = is_ordered(of, width, clocks, seen[c], u);
+    note_access(seen, written, c, kind, ordered, short, b, u);
+    if ordered {
         return k;
     }
-    let way = way_to(recs, ranks, of, width, clocks, numbers, short, b);
-    note_number(recs, b, way.number, numbers);
-    if way.to <= way.from {
-        return k;
-    }
+    let from = way_from(short, last);
+    let to = way_to(kind, last, b);
     list_way(
         recs,
         ranks,
         of,
         width,
         clocks,
-        way.from,
-        way.to,
+        from,
+        to,
         b,
+        u,
         list,
         k,
         writing,
     )
+}
+
+// How many event actions have begun after a record of that kind.
+fn begun_after(kind: u8, begun: usize) -> usize
+    requires { ⌜ begun < 4096 ⌝ }
+    ensures { λ r. ⌜ r ≡ cond (eqb kind 1) (begun + 1) begun ⌝ }
+{
+    if kind == 1 {
+        return begun + 1;
+    }
+    begun
 }
 
 // All entries, written or only counted; their number.
@@ -170,18 +188,28 @@ fn list_all(
     ensures { λ r. ⌜ WritesAll writing (decode (now (recs .entry))) short (now (list .entry)) (now (list .exit)) r ⌝ }
 {
     let n = access::count(recs);
-    let mut numbers = no_numbers();
+    let mut seen = no_numbers();
+    let mut written = no_numbers();
     let mut k = 0;
+    let mut begun = 0;
     let mut b = 0;
     while b < n {
-        k = list_record(
+        let kind = access::kind_at(recs, b);
+        if kind < 5 {
+            begun = begun_after(kind, begun);
+            b += 1;
+            continue;
+        }
+        k = list_access(
             recs,
             ranks,
             of,
             width,
             clocks,
-            &mut numbers,
+            &mut seen,
+            &mut written,
             b,
+            begun - 1,
             list,
             k,
             short,
@@ -224,27 +252,23 @@ fn count_all(
     list_all(recs, ranks, of, width, clocks, list, short, false)
 }
 
-// Writes all entries and marks them; their number.
+// Writes all entries and marks them; their number. The clocks are as before.
 fn write_all(
     recs: &[u8],
     ranks: &[u16],
     of: &[u16],
-    width: usize,
-    clocks: &[u16],
-    work: &mut [u8],
     events: usize,
+    width: usize,
+    clocks: &mut [u16],
     list: &mut [u16],
     short: bool,
 ) -> usize
-    requires { ⌜ Filled (decode (now recs)) (now ranks) (now of) width (now clocks) × Clear (decode (now recs)) events (now work) × (5 * length (pairsBelow (decode (now recs)) short (length (decode (now recs)))) ≤ length (now list)) ⌝ }
-    ensures { λ r. ⌜ ListsAll (decode (now (recs .entry))) short (now (list .entry)) (now (list .exit)) r × (now (work .exit) ≡ now (work .entry)) ⌝ }
+    requires { ⌜ Filled (decode (now recs)) (now ranks) (now of) width (now clocks) × (events ≡ eventsIn (decode (now recs))) ⌝ }
+    requires { ⌜ 5 * length (pairsBelow (decode (now recs)) short (length (decode (now recs)))) ≤ length (now list) ⌝ }
+    ensures { λ r. ⌜ ListsAll (decode (now (recs .entry))) short (now (list .entry)) (now (list .exit)) r × (now (clocks .exit) ≡ now (clocks .entry)) ⌝ }
 {
     let found = list_all(recs, ranks, of, width, clocks, list, short, true);
-    if found <= 64 {
-        few::mark_few(recs, ranks, of, width, clocks, list, found);
-        return found;
-    }
-    marking::mark_all(recs, ranks, work, events, list, found);
+    raising::mark_list(recs, ranks, of, events, width, clocks, list, found);
     found
 }
 
@@ -273,16 +297,15 @@ fn list_filled(
     recs: &[u8],
     events: usize,
     width: usize,
-    clocks: &[u16],
+    clocks: &mut [u16],
     of: &[u16],
     all: &[u16],
     chains: usize,
-    work: &mut [u8],
     list: &mut [u16],
     short: bool,
 ) -> Listing
-    requires { ⌜ Filled (decode (now recs)) (now all) (now of) width (now clocks) × Clear (decode (now recs)) events (now work) × (chains ≡ chainsUsed (decode (now recs))) ⌝ }
-    ensures { λ r. ⌜ ListsFilled short (decode (now (recs .entry))) events (now (work .entry)) (now (work .exit)) (now (list .entry)) (now (list .exit)) r ⌝ }
+    requires { ⌜ Filled (decode (now recs)) (now all) (now of) width (now clocks) × (events ≡ eventsIn (decode (now recs))) × (chains ≡ chainsUsed (decode (now recs))) ⌝ }
+    ensures { λ r. ⌜ ListsFilled short (decode (now (recs .entry))) events (now (clocks .entry)) (now (clocks .exit)) (now (list .entry)) (now (list .exit)) r ⌝ }
 {
     let counted = count_all(recs, all, of, width, clocks, list, short);
     if list.len() / 5 < counted {
@@ -292,7 +315,7 @@ fn list_filled(
     if counted == 0 {
         return listed(events, records, chains, 0);
     }
-    let found = write_all(recs, all, of, width, clocks, work, events, list, short);
+    let found = write_all(recs, all, of, events, width, clocks, list, short);
     listed(events, records, chains, found)
 }
 
@@ -321,7 +344,7 @@ pub(crate) fn list_races(
 {
     let mut of = no_chains();
     let mut all = no_ranks();
-    let prepared = order::prepare(bytes, width, work.len(), clocks, &mut of, &mut all);
+    let prepared = order::prepare(bytes, 1, 0, width, work.len(), clocks, &mut of, &mut all);
     let t = prepared.trace;
     let events = t.events;
     workspace::clear_marks(work, events);
@@ -335,7 +358,6 @@ pub(crate) fn list_races(
             &of,
             &all,
             chains,
-            work,
             list,
             short,
         ),

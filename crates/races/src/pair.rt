@@ -1,27 +1,28 @@
 // The pair question: for a race, what an arrangement keeps that runs its second access without its first, or a cover.
 use crate::cover;
-use crate::leading;
+use crate::kept;
 use crate::lists::no_chains;
 use crate::lists::no_ranks;
 use crate::racing;
+use crate::racing::row_at;
 use crate::workspace;
 use order::Filling;
 use records::access;
 use trace::Operation;
-use trace::Reading;
 use trace::Refusal;
 ghost use mathlib.Core.Path.{_≡_};
-ghost use mathlib.Core.List.{List};
-ghost use Prim.Native.Nat.{ℕ, suc, _+_, _*_, _-_, _/_, _≤_, _<_};
-ghost use lib.ListN.{length, set};
+ghost use Prim.Native.Nat.{_+_, _*_, _/_, _≤_, _<_, min, max};
+ghost use lib.ListN.{length, getD, set};
 ghost use Rattle.records.specs.Bytes.{decode};
-ghost use Rattle.coverage.specs.Race.{Race, raceb};
-ghost use Rattle.coverage.specs.Leading.{lastKept, entries};
+ghost use Rattle.ranks.specs.Ranks.{ranksOf};
+ghost use Rattle.order.specs.Fill.{chainsUsed};
+ghost use Rattle.coverage.specs.Race.{raceb};
+ghost use Rattle.coverage.specs.Leading.{entries};
 ghost use Rattle.races.specs.Traces.{settingOf};
 ghost use Rattle.races.specs.Filled.{Filled};
 ghost use Rattle.races.specs.Leading.{rows};
-ghost use Rattle.races.specs.Pair.{isRecord, areRecords, pairPaper, PairReply, withEntries, keptEntries, AnswersRace, AnswersFilled, AnswersTrace, PairPromise};
-ghost use Rattle.races.specs.PairSearch.{keptBelow, ReadAs};
+ghost use Rattle.races.specs.Pair.{pairPaper, PairReply, withEntries, keptEntries, AnswersFilled, PairPromise};
+ghost use Rattle.races.specs.PairSearch.{PutsEnd};
 ghost use Rattle.races.specs.ListPass.{Marks, Clear};
 
 // What the pair question finds: open or covered, with the number of entries given, or why it is refused.
@@ -40,35 +41,12 @@ pub(crate) fn put_entry(list: &mut [u16], k: usize, first: u16, second: u16)
     list[2 * k + 1] = second;
 }
 
-// Is record i, not after b, the last one kept of its event action?
-fn is_last_kept(recs: &[u8], ranks: &[u16], work: &[u8], b: usize, i: usize) -> bool
-    requires { ⌜ Marks (decode (now recs)) (now ranks) (now work) b × (i ≤ b) ⌝ }
-    ensures { λ r. ⌜ r ≡ lastKept (settingOf (decode (now (recs .entry)))) b i ⌝ }
+// Writes the entry of the event action that ends at record i, of row t, where it is kept; gives the number of entries then.
+fn put_end(recs: &[u8], work: &[u8], t: usize, i: usize, list: &mut [u16], k: usize) -> usize
+    requires { ⌜ (t < length (now work)) × (i < 4096) × (getD (now work) t 0 ≡ 1 → 2 * k + 1 < length (now list)) ⌝ }
+    ensures { λ r. ⌜ PutsEnd (decode (now (recs .entry))) (getD (now (work .entry)) t 0) i k (now (list .entry)) (now (list .exit)) r ⌝ }
 {
-    if !leading::is_leading(recs, ranks, work, i) {
-        return false;
-    }
-    if i == b {
-        return true;
-    }
-    access::first_at(recs, i + 1) != access::first_at(recs, i)
-}
-
-// Writes the entry of record i where it is the last one kept of its event action; gives the number of entries then.
-fn put_kept_at(
-    recs: &[u8],
-    ranks: &[u16],
-    work: &[u8],
-    b: usize,
-    i: usize,
-    list: &mut [u16],
-    k: usize,
-) -> usize
-    requires { ⌜ Marks (decode (now recs)) (now ranks) (now work) b × (i ≤ b) ⌝ }
-    requires { ⌜ (k ≡ length (keptBelow (decode (now recs)) b i)) × (2 * rows (decode (now recs)) ≤ length (now list)) ⌝ }
-    ensures { λ r. ⌜ (r ≡ length (keptBelow (decode (now (recs .entry))) b (suc i))) × ((entry : List ℕ) → now (list .entry) ≡ withEntries (keptBelow (decode (now (recs .entry))) b i) entry → now (list .exit) ≡ withEntries (keptBelow (decode (now (recs .entry))) b (suc i)) entry) ⌝ }
-{
-    if !is_last_kept(recs, ranks, work, b, i) {
+    if work[t] != 1 {
         return k;
     }
     put_entry(list, k, access::first_at(recs, i), (i + 1) as u16);
@@ -76,49 +54,23 @@ fn put_kept_at(
 }
 
 // Writes the entries of an open pair whose second record is b; gives their number.
-fn put_kept(recs: &[u8], ranks: &[u16], work: &[u8], b: usize, list: &mut [u16]) -> usize
-    requires { ⌜ Marks (decode (now recs)) (now ranks) (now work) b × (2 * rows (decode (now recs)) ≤ length (now list)) ⌝ }
-    ensures { λ r. ⌜ (r ≡ length (entries (settingOf (decode (now (recs .entry)))) b)) × (now (list .exit) ≡ withEntries (keptEntries (decode (now (recs .entry))) b) (now (list .entry))) ⌝ }
+fn put_kept(recs: &[u8], work: &[u8], b: usize, list: &mut [u16]) -> usize
+    requires { ⌜ Marks (decode (now recs)) (ranksOf (decode (now recs))) (now work) b × (2 * rows (decode (now recs)) ≤ length (now list)) ⌝ }
+    ensures { λ r. ⌜ (r ≡ length (entries (settingOf (decode (now (recs .entry)))) b))
+        × (now (list .exit) ≡ withEntries (keptEntries (decode (now (recs .entry))) b) (now (list .entry))) ⌝ }
 {
     let mut k = 0;
+    let mut t = 0;
     let mut i = 0;
-    while i <= b {
-        k = put_kept_at(recs, ranks, work, b, i, list, k);
+    while i < b {
+        if access::kind_at(recs, i) == 2 {
+            k = put_end(recs, work, t, i, list, k);
+            t += 1;
+        }
         i += 1;
     }
-    k
-}
-
-// Writes the entries for a race (a, b), open or covered as the marks say.
-fn put_entries(
-    recs: &[u8],
-    ranks: &[u16],
-    of: &[u16],
-    width: usize,
-    clocks: &[u16],
-    work: &[u8],
-    list: &mut [u16],
-    a: usize,
-    b: usize,
-) -> PairAnswer
-    requires { ⌜ Filled (decode (now recs)) (now ranks) (now of) width (now clocks) × Marks (decode (now recs)) (now ranks) (now work) b ⌝ }
-    requires { ⌜ Race (settingOf (decode (now recs))) a b × (2 * rows (decode (now recs)) ≤ length (now list)) ⌝ }
-    ensures { λ r. ⌜ AnswersRace (decode (now (recs .entry))) a b (now (list .entry)) (now (list .exit)) r ⌝ }
-{
-    if leading::is_leading(recs, ranks, work, a) {
-        return PairAnswer::Covered(cover::put_cover(
-            recs,
-            ranks,
-            of,
-            width,
-            clocks,
-            work,
-            list,
-            a,
-            b,
-        ));
-    }
-    PairAnswer::Open(put_kept(recs, ranks, work, b, list))
+    put_entry(list, k, access::first_at(recs, b), (b + 1) as u16);
+    k + 1
 }
 
 // Are records a and b a race, first then second?
@@ -149,20 +101,23 @@ fn refused(number: u16) -> PairAnswer
     })
 }
 
-// Records a and b of an accepted trace whose clocks are filled, over a work space that is 0 for its event actions.
+// Records a and b of an accepted trace whose clocks are filled, over a work space that is 0 for its event actions. The table of ranks is lent for what leads
+// to b, and filled again before a cover is looked for.
 fn ask_filled(
     recs: &[u8],
-    all: &[u16],
+    all: &mut [u16; 1025],
     of: &[u16],
     events: usize,
     width: usize,
+    chains: usize,
     clocks: &[u16],
     work: &mut [u8],
     list: &mut [u16],
     a: usize,
     b: usize,
 ) -> PairAnswer
-    requires { ⌜ Filled (decode (now recs)) (now all) (now of) width (now clocks) × (b < length (decode (now recs))) ⌝ }
+    requires { ⌜ Filled (decode (now recs)) (now all) (now of) width (now clocks) × (chains ≡ chainsUsed (decode (now recs)))
+        × (b < length (decode (now recs))) ⌝ }
     requires { ⌜ Clear (decode (now recs)) events (now work) ⌝ }
     ensures { λ r. ⌜ AnswersFilled (decode (now (recs .entry))) events a b (now (list .entry)) (now (list .exit)) r × (now (work .exit) ≡ now (work .entry)) ⌝ }
 {
@@ -172,59 +127,36 @@ fn ask_filled(
     if list.len() / 2 < events {
         return refused(trace::LIST_SPACE);
     }
-    leading::mark_leading(recs, all, 0, b, work);
-    let answer = put_entries(recs, all, of, width, clocks, work, list, a, b);
+    let t = row_at(recs, all, a);
+    let u = row_at(recs, all, b);
+    kept::mark_leading(recs, of, width, chains, clocks, work, all, u, b);
+    if work[t] == 1 {
+        ranks::fill_ranks(recs, all);
+        let count = cover::put_cover(recs, all, of, width, clocks, work, list, a, b);
+        workspace::clear_marks(work, events);
+        return PairAnswer::Covered(count);
+    }
+    let count = put_kept(recs, work, b, list);
     workspace::clear_marks(work, events);
-    answer
+    PairAnswer::Open(count)
 }
 
-fn is_record(recs: &[u8], n: u16) -> bool
-    ensures { λ r. ⌜ r ≡ isRecord (decode (now (recs .entry))) n ⌝ }
+fn larger(a: u16, b: u16) -> u16
+    ensures { λ r. ⌜ r ≡ max a b ⌝ }
 {
-    if n < 1 {
-        return false;
+    if a < b {
+        return b;
     }
-    (n as usize) <= access::count(recs)
+    a
 }
 
-fn are_records(recs: &[u8], a: u16, b: u16) -> bool
-    ensures { λ r. ⌜ r ≡ areRecords (decode (now (recs .entry))) a b ⌝ }
+fn smaller(a: u16, b: u16) -> u16
+    ensures { λ r. ⌜ r ≡ min a b ⌝ }
 {
-    if !is_record(recs, a) {
-        return false;
+    if a < b {
+        return a;
     }
-    is_record(recs, b)
-}
-
-// Records a and b of an accepted trace.
-fn ask_trace(
-    bytes: &[u8],
-    recs: &[u8],
-    events: usize,
-    width: usize,
-    clocks: &mut [u16],
-    work: &mut [u8],
-    list: &mut [u16],
-    a: u16,
-    b: u16,
-) -> PairAnswer
-    requires { ⌜ ReadAs (now bytes) (decode (now recs)) events ⌝ }
-    ensures { λ r. ⌜ AnswersTrace (decode (now (recs .entry))) events width (now (clocks .entry)) (now (clocks .exit)) (now (work .entry)) (now (work .exit)) (now (list .entry)) (now (list .exit)) a b r ⌝ }
-{
-    if !are_records(recs, a, b) {
-        return refused(trace::NOT_IN_TRACE);
-    }
-    let i = (a - 1) as usize;
-    let j = (b - 1) as usize;
-    let mut of = no_chains();
-    let mut all = no_ranks();
-    let prepared = order::prepare(bytes, width, work.len(), clocks, &mut of, &mut all);
-    workspace::clear_marks(work, prepared.trace.events);
-    let answer = prepared.answer;
-    match answer {
-        Filling::Filled(_) => ask_filled(recs, &all, &of, events, width, clocks, work, list, i, j),
-        Filling::Refused(why) => PairAnswer::Refused(why),
-    }
+    b
 }
 
 // The pair question: clocks are filled on the way, and entries are two numbers each in the list space.
@@ -237,21 +169,45 @@ pub fn ask_pair(
     a: Operation,
     b: Operation,
 ) -> PairAnswer
-    ensures { λ r. ⌜ PairPromise (now (bytes .entry)) width (now (clocks .entry)) (now (clocks .exit)) (now (work .entry)) (now (work .exit)) (now (list .entry)) (now (list .exit)) (a .0) (b .0) r ⌝ }
+    ensures { λ r. ⌜ PairPromise (now (bytes .entry)) width (now (clocks .entry)) (now (clocks .exit))
+        (now (work .entry)) (now (work .exit)) (now (list .entry)) (now (list .exit)) (a .0) (b .0) r ⌝ }
 {
-    let reading = trace::read(bytes);
-    let Reading::Accepted(t) = reading else {
-        return PairAnswer::Refused(trace::refusal_of(reading));
-    };
-    ask_trace(
+    let mut of = no_chains();
+    let mut all = no_ranks();
+    let lowest = smaller(a.0, b.0);
+    let highest = larger(a.0, b.0);
+    let prepared = order::prepare(
         bytes,
-        access::records(bytes, t),
-        t.events,
+        lowest,
+        highest,
         width,
+        work.len(),
         clocks,
-        work,
-        list,
-        a.0,
-        b.0,
-    )
+        &mut of,
+        &mut all,
+    );
+    let t = prepared.trace;
+    let events = t.events;
+    workspace::clear_marks(work, events);
+    let answer = prepared.answer;
+    match answer {
+        Filling::Filled(chains) => {
+            let i = (a.0 - 1) as usize;
+            let j = (b.0 - 1) as usize;
+            ask_filled(
+                access::records(bytes, t),
+                &mut all,
+                &of,
+                events,
+                width,
+                chains,
+                clocks,
+                work,
+                list,
+                i,
+                j,
+            )
+        }
+        Filling::Refused(why) => PairAnswer::Refused(why),
+    }
 }

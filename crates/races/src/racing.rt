@@ -1,18 +1,27 @@
 // Which accesses race, by the clocks.
-use crate::leading::is_access;
 use clocks::compare;
 use ranks::rank_of;
 use records::Record;
 use records::access;
 ghost use mathlib.Core.Path.{_≡_};
-ghost use Prim.Native.Nat.{_<_};
-ghost use lib.ListN.{length};
+ghost use Prim.Native.Nat.{_-_, _<_};
+ghost use lib.ListN.{length, getD};
 ghost use Rattle.records.specs.Bytes.{decode};
 ghost use Rattle.records.specs.Records.{at, eventOf};
 ghost use Rattle.order.specs.HappensBefore.{happensBefore};
 ghost use Rattle.coverage.specs.Race.{raceb};
-ghost use Rattle.races.specs.Traces.{settingOf, conflict, clash};
-ghost use Rattle.races.specs.Filled.{Filled};
+ghost use Rattle.races.specs.Traces.{isAccess, settingOf, conflict, clash};
+ghost use Rattle.clocks.specs.Rows.{compareIn};
+ghost use Rattle.races.specs.Filled.{Filled, RowsIn};
+
+pub(crate) fn is_access(r: Record) -> bool
+    ensures { λ x. ⌜ x ≡ isAccess r ⌝ }
+{
+    if r.kind == 5 {
+        return true;
+    }
+    r.kind == 6
+}
 
 // Both access, the same cell, and one of them writes.
 pub(crate) fn is_conflict(a: Record, b: Record) -> bool
@@ -41,6 +50,26 @@ pub(crate) fn is_clash(recs: &[u8], a: usize, b: usize) -> bool
         return false;
     }
     access::first_at(recs, a) != access::first_at(recs, b)
+}
+
+// The row of record i's event action.
+pub(crate) fn row_at(recs: &[u8], ranks: &[u16], i: usize) -> usize
+    ensures { λ r. ⌜ r ≡ getD (now (ranks .entry)) (at (decode (now (recs .entry))) i .first) 0 - 1 ⌝ }
+{
+    let rank = rank_of(ranks, access::first_at(recs, i));
+    if rank == 0 {
+        return 0;
+    }
+    (rank - 1) as usize
+}
+
+// Whether row t's own entry, at its chain, is at most row u's.
+pub(crate) fn comes_before(of: &[u16], width: usize, clocks: &[u16], t: usize, u: usize) -> bool
+    requires { ⌜ RowsIn (now of) width (now clocks) t u ⌝ }
+    ensures { λ r. ⌜ r ≡ compareIn (now (clocks .entry)) width (getD (now (of .entry)) t 0) t u ⌝ }
+{
+    let c = of[t] as usize;
+    clocks[t * width + c] <= clocks[u * width + c]
 }
 
 // Whether the event action of record a happens before that of record b.

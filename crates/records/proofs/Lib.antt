@@ -1,3 +1,4 @@
 pub mod Records
 pub mod Decoded
 pub mod Positions
+pub mod Leading

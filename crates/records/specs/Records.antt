@@ -59,3 +59,8 @@ ended e before = has isEnd e before
 unfoldable pub begins : List Record → ℕ
 begins [] = 0
 begins (r ∷ before) = cond (isBegin r) (begins before + 1) (begins before)
+
+-- How many of the k records from position i on stand before the first that is no access: kinds above 4 are read and write.
+unfoldable pub leading : List Record → ℕ → ℕ → ℕ
+leading tr zero i = 0
+leading tr (suc k) i = cond (leb 5 (at tr i .kind)) (suc (leading tr k (suc i))) 0

@@ -2,10 +2,10 @@
 use crate::Record;
 use crate::Trace;
 ghost use mathlib.Core.Path.{_≡_};
-ghost use Prim.Native.Nat.{_+_, _*_, _/_, _≤_, _<_};
+ghost use Prim.Native.Nat.{_+_, _-_, _*_, _/_, _≤_, _<_};
 ghost use lib.ListN.{getD, length, take, drop};
 ghost use Rattle.records.specs.Bytes.{twoBytes, decode, part};
-ghost use Rattle.records.specs.Records.{at, past, begins};
+ghost use Rattle.records.specs.Records.{at, past, begins, leading};
 
 fn pair(low: u8, high: u8) -> u16
     ensures { λ r. ⌜ r ≡ low + 256 * high ⌝ }
@@ -97,4 +97,58 @@ pub fn count_begins(recs: &[u8]) -> usize
         i += 1;
     }
     found
+}
+
+// How many of the four records from i on stand before the first that is no read or write.
+fn accesses_among_four(recs: &[u8], i: usize) -> usize
+    requires { ⌜ i ≤ length (decode (now recs)) ⌝ }
+    ensures { λ r. ⌜ r ≡ leading (decode (now (recs .entry))) 4 i ⌝ }
+{
+    if kind_at(recs, i) < 5 {
+        return 0;
+    }
+    if kind_at(recs, i + 1) < 5 {
+        return 1;
+    }
+    if kind_at(recs, i + 2) < 5 {
+        return 2;
+    }
+    if kind_at(recs, i + 3) < 5 {
+        return 3;
+    }
+    4
+}
+
+// The same of the records from i up to n, one by one.
+fn skip_last(recs: &[u8], i: usize, n: usize) -> usize
+    requires { ⌜ i ≤ n ⌝ }
+    ensures { λ r. ⌜ r ≡ i + leading (decode (now (recs .entry))) (n - i) i ⌝ }
+{
+    let mut at = i;
+    while at < n {
+        if kind_at(recs, at) < 5 {
+            return at;
+        }
+        at += 1;
+    }
+    at
+}
+
+// From record `from` on past reads and writes, four at a time: the first position that has none, or the number of records.
+pub fn skip_accesses(recs: &[u8], from: usize) -> usize
+    ensures { λ r. ⌜ r ≡ from + leading (decode (now (recs .entry))) (length (decode (now (recs .entry))) - from) from ⌝ }
+{
+    let n = count(recs);
+    if n < from {
+        return from;
+    }
+    let mut i = from;
+    while i + 4 <= n {
+        let k = accesses_among_four(recs, i);
+        if k < 4 {
+            return i + k;
+        }
+        i += 4;
+    }
+    skip_last(recs, i, n)
 }

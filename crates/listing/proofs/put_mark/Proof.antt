@@ -12,7 +12,9 @@ slice-aggregate-put-word c = search needs
 
 put-word-requires : tie.Need-put-word-requires
 unfolding markWord ascii
-put-word-requires c κs = omega (arith, simp (eq-eqb _ _ (c .before .before .if1 .taken)) at (c .before .before .before .before .pre))
+put-word-requires c κs =
+    let start = c .before .before .before .before in
+    omega (arith, simp (eq-eqb _ _ (c .before .before .if1 .taken)) at (start .pre))
 
 same-length : tie.Need-same-length
 same-length c = search needs
@@ -20,7 +22,8 @@ same-length c = search needs
 returns : tie.Need-returns
 unfolding markWord ascii
 returns c =
-    let test = c .before .before .before .before .before in
+    let at-before = c .before .before .before .before in
+    let test = at-before .before in
     simp (eq-eqb _ _ (test .if1 .taken)) (c .before .before .put-word .ensures)
 
 slice-aggregate-put-word-2 : tie.Need-slice-aggregate-put-word-2
@@ -28,7 +31,9 @@ slice-aggregate-put-word-2 c = search needs
 
 put-word-requires-2 : tie.Need-put-word-requires-2
 unfolding markWord ascii
-put-word-requires-2 c κs = omega (arith, simp (ne-eqb _ _ (c .before .before .if1 .left)) at (c .before .before .before .before .pre))
+put-word-requires-2 c κs =
+    let start = c .before .before .before .before in
+    omega (arith, simp (ne-eqb _ _ (c .before .before .if1 .left)) at (start .pre))
 
 same-length-2 : tie.Need-same-length-2
 same-length-2 c = search needs
@@ -36,7 +41,8 @@ same-length-2 c = search needs
 returns-2 : tie.Need-returns-2
 unfolding markWord ascii
 returns-2 c =
-    let test = c .before .before .before .before .before in
+    let at-before = c .before .before .before .before in
+    let test = at-before .before in
     simp (ne-eqb _ _ (test .if1 .left)) (c .before .before .put-word2 .ensures)
 
 pub put-mark-spec : {M : Type 1} → statement M

@@ -18,7 +18,9 @@ same-length : tie.Need-same-length
 same-length c = search needs
 
 returns : tie.Need-returns
-returns c = shape-written _ _ (c .before .before .before .before .shape-word .ensures) (c .before .before .put-word .ensures)
+returns c =
+    let at-shape-word = c .before .before .before .before in
+    shape-written _ _ (at-shape-word .shape-word .ensures) (c .before .before .put-word .ensures)
 
 pub put-shape-spec : {M : Type 1} → statement M
 put-shape-spec =

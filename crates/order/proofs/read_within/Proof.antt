@@ -26,29 +26,42 @@ returns c =
     let e = refused-reading (now (c .before .before .before .before .args .bytes)) (c .before .before .read .result) (c .before .before .read .ensures) (c .before .match .keys2) in
     c .before .before .read .ensures ∙ rw e
 
-has-space-requires : tie.Need-has-space-requires
-has-space-requires c κs = search needs
+has-records-requires : tie.Need-has-records-requires
+has-records-requires c κs = search needs
 
 returns-2 : tie.Need-returns-2
 unfolding readWithin within reading.demand
 returns-2 c =
     let e = sym (ap paper (c .before .before .before .reading .given .1)) ∙ c .before .before .before .before .before .read .ensures in
-    let space = sym (c .before .has-space .ensures) ∙ not-true (c .before .has-space .result) (c .if1 .taken) in
-    rw (← e, space)
+    let records = sym (c .before .has-records .ensures) ∙ not-true (c .before .has-records .result) (c .if1 .taken) in
+    rw (← e, records)
+
+has-space-requires : tie.Need-has-space-requires
+has-space-requires c κs = search needs
 
 returns-3 : tie.Need-returns-3
 unfolding readWithin within reading.demand
 returns-3 c =
     let e = sym (ap paper (c .before .before .before .before .before .reading .given .1)) ∙ c .before .before .before .before .before .before .before .read .ensures in
-    let space = sym (c .before .before .before .has-space .ensures) ∙ not-false (c .before .before .before .has-space .result) (c .before .before .if1 .left) in
-    rw (← e, space, lt-leb _ _ (c .if2 .taken))
+    let records = sym (c .before .before .before .has-records .ensures) ∙ not-false (c .before .before .before .has-records .result) (c .before .before .if1 .left) in
+    let space = sym (c .before .has-space .ensures) ∙ not-true (c .before .has-space .result) (c .if2 .taken) in
+    rw (← e, records, space)
 
 returns-4 : tie.Need-returns-4
 unfolding readWithin within reading.demand
 returns-4 c =
-    let e = sym (ap paper (c .before .before .before .before .before .reading .given .1)) ∙ c .before .before .before .before .before .before .before .read .ensures in
-    let space = sym (c .before .before .before .has-space .ensures) ∙ not-false (c .before .before .before .has-space .result) (c .before .before .if1 .left) in
-    rw (← e, space, le-leb _ _ (c .if2 .left))
+    let e = sym (ap paper (c .before .before .before .before .before .before .before .reading .given .1)) ∙ c .before .before .before .before .before .before .before .before .before .read .ensures in
+    let records = sym (c .before .before .before .before .before .has-records .ensures) ∙ not-false (c .before .before .before .before .before .has-records .result) (c .before .before .before .before .if1 .left) in
+    let space = sym (c .before .before .before .has-space .ensures) ∙ not-false (c .before .before .before .has-space .result) (c .before .before .if2 .left) in
+    rw (← e, records, space, lt-leb _ _ (c .if3 .taken))
+
+returns-5 : tie.Need-returns-5
+unfolding readWithin within reading.demand
+returns-5 c =
+    let e = sym (ap paper (c .before .before .before .before .before .before .before .reading .given .1)) ∙ c .before .before .before .before .before .before .before .before .before .read .ensures in
+    let records = sym (c .before .before .before .before .before .has-records .ensures) ∙ not-false (c .before .before .before .before .before .has-records .result) (c .before .before .before .before .if1 .left) in
+    let space = sym (c .before .before .before .has-space .ensures) ∙ not-false (c .before .before .before .has-space .result) (c .before .before .if2 .left) in
+    rw (← e, records, space, le-leb _ _ (c .if3 .left))
 
 pub read-within-spec : {M : Type 1} → statement M
 read-within-spec =
@@ -58,7 +71,9 @@ read-within-spec =
     enum-known-reading
     enum-told
     returns
-    has-space-requires
+    has-records-requires
     returns-2
+    has-space-requires
     returns-3
-    returns-4)
+    returns-4
+    returns-5)

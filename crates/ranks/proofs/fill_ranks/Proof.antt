@@ -35,7 +35,9 @@ clear-requires c κs = search needs
 
 loop-holds : tie.Need-loop-holds Inv-loop μ-loop
 unfolding ranksUpto noRanks begins past
-loop-holds c = let e : length (now (c .before .before .before .before .args .all)) ≡ 1025 = omega arith in (c .clear .ensures ∙ ap (λ (k : ℕ). replicate k 0) e, refl, search needs, search needs)
+loop-holds c =
+    let start = c .before .before .before .before in
+    let e : length (now (start .args .all)) ≡ 1025 = omega arith in (c .clear .ensures ∙ ap (λ (k : ℕ). replicate k 0) e, refl, search needs, search needs)
 
 kind-at-requires : tie.Need-kind-at-requires Inv-loop μ-loop
 kind-at-requires c κs = search needs
@@ -45,8 +47,10 @@ first-at-requires c κs = search needs
 
 note-rank-requires : tie.Need-note-rank-requires Inv-loop μ-loop
 note-rank-requires c κs =
-    let n = decoded-length (now (c .before .before .before .before .before .before .before .before .before .args .recs)) in
-    omega (arith, c .before .before .before .before .before .before .before .before .before .good .0 .0, c .before .before .before .before .before .before .before .count .ensures)
+    let at-count = c .before .before .before .before .before .before .before in
+    let start = at-count .before .before in
+    let n = decoded-length (now (start .args .recs)) in
+    omega (arith, start .good .0 .0, at-count .count .ensures)
 
 add-i : tie.Need-add-i Inv-loop μ-loop
 add-i c = omega arith
@@ -57,8 +61,10 @@ loop-less c = omega arith
 loop-again : tie.Need-loop-again Inv-loop μ-loop
 unfolding begins
 loop-again c =
-    let tr = decode (now (c .before .before .before .before .before .before .before .before .before .before .args .recs)) in
-    let l = c .before .before .before .before .before .loop in
+    let at-loop = c .before .before .before .before .before in
+    let start = at-loop .before .before .before .before .before in
+    let tr = decode (now (start .args .recs)) in
+    let l = at-loop .loop in
     let k = c .before .before .before .kind-at .ensures in
     let f = c .before .before .first-at .ensures in
     let all : c .note-rank .last .0 ≡ ranksUpto tr (l .i + 1) = c .note-rank .ensures .1 ∙ simp (k, f, l .inv .0, l .inv .1, ranks-more tr (l .i)) in
@@ -68,8 +74,9 @@ loop-again c =
 returns : tie.Need-returns Inv-loop μ-loop
 unfolding ranksOf
 returns c =
-    let e : c .before .loop .i ≡ c .before .before .before .before .count .result = omega arith in
-    c .before .loop .inv .0 ∙ simp (e, c .before .before .before .before .count .ensures)
+    let at-count = c .before .before .before .before in
+    let e : c .before .loop .i ≡ at-count .count .result = omega arith in
+    c .before .loop .inv .0 ∙ simp (e, at-count .count .ensures)
 
 pub fill-ranks-spec : {M : Type 1} → statement M
 fill-ranks-spec =

@@ -22,7 +22,9 @@ same-length : tie.Need-same-length
 same-length c = search needs
 
 returns-2 : tie.Need-returns-2
-returns-2 c = (simp (eq-eqb _ _ (c .before .before .before .before .if1 .left)), c .before .before .set-rank .ensures ∙ simp (eq-eqb _ _ (c .before .before .before .before .if1 .left)))
+returns-2 c =
+    let at-if1 = c .before .before .before .before in
+    (simp (eq-eqb _ _ (at-if1 .if1 .left)), c .before .before .set-rank .ensures ∙ simp (eq-eqb _ _ (at-if1 .if1 .left)))
 
 pub note-rank-spec : {M : Type 1} → statement M
 note-rank-spec =

@@ -31,7 +31,9 @@ begin-of-requires c κs = search needs
 
 returns-2 : tie.Need-returns-2
 unfolding opOf
-returns-2 c = c .begin-of .ensures ∙ simp (← c .before .before .before .before .before .kind-at .ensures, eq-eqb _ _ (c .before .before .before .if2 .taken), c .before .rank-of .ensures, c .before .before .first-at .ensures)
+returns-2 c =
+    let at-kind-at = c .before .before .before .before .before in
+    c .begin-of .ensures ∙ simp (← at-kind-at .kind-at .ensures, eq-eqb _ _ (c .before .before .before .if2 .taken), c .before .rank-of .ensures, c .before .before .first-at .ensures)
 
 first-at-requires-2 : tie.Need-first-at-requires-2
 first-at-requires-2 c κs = search needs
@@ -50,7 +52,12 @@ link-of-requires c κs = search needs
 
 returns-3 : tie.Need-returns-3
 unfolding opOf
-returns-3 c = c .link-of .ensures ∙ simp (← c .before .before .before .before .before .before .before .before .kind-at .ensures, ne-eqb _ _ (c .before .before .before .before .before .before .if2 .left), eq-eqb _ _ (c .before .before .before .before .before .if3 .taken), c .before .before .before .rank-of2 .ensures, c .before .before .before .before .first-at2 .ensures, c .before .rank-of3 .ensures, c .before .before .second-at .ensures)
+returns-3 c =
+    let at-first-at2 = c .before .before .before .before in
+    let at-if3 = at-first-at2 .before in
+    let at-if2 = at-if3 .before in
+    let at-kind-at = at-if2 .before .before in
+    c .link-of .ensures ∙ simp (← at-kind-at .kind-at .ensures, ne-eqb _ _ (at-if2 .if2 .left), eq-eqb _ _ (at-if3 .if3 .taken), c .before .before .before .rank-of2 .ensures, at-first-at2 .first-at2 .ensures, c .before .rank-of3 .ensures, c .before .before .second-at .ensures)
 
 second-at-requires-2 : tie.Need-second-at-requires-2
 second-at-requires-2 c κs = search needs
@@ -69,11 +76,19 @@ link-of-requires-2 c κs = search needs
 
 returns-4 : tie.Need-returns-4
 unfolding opOf
-returns-4 c = c .link-of2 .ensures ∙ simp (← c .before .before .before .before .before .before .before .before .before .kind-at .ensures, ne-eqb _ _ (c .before .before .before .before .before .before .before .if2 .left), ne-eqb _ _ (c .before .before .before .before .before .before .if3 .left), eq-eqb _ _ (c .before .before .before .before .before .if4 .taken), c .before .before .before .rank-of4 .ensures, c .before .before .before .before .second-at2 .ensures, c .before .rank-of5 .ensures, c .before .before .first-at3 .ensures)
+returns-4 c =
+    let at-second-at2 = c .before .before .before .before in
+    let at-if4 = at-second-at2 .before in
+    let at-if3 = at-if4 .before in
+    let at-if2 = at-if3 .before in
+    let at-kind-at = at-if2 .before .before in
+    c .link-of2 .ensures ∙ simp (← at-kind-at .kind-at .ensures, ne-eqb _ _ (at-if2 .if2 .left), ne-eqb _ _ (at-if3 .if3 .left), eq-eqb _ _ (at-if4 .if4 .taken), c .before .before .before .rank-of4 .ensures, at-second-at2 .second-at2 .ensures, c .before .rank-of5 .ensures, c .before .before .first-at3 .ensures)
 
 returns-5 : tie.Need-returns-5
 unfolding opOf
-returns-5 c = simp (← c .before .before .before .before .kind-at .ensures, ne-eqb _ _ (c .before .before .if2 .left), ne-eqb _ _ (c .before .if3 .left), ne-eqb _ _ (c .if4 .left))
+returns-5 c =
+    let at-kind-at = c .before .before .before .before in
+    simp (← at-kind-at .kind-at .ensures, ne-eqb _ _ (c .before .before .if2 .left), ne-eqb _ _ (c .before .if3 .left), ne-eqb _ _ (c .if4 .left))
 
 pub ordering-at-spec : {M : Type 1} → statement M
 ordering-at-spec =

@@ -22,7 +22,10 @@ not-closed-requires-2 : tie.Need-not-closed-requires-2
 not-closed-requires-2 c κs = search needs
 
 returns-2 : tie.Need-returns-2
-returns-2 c = simp (c .not-closed2 .ensures .0, c .not-closed2 .ensures .1) (close-inside (now (c .before .before .before .before .before .before .args .bytes)) (c .before .before .before .before .before .before .args .r) (c .before .before .before .before .if1 .left) (c .before .before .before .stored-records .result) (c .before .before .before .stored-records .ensures .0) (c .before .if2 .taken))
+returns-2 c =
+    let at-if1 = c .before .before .before .before in
+    let start = at-if1 .before .before in
+    simp (c .not-closed2 .ensures .0, c .not-closed2 .ensures .1) (close-inside (now (start .args .bytes)) (start .args .r) (at-if1 .if1 .left) (c .before .before .before .stored-records .result) (c .before .before .before .stored-records .ensures .0) (c .before .if2 .taken))
 
 mul-at : tie.Need-mul-at
 mul-at c = search needs
@@ -34,7 +37,11 @@ not-closed-requires-3 : tie.Need-not-closed-requires-3
 not-closed-requires-3 c κs = search needs
 
 returns-3 : tie.Need-returns-3
-returns-3 c = simp (c .not-closed3 .ensures .0, c .not-closed3 .ensures .1) (close-short (now (c .before .before .before .before .before .before .before .args .bytes)) (c .before .before .before .before .before .before .before .args .r) (c .before .before .before .before .before .if1 .left) (c .before .before .before .before .stored-records .result) (c .before .before .before .before .stored-records .ensures .0) (c .before .before .if2 .left) (c .before .if3 .taken))
+returns-3 c =
+    let at-stored-records = c .before .before .before .before in
+    let at-if1 = at-stored-records .before in
+    let start = at-if1 .before .before in
+    simp (c .not-closed3 .ensures .0, c .not-closed3 .ensures .1) (close-short (now (start .args .bytes)) (start .args .r) (at-if1 .if1 .left) (at-stored-records .stored-records .result) (at-stored-records .stored-records .ensures .0) (c .before .before .if2 .left) (c .before .if3 .taken))
 
 begins-requires : tie.Need-begins-requires
 begins-requires c κs = search needs
@@ -50,8 +57,14 @@ same-length c = search needs
 
 returns-4 : tie.Need-returns-4
 returns-4 c =
-    let a = c .before .before .before .before .before .before .before .before .before .before .before .before .before .args in
-    simp (c .before .before .before .put-trailer .ensures, c .before .before .before .before .before .begins .ensures) (close-done (now (a .bytes)) (a .r) (c .before .before .before .before .before .before .before .before .before .before .before .if1 .left) (c .before .before .before .before .before .before .before .before .before .before .stored-records .result) (c .before .before .before .before .before .before .before .before .before .before .stored-records .ensures .0) (c .before .before .before .before .before .before .before .before .if2 .left) (c .before .before .before .before .before .before .before .if3 .left))
+    let at-begins = c .before .before .before .before .before in
+    let at-if3 = at-begins .before .before in
+    let at-if2 = at-if3 .before in
+    let at-stored-records = at-if2 .before .before in
+    let at-if1 = at-stored-records .before in
+    let start = at-if1 .before .before in
+    let a = start .args in
+    simp (c .before .before .before .put-trailer .ensures, at-begins .begins .ensures) (close-done (now (a .bytes)) (a .r) (at-if1 .if1 .left) (at-stored-records .stored-records .result) (at-stored-records .stored-records .ensures .0) (at-if2 .if2 .left) (at-if3 .if3 .left))
 
 pub close-on-spec : {M : Type 1} → statement M
 close-on-spec =

@@ -42,18 +42,25 @@ same-length c = search needs
 
 returns-2 : tie.Need-returns-2
 returns-2 c =
-    let a = c .before .before .before .before .before .before .before .before .before .before .before .before .args in
-    let g = c .before .before .before .before .before .checked2 .given in
-    let f = full-none (now (a .bytes)) (c .before .before .before .before .before .before .before .before .before .stored-records .result) (sym (c .before .before .has-space .ensures) ∙ not-true (c .before .before .has-space .result) (c .before .if2 .taken)) in
+    let at-checked2 = c .before .before .before .before .before in
+    let at-check = at-checked2 .before .before in
+    let at-stored-records = at-check .before .before in
+    let at-if1 = at-stored-records .before in
+    let start = at-if1 .before .before in
+    let a = start .args in
+    let g = at-checked2 .checked2 .given in
+    let f = full-none (now (a .bytes)) (at-stored-records .stored-records .result) (sym (c .before .before .has-space .ensures) ∙ not-true (c .before .before .has-space .result) (c .before .if2 .taken)) in
     simp (c .not-taken3 .ensures .0, c .not-taken3 .ensures .1)
-    (step-full (now (a .bytes)) (a .r) (c .before .before .before .before .before .before .before .before .before .before .if1 .left) (c .before .before .before .before .before .before .before .before .before .stored-records .result) (c .before .before .before .before .before .before .before .before .before .stored-records .ensures .0) (a .rec) (g .0 .0) (sym (ap checkedPaper (g .1)) ∙ c .before .before .before .before .before .before .before .check .ensures) f)
+    (step-full (now (a .bytes)) (a .r) (at-if1 .if1 .left) (at-stored-records .stored-records .result) (at-stored-records .stored-records .ensures .0) (a .rec) (g .0 .0) (sym (ap checkedPaper (g .1)) ∙ at-check .check .ensures) f)
 
 mul-put-record : tie.Need-mul-put-record
 mul-put-record c = search needs
 
 put-record-requires : tie.Need-put-record-requires
 put-record-requires c κs =
-    let p = spaced (now (c .before .before .before .before .before .before .before .before .before .before .before .before .args .bytes)) (c .before .before .before .before .before .before .before .before .before .stored-records .result) (sym (c .before .before .has-space .ensures) ∙ not-false (c .before .before .has-space .result) (c .before .if2 .left)) in
+    let at-stored-records = c .before .before .before .before .before .before .before .before .before in
+    let start = at-stored-records .before .before .before in
+    let p = spaced (now (start .args .bytes)) (at-stored-records .stored-records .result) (sym (c .before .before .has-space .ensures) ∙ not-false (c .before .before .has-space .result) (c .before .if2 .left)) in
     omega arith
 
 add-count : tie.Need-add-count
@@ -67,21 +74,32 @@ same-length-2 c = search needs
 
 returns-3 : tie.Need-returns-3
 returns-3 c =
-    let a = c .before .before .before .before .before .before .before .before .before .args in
+    let at-check = c .before .before .before .before in
+    let at-stored-records = at-check .before .before in
+    let at-if1 = at-stored-records .before in
+    let start = at-if1 .before .before in
+    let a = start .args in
     let g = c .before .before .checked .given in
     simp (c .not-taken2 .ensures .0, c .not-taken2 .ensures .1)
-    (step-judged (now (a .bytes)) (a .r) (c .before .before .before .before .before .before .before .if1 .left) (c .before .before .before .before .before .before .stored-records .result) (c .before .before .before .before .before .before .stored-records .ensures .0) (a .rec) _ _ (sym (ap checkedPaper (g .1)) ∙ c .before .before .before .before .check .ensures))
+    (step-judged (now (a .bytes)) (a .r) (at-if1 .if1 .left) (at-stored-records .stored-records .result) (at-stored-records .stored-records .ensures .0) (a .rec) _ _ (sym (ap checkedPaper (g .1)) ∙ at-check .check .ensures))
 
 same-length-3 : tie.Need-same-length-3
 same-length-3 c = search needs
 
 returns-4 : tie.Need-returns-4
 returns-4 c =
-    let a = c .before .before .before .before .before .before .before .before .before .before .before .before .before .before .before .args in
-    let g = c .before .before .before .before .before .before .before .before .checked2 .given in
-    let f = full-not (now (a .bytes)) (c .before .before .before .before .before .before .before .before .before .before .before .before .stored-records .result) (sym (c .before .before .before .before .before .has-space .ensures) ∙ not-false (c .before .before .before .before .before .has-space .result) (c .before .before .before .before .if2 .left)) in
+    let at-if2 = c .before .before .before .before in
+    let at-has-space = at-if2 .before in
+    let at-checked2 = at-has-space .before .before .before in
+    let at-check = at-checked2 .before .before in
+    let at-stored-records = at-check .before .before in
+    let at-if1 = at-stored-records .before in
+    let start = at-if1 .before .before in
+    let a = start .args in
+    let g = at-checked2 .checked2 .given in
+    let f = full-not (now (a .bytes)) (at-stored-records .stored-records .result) (sym (at-has-space .has-space .ensures) ∙ not-false (at-has-space .has-space .result) (at-if2 .if2 .left)) in
     simp (c .before .before .put-record .ensures)
-    (step-taken (now (a .bytes)) (a .r) (c .before .before .before .before .before .before .before .before .before .before .before .before .before .if1 .left) (c .before .before .before .before .before .before .before .before .before .before .before .before .stored-records .result) (c .before .before .before .before .before .before .before .before .before .before .before .before .stored-records .ensures .0) (a .rec) (g .0 .0) (sym (ap checkedPaper (g .1)) ∙ c .before .before .before .before .before .before .before .before .before .before .check .ensures) f)
+    (step-taken (now (a .bytes)) (a .r) (at-if1 .if1 .left) (at-stored-records .stored-records .result) (at-stored-records .stored-records .ensures .0) (a .rec) (g .0 .0) (sym (ap checkedPaper (g .1)) ∙ at-check .check .ensures) f)
 
 pub step-on-spec : {M : Type 1} → statement M
 step-on-spec =

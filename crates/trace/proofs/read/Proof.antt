@@ -34,7 +34,8 @@ enum-told c = search needs
 returns : tie.Need-returns
 unfolding readReply
 returns c =
-    let b = now (c .before .before .before .before .args .bytes) in
+    let start = c .before .before .before .before in
+    let b = now (start .args .bytes) in
     refused-same b (c .before .before .frame .result) (c .before .match .keys2) ∙ ap (recordsReply b) (c .before .before .frame .ensures)
 
 records-requires : tie.Need-records-requires
@@ -43,9 +44,11 @@ records-requires c κs = search needs
 scan-requires : tie.Need-scan-requires
 unfolding recordsIn
 scan-requires c κs =
-    let b = now (c .before .before .before .before .before .before .args .bytes) in
+    let at-frame = c .before .before .before .before in
+    let start = at-frame .before .before in
+    let b = now (start .args .bytes) in
     let t = c .before .before .framed .given .0 .0 in
-    let fr = framed b (t .start) (t .records) (t .events) (sym (ap paper (c .before .before .framed .given .1)) ∙ c .before .before .before .before .frame .ensures) in
+    let fr = framed b (t .start) (t .records) (t .events) (sym (ap paper (c .before .before .framed .given .1)) ∙ at-frame .frame .ensures) in
     let ends = fr .ends in
     let n = records-length b (t .start) (t .records) (omega arith) in
     let few = fr .few in
@@ -54,8 +57,10 @@ scan-requires c κs =
 returns-2 : tie.Need-returns-2
 unfolding readReply recordsReply recordsIn
 returns-2 c =
-    let b = now (c .before .before .before .before .before .before .before .args .bytes) in
-    c .scan .ensures ∙ simp (c .before .records .ensures) (ap (recordsReply b) (sym (ap paper (c .before .before .before .framed .given .1)) ∙ c .before .before .before .before .before .frame .ensures))
+    let at-frame = c .before .before .before .before .before in
+    let start = at-frame .before .before in
+    let b = now (start .args .bytes) in
+    c .scan .ensures ∙ simp (c .before .records .ensures) (ap (recordsReply b) (sym (ap paper (c .before .before .before .framed .given .1)) ∙ at-frame .frame .ensures))
 
 pub read-spec : {M : Type 1} → statement M
 read-spec =

@@ -1,17 +1,18 @@
--- `order::merge::choose` meets its contract: searching on from c finds what the whole search finds. Assumes nothing.
+-- `order::merge::choose` meets its contract: searching on from c finds what the whole search finds.
+-- Assumes nothing.
 use Prim.Native.Nat.{_-_, _≤_}
 use mathlib.Core.Path.{_≡_, sym, _∙_}
 use native.Mathlib.Omega.{arith}
+use native.Mathlib.Nat.{add-assoc}
 use Rattle.order.specs.Chains.{firstFrom}
-use Rattle.order.specs.Filling.{fullIn, chooseIn}
-use borrow.Author.Tests.{eq-eqb, ne-eqb}
-use Rattle.order.proofs.CountLaws.{first-hit, first-miss, first-over}
+use Rattle.order.specs.Pass.{fullAt, chooseIn}
+use borrow.Author.Tests.{ne-eqb}
+use Rattle.order.proofs.CountLaws.{first-past}
 use Rattle.order.proofs.merge.choose.Statement.{statement}
 use Rattle.order.proofs.merge.choose.Tie as tie
 
 abbrev Inv-loop : tie.InvT-loop
-Inv-loop clocks width u sizes chains a c₀ c =
-    (c ≤ chains) × (firstFrom (fullIn width u clocks sizes) c (chains - c) ≡ chooseIn width u clocks sizes chains)
+Inv-loop clocks width u sizes chains a c₀ c = (c ≤ chains) × (firstFrom (fullAt a clocks sizes) c (chains - c) ≡ chooseIn width u clocks sizes chains)
 
 abbrev μ-loop : tie.MeasureT-loop
 μ-loop clocks width u sizes chains a c₀ c = chains - c
@@ -21,25 +22,22 @@ mul-a c = omega arith
 
 loop-holds : tie.Need-loop-holds Inv-loop μ-loop
 unfolding chooseIn
-loop-holds c = (omega arith, let e : c .args .chains - 0 ≡ c .args .chains = omega arith in rw e)
+loop-holds c = (omega arith, let e : c .before .before .args .chains - 0 ≡ c .before .before .args .chains = omega arith in rw e)
 
-add-if1 : tie.Need-add-if1 Inv-loop μ-loop
-add-if1 c = omega arith
+add-loop : tie.Need-add-loop Inv-loop μ-loop
+add-loop c = omega arith
 
-mul-if1 : tie.Need-mul-if1 Inv-loop μ-loop
-mul-if1 c = omega arith
+add-among-sixteen : tie.Need-add-among-sixteen Inv-loop μ-loop
+add-among-sixteen c = omega arith
 
-shared-slice-read-if1 : tie.Need-shared-slice-read-if1 Inv-loop μ-loop
-shared-slice-read-if1 c = omega arith
+among-sixteen-requires : tie.Need-among-sixteen-requires Inv-loop μ-loop
+among-sixteen-requires c κs = omega arith
 
-mul-if1-2 : tie.Need-mul-if1-2 Inv-loop μ-loop
-mul-if1-2 c = omega arith
-
-shared-slice-read-if1-2 : tie.Need-shared-slice-read-if1-2 Inv-loop μ-loop
-shared-slice-read-if1-2 c = omega arith
+choose-near-requires : tie.Need-choose-near-requires Inv-loop μ-loop
+choose-near-requires c κs = omega arith
 
 returns : tie.Need-returns Inv-loop μ-loop
-returns c = sym (first-hit _ _ _ (omega arith) (eq-eqb _ _ (c .if1 .taken))) ∙ c .before .before .before .before .loop .inv .1
+returns c = c .choose-near .ensures ∙ c .before .before .before .before .loop .inv .1
 
 add-c : tie.Need-add-c Inv-loop μ-loop
 add-c c = omega arith
@@ -48,10 +46,16 @@ loop-less : tie.Need-loop-less Inv-loop μ-loop
 loop-less c = omega arith
 
 loop-again : tie.Need-loop-again Inv-loop μ-loop
-loop-again c = (omega arith, sym (first-miss _ _ _ (omega arith) (ne-eqb _ _ (c .if1 .left))) ∙ c .before .before .before .before .loop .inv .1)
+loop-again c =
+    let l = c .before .before .before .loop in
+    let f = c .before .among-sixteen .ensures (c .if1 .left) in
+    (omega arith, sym (first-past _ _ 16 (l .c) (omega arith) (λ j h. ne-eqb _ _ (λ e. f j h (rw add-assoc e)))) ∙ l .inv .1)
+
+choose-near-requires-2 : tie.Need-choose-near-requires-2 Inv-loop μ-loop
+choose-near-requires-2 c κs = omega arith
 
 returns-2 : tie.Need-returns-2 Inv-loop μ-loop
-returns-2 c = sym (first-over _ _ _ (omega arith)) ∙ c .before .loop .inv .1
+returns-2 c = c .choose-near2 .ensures ∙ c .before .before .loop .inv .1
 
 pub choose-spec : {M : Type 1} → statement M
 choose-spec =
@@ -61,13 +65,13 @@ choose-spec =
     μ-loop
     mul-a
     loop-holds
-    add-if1
-    mul-if1
-    shared-slice-read-if1
-    mul-if1-2
-    shared-slice-read-if1-2
+    add-loop
+    add-among-sixteen
+    among-sixteen-requires
+    choose-near-requires
     returns
     add-c
     loop-less
     loop-again
+    choose-near-requires-2
     returns-2)

@@ -1,15 +1,23 @@
 -- `order::rows::begin_row` meets its contract.
 -- Assumes nothing.
 use Rattle.order.specs.Pass.{enterRow}
+use Rattle.order.proofs.FlatLaws.{part-entry, ticked-part}
 use borrow.Author.Tests.{le-leb, lt-leb}
 use native.Mathlib.Omega.{arith}
 use mathlib.Core.Path.{refl}
+use denote.Ref.{now}
 use borrow.Author.Needs.{needs}
 use Rattle.order.proofs.rows.begin_row.Statement.{statement}
 use Rattle.order.proofs.rows.begin_row.Tie as tie
 
-choose-requires : tie.Need-choose-requires
-choose-requires c κs = search needs
+mul-choose-linked : tie.Need-mul-choose-linked
+mul-choose-linked c = search needs
+
+slice-read-choose-linked : tie.Need-slice-read-choose-linked
+slice-read-choose-linked c = search needs
+
+choose-linked-requires : tie.Need-choose-linked-requires
+choose-linked-requires c κs = search needs
 
 add-result : tie.Need-add-result
 add-result c = search needs
@@ -22,13 +30,33 @@ same-length-2 c = search needs
 
 returns : tie.Need-returns
 unfolding enterRow
-returns c = rw (← c .before .choose .ensures, le-leb _ _ (c .if1 .taken)) (record { clocks-are = refl; sizes-are = refl; of-are = refl; chains-are = omega arith })
+returns c = rw (← c .before .choose-linked .ensures, le-leb _ _ (c .if1 .taken)) (record { clocks-are = refl; sizes-are = refl; of-are = refl; chains-are = omega arith })
+
+mul-a : tie.Need-mul-a
+mul-a c = search needs
+
+add-e : tie.Need-add-e
+add-e c = search needs
+
+mul-add-one : tie.Need-mul-add-one
+mul-add-one c = search needs
+
+sub-add-one : tie.Need-sub-add-one
+sub-add-one c = search needs
+
+part-add-one-start : tie.Need-part-add-one-start
+part-add-one-start c = search needs
+
+part-add-one-end : tie.Need-part-add-one-end
+part-add-one-end c = search needs
 
 add-one-requires : tie.Need-add-one-requires
 add-one-requires c κs =
-    let p = c .before .before .before .before .before .before .before .before .pre .1 in
-    let r = p .row in
-    (omega arith, p .few-entries (c .before .before .choose .result) (c .before .if1 .left))
+    let a = c .before .before .before .before .before .before .before .before .before in
+    let q = c .before .before .choose-linked .result in
+    let f = c .before .if1 .left in
+    let e = part-entry (a .args .width) (a .args .u) q (now (a .args .clocks)) (a .pre .room .row) f in
+    (e .0, rw (e .1) (a .pre .few-entries q f))
 
 mul-sizes : tie.Need-mul-sizes
 mul-sizes c = search needs
@@ -38,8 +66,7 @@ slice-read-sizes c = search needs
 
 add-sizes : tie.Need-add-sizes
 add-sizes c =
-    let p = c .before .before .before .before .before .before .before .before .before .before .before .before .pre .1 in
-    let f = p .few-members (c .before .before .before .before .before .before .choose .result) (c .before .before .before .before .before .if1 .left) in
+    let f = c .before .before .before .before .before .before .before .before .before .before .before .before .before .pre .few-members (c .before .before .before .before .before .before .choose-linked .result) (c .before .before .before .before .before .if1 .left) in
     omega arith
 
 slice-write-sizes : tie.Need-slice-write-sizes
@@ -68,7 +95,17 @@ same-length-5 c = search needs
 
 returns-2 : tie.Need-returns-2
 unfolding enterRow
-returns-2 c = rw (← c .before .before .before .before .before .before .before .choose .ensures, lt-leb _ _ (c .before .before .before .before .before .before .if1 .left)) (record { clocks-are = c .before .before .before .before .add-one .ensures; sizes-are = refl; of-are = refl; chains-are = omega arith })
+returns-2 c =
+    let q = c .before .before .before .before .before .before .before .choose-linked in
+    let f = c .before .before .before .before .before .before .if1 .left in
+    let a = c .before .before .before .before .before .before .before .before .before .before .before .before .before .before in
+    rw (← q .ensures, lt-leb _ _ f)
+    (record {
+      clocks-are = ticked-part (a .args .width) (a .args .u) (q .result) (now (a .args .clocks)) _ (a .pre .room .row) f (c .before .before .before .before .add-one .ensures);
+      sizes-are = refl;
+      of-are = refl;
+      chains-are = omega arith;
+    })
 
 same-length-6 : tie.Need-same-length-6
 same-length-6 c = search needs
@@ -81,17 +118,35 @@ same-length-8 c = search needs
 
 returns-3 : tie.Need-returns-3
 unfolding enterRow
-returns-3 c = rw (← c .before .before .before .before .before .before .before .choose .ensures, lt-leb _ _ (c .before .before .before .before .before .before .if1 .left)) (record { clocks-are = c .before .before .before .before .add-one .ensures; sizes-are = refl; of-are = refl; chains-are = omega arith })
+returns-3 c =
+    let q = c .before .before .before .before .before .before .before .choose-linked in
+    let f = c .before .before .before .before .before .before .if1 .left in
+    let a = c .before .before .before .before .before .before .before .before .before .before .before .before .before .before in
+    rw (← q .ensures, lt-leb _ _ f)
+    (record {
+      clocks-are = ticked-part (a .args .width) (a .args .u) (q .result) (now (a .args .clocks)) _ (a .pre .room .row) f (c .before .before .before .before .add-one .ensures);
+      sizes-are = refl;
+      of-are = refl;
+      chains-are = omega arith;
+    })
 
 pub begin-row-spec : {M : Type 1} → statement M
 begin-row-spec =
     tie.close
     (tie.spec
-    choose-requires
+    mul-choose-linked
+    slice-read-choose-linked
+    choose-linked-requires
     add-result
     same-length
     same-length-2
     returns
+    mul-a
+    add-e
+    mul-add-one
+    sub-add-one
+    part-add-one-start
+    part-add-one-end
     add-one-requires
     mul-sizes
     slice-read-sizes

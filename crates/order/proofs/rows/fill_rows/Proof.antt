@@ -1,7 +1,8 @@
 -- `order::rows::fill_rows` meets its contract.
 -- Assumes nothing.
 use Rattle.order.proofs.FillEnds.{ready, ends-short, ends-whole}
-use Rattle.order.proofs.SpaceLaws.{has-room, no-chains-length, cleared-chains}
+use Rattle.order.proofs.SpaceLaws.{no-chains-length, cleared-chains}
+use Rattle.order.proofs.TableLaws.{events-few}
 use Rattle.records.specs.Bytes.{decode}
 use lib.ListN.{length}
 use native.Mathlib.Omega.{arith}
@@ -12,8 +13,8 @@ use borrow.Author.Needs.{needs}
 use Rattle.order.proofs.rows.fill_rows.Statement.{statement}
 use Rattle.order.proofs.rows.fill_rows.Tie as tie
 
-mul-rows : tie.Need-mul-rows
-mul-rows c = omega (arith, has-room _ _ _ (c .before .before .before .pre .2) .fits)
+cast-rows : tie.Need-cast-rows
+cast-rows c = omega (arith, c .before .before .before .pre .1, events-few (c .before .before .before .pre .0))
 
 fill-ranks-requires : tie.Need-fill-ranks-requires
 fill-ranks-requires c κs = search needs
@@ -21,23 +22,25 @@ fill-ranks-requires c κs = search needs
 no-chains-requires : tie.Need-no-chains-requires
 no-chains-requires c κs = search needs
 
-clear-requires : tie.Need-clear-requires
-clear-requires c κs = has-room _ _ _ (c .before .before .before .before .before .before .before .pre .2) .fits
+clear-rows-requires : tie.Need-clear-rows-requires
+clear-rows-requires c κs = search needs
 
 slice-aggregate-pass : tie.Need-slice-aggregate-pass
 slice-aggregate-pass c = search needs
 
 pass-requires : tie.Need-pass-requires
-pass-requires c κs = ready _ (c .before .before .before .before .before .before .before .before .before .before .before .before .before .before .before .pre .0) _ _ (c .before .before .before .before .before .before .before .before .before .before .before .before .before .before .before .pre .1) (now (c .before .before .before .before .before .before .before .before .before .before .before .before .before .before .before .args .clocks)) _ (c .before .before .before .before .before .before .before .before .before .before .before .before .before .before .before .pre .2) (c .before .before .before .before .before .before .before .clear .ensures) _ _ _ (c .before .before .before .before .before .before .before .before .before .before .fill-ranks .ensures) (c .before .before .before .before .before .before .before .before .before .no-chains .ensures) (c .before .before .before .before .before .before .before .before .before .before .before .before .before .before .before .pre .3)
+pass-requires c κs =
+    let a = c .before .before .before .before .before .before .before .before .before .before .before .before .before .before .before in
+    ready _ (a .pre .0) _ _ (a .pre .1) (now (a .args .clocks)) _ (a .pre .2) (c .before .before .before .before .before .before .before .clear-rows .ensures) _ _ _ (c .before .before .before .before .before .before .before .before .before .before .fill-ranks .ensures) (c .before .before .before .before .before .before .before .before .before .no-chains .ensures) (a .pre .3)
 
 count-requires : tie.Need-count-requires
 count-requires c κs = search needs
 
-clear-requires-2 : tie.Need-clear-requires-2
-clear-requires-2 c κs = omega (arith, has-room _ _ _ (c .before .before .before .before .before .before .before .before .before .before .before .before .before .before .before .before .before .before .before .before .before .before .before .before .pre .2) .fits, c .before .before .before .before .before .before .before .before .before .before .before .before .before .before .before .before .clear .kept .0, c .before .before .before .before .before .before .before .before .pass .kept .1 .1 .0)
+clear-rows-requires-2 : tie.Need-clear-rows-requires-2
+clear-rows-requires-2 c κs = search needs
 
-clear-requires-3 : tie.Need-clear-requires-3
-clear-requires-3 c κs = omega (arith, c .before .before .before .before .before .before .before .before .before .before .before .before .pass .kept .1 .1 .1 .1 .1 .0, ap length (c .before .before .before .before .before .before .before .before .before .before .before .before .before .before .before .before .before .before .before .before .before .before .before .before .before .before .before .before .pre .3), no-chains-length)
+clear-requires : tie.Need-clear-requires
+clear-requires c κs = omega (arith, c .before .before .before .before .before .before .before .before .before .before .before .before .pass .kept .1 .1 .1 .1 .1 .0, ap length (c .before .before .before .before .before .before .before .before .before .before .before .before .before .before .before .before .before .before .before .before .before .before .before .before .before .before .before .before .pre .3), no-chains-length)
 
 add-t31 : tie.Need-add-t31
 add-t31 c = search needs
@@ -53,9 +56,11 @@ same-length-2 c = search needs
 
 returns : tie.Need-returns
 returns c =
-    let h : c .before .before .before .before .before .before .before .before .before .before .before .before .before .before .before .pass .result .position < length (decode (now (c .before .before .before .before .before .before .before .before .before .before .before .before .before .before .before .before .before .before .before .before .before .before .before .before .before .before .before .before .before .before .before .args .recs))) = omega (arith, c .before .before .before .before .before .before .before .before .before .count .ensures, c .before .before .before .before .before .before .before .before .if1 .taken) in
-    let o = cleared-chains (c .before .before .before .before .before .before .before .before .before .before .before .before .before .before .before .pass .last .1 .1 .1 .1 .1 .0) _ (c .before .before .before .before .before .before .before .before .before .before .before .before .before .before .before .pass .kept .1 .1 .1 .1 .1 .0 ∙ (ap length (c .before .before .before .before .before .before .before .before .before .before .before .before .before .before .before .before .before .before .before .before .before .before .before .before .before .before .before .before .before .before .before .pre .3) ∙ no-chains-length)) (c .before .before .clear3 .ensures) in
-    ends-short _ (c .before .before .before .before .before .before .before .before .before .before .before .before .before .before .before .before .before .before .before .before .before .before .before .before .before .before .before .before .before .before .before .pre .0) _ _ (c .before .before .before .before .before .before .before .before .before .before .before .before .before .before .before .before .before .before .before .before .before .before .before .before .before .before .before .before .before .before .before .pre .1) (now (c .before .before .before .before .before .before .before .before .before .before .before .before .before .before .before .before .before .before .before .before .before .before .before .before .before .before .before .before .before .before .before .args .clocks)) _ (c .before .before .before .before .before .before .before .before .before .before .before .before .before .before .before .before .before .before .before .before .before .before .before .before .before .before .before .before .before .before .before .pre .2) (c .before .before .before .before .before .before .before .before .before .before .before .before .before .before .before .before .before .before .before .before .before .before .before .clear .ensures) _ _ _ _ (c .before .before .before .before .before .before .before .before .before .before .before .before .before .before .before .pass .ensures) h _ _ _ (c .before .before .before .before .before .before .clear2 .ensures) o (c .before .before .before .before .before .before .before .before .before .before .before .before .before .before .before .before .before .before .before .before .before .before .before .before .before .before .fill-ranks .ensures) _ refl
+    let a = c .before .before .before .before .before .before .before .before .before .before .before .before .before .before .before .before .before .before .before .before .before .before .before .before .before .before .before .before .before .before .before in
+    let p = c .before .before .before .before .before .before .before .before .before .before .before .before .before .before .before .pass in
+    let h : p .result .position < length (decode (now (a .args .recs))) = omega (arith, c .before .before .before .before .before .before .before .before .before .count .ensures, c .before .before .before .before .before .before .before .before .if1 .taken) in
+    let o = cleared-chains (p .last .1 .1 .1 .1 .1 .0) _ (p .kept .1 .1 .1 .1 .1 .0 ∙ (ap length (a .pre .3) ∙ no-chains-length)) (c .before .before .clear .ensures) in
+    ends-short _ (a .pre .0) _ _ (a .pre .1) (now (a .args .clocks)) _ (a .pre .2) (c .before .before .before .before .before .before .before .before .before .before .before .before .before .before .before .before .before .before .before .before .before .before .before .clear-rows .ensures) _ _ _ _ (p .ensures) h _ _ _ (p .kept .1 .1 .0) (c .before .before .before .before .before .before .clear-rows2 .ensures) o (c .before .before .before .before .before .before .before .before .before .before .before .before .before .before .before .before .before .before .before .before .before .before .before .before .before .before .fill-ranks .ensures) _ refl
 
 same-length-3 : tie.Need-same-length-3
 same-length-3 c = search needs
@@ -65,22 +70,24 @@ same-length-4 c = search needs
 
 returns-2 : tie.Need-returns-2
 returns-2 c =
-    let h : length (decode (now (c .before .before .before .before .before .before .before .before .before .before .before .before .before .before .before .before .before .before .before .before .before .before .before .args .recs))) ≤ c .before .before .before .before .before .before .before .pass .result .position = omega (arith, c .before .count .ensures, c .if1 .left) in
-    ends-whole _ (c .before .before .before .before .before .before .before .before .before .before .before .before .before .before .before .before .before .before .before .before .before .before .before .pre .0) _ _ (c .before .before .before .before .before .before .before .before .before .before .before .before .before .before .before .before .before .before .before .before .before .before .before .pre .1) (now (c .before .before .before .before .before .before .before .before .before .before .before .before .before .before .before .before .before .before .before .before .before .before .before .args .clocks)) _ (c .before .before .before .before .before .before .before .before .before .before .before .before .before .before .before .before .before .before .before .before .before .before .before .pre .2) (c .before .before .before .before .before .before .before .before .before .before .before .before .before .before .before .clear .ensures) _ _ _ _ (c .before .before .before .before .before .before .before .pass .ensures) h _ (c .before .before .before .before .before .before .before .before .before .before .before .before .before .before .before .before .before .before .fill-ranks .ensures) _ refl
+    let a = c .before .before .before .before .before .before .before .before .before .before .before .before .before .before .before .before .before .before .before .before .before .before .before in
+    let p = c .before .before .before .before .before .before .before .pass in
+    let h : length (decode (now (a .args .recs))) ≤ p .result .position = omega (arith, c .before .count .ensures, c .if1 .left) in
+    ends-whole _ (a .pre .0) _ _ (a .pre .1) (now (a .args .clocks)) _ (a .pre .2) (c .before .before .before .before .before .before .before .before .before .before .before .before .before .before .before .clear-rows .ensures) _ _ _ _ (p .ensures) h _ (c .before .before .before .before .before .before .before .before .before .before .before .before .before .before .before .before .before .before .fill-ranks .ensures) _ refl
 
 pub fill-rows-spec : {M : Type 1} → statement M
 fill-rows-spec =
     tie.close
     (tie.spec
-    mul-rows
+    cast-rows
     fill-ranks-requires
     no-chains-requires
-    clear-requires
+    clear-rows-requires
     slice-aggregate-pass
     pass-requires
     count-requires
-    clear-requires-2
-    clear-requires-3
+    clear-rows-requires-2
+    clear-requires
     add-t31
     cast-t32
     same-length

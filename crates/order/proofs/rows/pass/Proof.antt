@@ -1,6 +1,6 @@
 -- `order::rows::pass` meets its contract.
 -- Assumes nothing.
-use Rattle.order.proofs.PassLaws.{Going, going-start, going-room, going-next, going-stop, going-end}
+use Rattle.order.proofs.PassLaws.{Going, going-start, going-row, going-room, going-on, going-next, going-stop, going-end}
 use Rattle.records.specs.Bytes.{decode}
 use borrow.Author.Needs.{needs}
 use lib.ListN.{length}
@@ -12,55 +12,70 @@ use Rattle.order.proofs.rows.pass.Statement.{statement}
 use Rattle.order.proofs.rows.pass.Tie as tie
 
 abbrev Inv-loop : tie.InvT-loop
-Inv-loop recs ranks clocks₀ width sizes₀ of₀ n chains₀ i₀ clocks sizes of chains i = Going (decode recs) width ranks clocks₀ clocks sizes of chains i × (length sizes ≡ length sizes₀) × (length of ≡ length of₀)
+Inv-loop recs ranks clocks₀ width sizes₀ of₀ n chains₀ u₀ i₀ clocks sizes of chains u i =
+    Going (decode recs) width ranks clocks₀ clocks sizes of chains u i × (length clocks ≡ length clocks₀) × (length sizes ≡ length sizes₀) × (length of ≡ length of₀)
 
 abbrev μ-loop : tie.MeasureT-loop
-μ-loop recs ranks clocks₀ width sizes₀ of₀ n chains₀ i₀ clocks sizes of chains i = n - i
+μ-loop recs ranks clocks₀ width sizes₀ of₀ n chains₀ u₀ i₀ clocks sizes of chains u i = n - i
 
 count-requires : tie.Need-count-requires Inv-loop μ-loop
 count-requires c κs = search needs
 
 loop-holds : tie.Need-loop-holds Inv-loop μ-loop
-loop-holds c = (going-start _ _ _ _ _ _ (c .before .before .before .before .before .before .pre), refl, refl)
+loop-holds c = (going-start _ _ _ _ _ _ (c .before .before .before .before .before .before .pre), refl, refl, refl)
 
-turn-requires : tie.Need-turn-requires Inv-loop μ-loop
-turn-requires c κs =
+begin-row-requires : tie.Need-begin-row-requires Inv-loop μ-loop
+begin-row-requires c κs =
     let less : c .before .before .before .before .loop .i < length (decode (now (c .before .before .before .before .before .before .before .before .before .before .before .args .recs))) = omega (arith, c .before .before .before .before .before .count .ensures) in
-    (c .before .before .before .before .before .before .before .before .before .before .before .pre .narrow, going-room _ _ _ _ (c .before .before .before .before .loop .inv .0) less)
+    going-room _ _ _ _ (c .before .before .before .before .loop .inv .0) less
 
 same-length : tie.Need-same-length Inv-loop μ-loop
-same-length c = c .before .before .before .before .before .before .before .turn .kept .1 .1 .1 .0 ∙ c .before .before .before .before .before .before .before .before .before .before .before .before .loop .inv .0 .size
+same-length c = c .before .before .before .before .before .before .before .begin-row .kept .0 ∙ c .before .before .before .before .before .before .before .before .before .before .before .before .loop .inv .1
 
 same-length-2 : tie.Need-same-length-2 Inv-loop μ-loop
-same-length-2 c = c .before .before .before .before .before .before .before .turn .kept .1 .1 .1 .1 .1 .0 ∙ c .before .before .before .before .before .before .before .before .before .before .before .before .loop .inv .1
+same-length-2 c = c .before .before .before .before .before .before .before .begin-row .kept .1 .1 .1 .0 ∙ c .before .before .before .before .before .before .before .before .before .before .before .before .loop .inv .2
 
 same-length-3 : tie.Need-same-length-3 Inv-loop μ-loop
-same-length-3 c = c .before .before .before .before .before .before .before .turn .kept .1 .1 .1 .1 .1 .1 .0 ∙ c .before .before .before .before .before .before .before .before .before .before .before .before .loop .inv .2
+same-length-3 c = c .before .before .before .before .before .before .before .begin-row .kept .1 .1 .1 .1 .0 ∙ c .before .before .before .before .before .before .before .before .before .before .before .before .loop .inv .3
 
 returns : tie.Need-returns Inv-loop μ-loop
 returns c =
     let less : c .before .before .before .before .before .before .before .before .before .before .before .before .loop .i < length (decode (now (c .before .before .before .before .before .before .before .before .before .before .before .before .before .before .before .before .before .before .before .args .recs))) = omega (arith, c .before .before .before .before .before .before .before .before .before .before .before .before .before .count .ensures) in
-    going-stop _ _ _ _ (c .before .before .before .before .before .before .before .before .before .before .before .before .loop .inv .0) less _ _ _ _ (c .before .before .before .before .before .before .before .turn .ensures) (c .if1 .taken)
+    going-stop _ _ _ _ (c .before .before .before .before .before .before .before .before .before .before .before .before .loop .inv .0) less _ _ _ _ (c .before .before .before .before .before .before .before .begin-row .ensures) (c .if1 .taken)
 
-add-i : tie.Need-add-i Inv-loop μ-loop
-add-i c = omega arith
+add-merge-links : tie.Need-add-merge-links Inv-loop μ-loop
+add-merge-links c = omega arith
+
+merge-links-requires : tie.Need-merge-links-requires Inv-loop μ-loop
+merge-links-requires c κs = search needs
+
+add-u : tie.Need-add-u Inv-loop μ-loop
+add-u c =
+    let less : c .before .before .before .before .before .before .before .before .before .before .before .before .before .before .before .before .before .before .before .loop .i < length (decode (now (c .before .before .before .before .before .before .before .before .before .before .before .before .before .before .before .before .before .before .before .before .before .before .before .before .before .before .args .recs))) = omega (arith, c .before .before .before .before .before .before .before .before .before .before .before .before .before .before .before .before .before .before .before .before .count .ensures) in
+    omega (arith, going-row _ _ _ _ (c .before .before .before .before .before .before .before .before .before .before .before .before .before .before .before .before .before .before .before .loop .inv .0) less)
 
 loop-less : tie.Need-loop-less Inv-loop μ-loop
-loop-less c = omega arith
+loop-less c =
+    let less : c .before .before .before .before .before .before .before .before .before .before .before .before .before .before .before .before .before .before .before .loop .i < length (decode (now (c .before .before .before .before .before .before .before .before .before .before .before .before .before .before .before .before .before .before .before .before .before .before .before .before .before .before .args .recs))) = omega (arith, c .before .before .before .before .before .before .before .before .before .before .before .before .before .before .before .before .before .before .before .before .count .ensures) in
+    omega (arith, going-on _ _ _ _ (c .before .before .before .before .before .before .before .before .before .before .before .before .before .before .before .before .before .before .before .loop .inv .0) less _ _ _ _ (c .before .before .before .before .before .before .before .before .before .before .before .before .before .before .begin-row .ensures) (c .before .before .before .before .before .before .before .if1 .left) _ _ _ (c .before .before .before .before .merge-links .ensures), c .before .before .before .before .before .before .before .before .before .before .before .before .before .before .before .before .before .before .before .before .count .ensures)
 
 loop-again : tie.Need-loop-again Inv-loop μ-loop
 loop-again c =
-    let less : c .before .before .before .before .before .before .before .before .before .before .before .before .loop .i < length (decode (now (c .before .before .before .before .before .before .before .before .before .before .before .before .before .before .before .before .before .before .before .args .recs))) = omega (arith, c .before .before .before .before .before .before .before .before .before .before .before .before .before .count .ensures) in
-    (going-next _ _ _ _ (c .before .before .before .before .before .before .before .before .before .before .before .before .loop .inv .0) less _ _ _ _ (c .before .before .before .before .before .before .before .turn .ensures) (c .if1 .left) (c .before .before .before .before .before .before .before .turn .kept .1 .1 .1 .0), c .before .before .before .before .before .before .before .turn .kept .1 .1 .1 .1 .1 .0 ∙ c .before .before .before .before .before .before .before .before .before .before .before .before .loop .inv .1, c .before .before .before .before .before .before .before .turn .kept .1 .1 .1 .1 .1 .1 .0 ∙ c .before .before .before .before .before .before .before .before .before .before .before .before .loop .inv .2)
+    let less : c .before .before .before .before .before .before .before .before .before .before .before .before .before .before .before .before .before .before .before .loop .i < length (decode (now (c .before .before .before .before .before .before .before .before .before .before .before .before .before .before .before .before .before .before .before .before .before .before .before .before .before .before .args .recs))) = omega (arith, c .before .before .before .before .before .before .before .before .before .before .before .before .before .before .before .before .before .before .before .before .count .ensures) in (
+      going-next _ _ _ _ (c .before .before .before .before .before .before .before .before .before .before .before .before .before .before .before .before .before .before .before .loop .inv .0) less _ _ _ _ (c .before .before .before .before .before .before .before .before .before .before .before .before .before .before .begin-row .ensures) (c .before .before .before .before .before .before .before .if1 .left) _ _ _ (c .before .before .before .before .merge-links .ensures),
+      c .before .before .before .before .merge-links .kept .1 .1 .1 .1 .0 ∙ (c .before .before .before .before .before .before .before .before .before .before .before .before .before .before .begin-row .kept .0 ∙ c .before .before .before .before .before .before .before .before .before .before .before .before .before .before .before .before .before .before .before .loop .inv .1),
+      c .before .before .before .before .before .before .before .before .before .before .before .before .before .before .begin-row .kept .1 .1 .1 .0 ∙ c .before .before .before .before .before .before .before .before .before .before .before .before .before .before .before .before .before .before .before .loop .inv .2,
+      c .before .before .before .before .merge-links .kept .1 .1 .1 .1 .1 .0 ∙ (c .before .before .before .before .before .before .before .before .before .before .before .before .before .before .begin-row .kept .1 .1 .1 .1 .0 ∙ c .before .before .before .before .before .before .before .before .before .before .before .before .before .before .before .before .before .before .before .loop .inv .3),
+    )
 
 same-length-4 : tie.Need-same-length-4 Inv-loop μ-loop
-same-length-4 c = c .before .loop .inv .0 .size
+same-length-4 c = c .before .loop .inv .1
 
 same-length-5 : tie.Need-same-length-5 Inv-loop μ-loop
-same-length-5 c = c .before .loop .inv .1
+same-length-5 c = c .before .loop .inv .2
 
 same-length-6 : tie.Need-same-length-6 Inv-loop μ-loop
-same-length-6 c = c .before .loop .inv .2
+same-length-6 c = c .before .loop .inv .3
 
 returns-2 : tie.Need-returns-2 Inv-loop μ-loop
 returns-2 c =
@@ -75,12 +90,14 @@ pass-spec =
     μ-loop
     count-requires
     loop-holds
-    turn-requires
+    begin-row-requires
     same-length
     same-length-2
     same-length-3
     returns
-    add-i
+    add-merge-links
+    merge-links-requires
+    add-u
     loop-less
     loop-again
     same-length-4

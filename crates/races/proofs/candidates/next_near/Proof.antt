@@ -3,7 +3,7 @@ use native.Mathlib.Omega.{arith}
 use mathlib.Core.Path.{refl, sym, _∙_}
 use Prim.Native.Nat.{_-_, _≤_}
 use Rattle.records.specs.Bytes.{decode}
-use Rattle.races.proofs.CandidateLaws.{past-none, past-more}
+use Rattle.races.proofs.CandidateLaws.{past-none, past-more, next-here, next-none}
 use Rattle.races.specs.Candidates.{Past}
 use Rattle.races.proofs.candidates.next_near.Statement.{statement}
 use Rattle.races.proofs.candidates.next_near.Tie as tie
@@ -21,7 +21,7 @@ may-race-requires : tie.Need-may-race-requires Inv-loop μ-loop
 may-race-requires c κs = search needs
 
 returns : tie.Need-returns Inv-loop μ-loop
-returns c = c .before .before .before .loop .inv
+returns c = next-here _ _ _ refl (c .before .before .before .loop .inv .0) (c .before .before .before .loop .inv .1) (sym (c .before .may-race .ensures) ∙ c .if1 .taken)
 
 add-i : tie.Need-add-i Inv-loop μ-loop
 add-i c = omega (arith, c .before .before .loop-test .taken, c .before .before .before .before .before .pre .1)
@@ -33,7 +33,7 @@ loop-again : tie.Need-loop-again Inv-loop μ-loop
 loop-again c = (omega (arith, c .before .before .loop-test .taken), past-more _ _ _ refl (c .before .before .before .loop .inv .1) (sym (c .before .may-race .ensures) ∙ c .if1 .left))
 
 returns-2 : tie.Need-returns-2 Inv-loop μ-loop
-returns-2 c = c .before .loop .inv
+returns-2 c = next-none _ _ _ (omega (arith, c .before .loop .inv .0, c .loop-test .left)) (c .before .loop .inv .1)
 
 pub next-near-spec : {M : Type 1} → statement M
 next-near-spec =

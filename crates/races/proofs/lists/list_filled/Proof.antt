@@ -1,5 +1,3 @@
--- `races::lists::list_filled` meets its contract.
--- Assumes nothing.
 use Rattle.races.proofs.ListEnds.{all-refused, none-listed, all-room, all-listed}
 use Rattle.records.specs.Bytes.{decode}
 use denote.Ref.{now}
@@ -16,8 +14,11 @@ refused-requires c κs = search needs
 same-length : tie.Need-same-length
 same-length c = search needs
 
+same-length-2 : tie.Need-same-length-2
+same-length-2 c = search needs
+
 returns : tie.Need-returns
-returns c = all-refused (decode (now (c .before .before .before .before .before .before .before .before .before .before .before .before .args .recs))) (c .before .before .before .before .before .before .before .before .before .before .before .before .args .short) (c .before .before .before .before .before .before .before .before .before .before .before .before .args .events) (now (c .before .before .before .before .before .before .before .before .before .before .before .before .args .list)) _ (c .before .before .before .before .count-all .result) (c .before .before .before .before .count-all .ensures .0) (c .before .before .before .before .count-all .ensures .1) (now (c .before .before .before .before .before .before .before .before .before .before .before .before .args .work)) (c .before .if1 .taken) _ (c .refused .ensures)
+returns c = all-refused (decode (now (c .before .before .before .before .before .before .before .before .before .before .before .before .args .recs))) (c .before .before .before .before .before .before .before .before .before .before .before .before .args .short) (c .before .before .before .before .before .before .before .before .before .before .before .before .args .events) (now (c .before .before .before .before .before .before .before .before .before .before .before .before .args .list)) _ (c .before .before .before .before .count-all .result) (c .before .before .before .before .count-all .ensures .0) (c .before .before .before .before .count-all .ensures .1) _ (c .before .if1 .taken) _ (c .refused .ensures)
 
 count-requires : tie.Need-count-requires
 count-requires c κs = search needs
@@ -25,23 +26,26 @@ count-requires c κs = search needs
 listed-requires : tie.Need-listed-requires
 listed-requires c κs = search needs
 
-same-length-2 : tie.Need-same-length-2
-same-length-2 c = search needs
-
-returns-2 : tie.Need-returns-2
-returns-2 c = none-listed (decode (now (c .before .before .before .before .before .before .before .before .before .before .before .before .before .before .args .recs))) (c .before .before .before .before .before .before .before .before .before .before .before .before .before .before .args .short) (c .before .before .before .before .before .before .before .before .before .before .before .before .before .before .args .events) (now (c .before .before .before .before .before .before .before .before .before .before .before .before .before .before .args .list)) _ (c .before .before .before .before .before .before .count-all .result) (c .before .before .before .before .before .before .count-all .ensures .0) (c .before .before .before .before .before .before .count-all .ensures .1) (c .before .before .before .if1 .left) (c .before .if2 .taken) (now (c .before .before .before .before .before .before .before .before .before .before .before .before .before .before .args .work)) (c .before .before .count .result) (c .before .before .before .before .before .before .before .before .before .before .before .before .before .before .args .chains) (c .before .before .count .ensures) (c .before .before .before .before .before .before .before .before .before .before .before .before .before .before .pre .2) _ (c .listed .ensures)
-
-write-all-requires : tie.Need-write-all-requires
-write-all-requires c κs = let p = c .before .before .before .before .before .before .before .before .before .before .before .before .before .before .before .pre in (p .0, p .1, all-room (decode (now (c .before .before .before .before .before .before .before .before .before .before .before .before .before .before .before .args .recs))) (c .before .before .before .before .before .before .before .before .before .before .before .before .before .before .before .args .short) (c .before .before .before .before .before .before .before .before .before .before .before .before .before .before .before .args .events) (now (c .before .before .before .before .before .before .before .before .before .before .before .before .before .before .before .args .list)) _ (c .before .before .before .before .before .before .before .count-all .result) (c .before .before .before .before .before .before .before .count-all .ensures .0) (c .before .before .before .before .before .before .before .count-all .ensures .1) (c .before .before .before .before .if1 .left))
-
-listed-requires-2 : tie.Need-listed-requires-2
-listed-requires-2 c κs = search needs
-
 same-length-3 : tie.Need-same-length-3
 same-length-3 c = search needs
 
 same-length-4 : tie.Need-same-length-4
 same-length-4 c = search needs
+
+returns-2 : tie.Need-returns-2
+returns-2 c = none-listed (decode (now (c .before .before .before .before .before .before .before .before .before .before .before .before .before .before .args .recs))) (c .before .before .before .before .before .before .before .before .before .before .before .before .before .before .args .short) (c .before .before .before .before .before .before .before .before .before .before .before .before .before .before .args .events) (now (c .before .before .before .before .before .before .before .before .before .before .before .before .before .before .args .list)) _ (c .before .before .before .before .before .before .count-all .result) (c .before .before .before .before .before .before .count-all .ensures .0) (c .before .before .before .before .before .before .count-all .ensures .1) (c .before .before .before .if1 .left) (c .before .if2 .taken) _ (c .before .before .count .result) (c .before .before .before .before .before .before .before .before .before .before .before .before .before .before .args .chains) (c .before .before .count .ensures) (c .before .before .before .before .before .before .before .before .before .before .before .before .before .before .pre .2) _ (c .listed .ensures)
+
+write-all-requires : tie.Need-write-all-requires
+write-all-requires c κs = ((c .before .before .before .before .before .before .before .before .before .before .before .before .before .before .before .pre .0, c .before .before .before .before .before .before .before .before .before .before .before .before .before .before .before .pre .1), all-room (decode (now (c .before .before .before .before .before .before .before .before .before .before .before .before .before .before .before .args .recs))) (c .before .before .before .before .before .before .before .before .before .before .before .before .before .before .before .args .short) (c .before .before .before .before .before .before .before .before .before .before .before .before .before .before .before .args .events) (now (c .before .before .before .before .before .before .before .before .before .before .before .before .before .before .before .args .list)) _ (c .before .before .before .before .before .before .before .count-all .result) (c .before .before .before .before .before .before .before .count-all .ensures .0) (c .before .before .before .before .before .before .before .count-all .ensures .1) (c .before .before .before .before .if1 .left))
+
+listed-requires-2 : tie.Need-listed-requires-2
+listed-requires-2 c κs = search needs
+
+same-length-5 : tie.Need-same-length-5
+same-length-5 c = search needs
+
+same-length-6 : tie.Need-same-length-6
+same-length-6 c = search needs
 
 returns-3 : tie.Need-returns-3
 returns-3 c = all-listed (decode (now (c .before .before .before .before .before .before .before .before .before .before .before .before .before .before .before .before .before .before .before .before .before .args .recs))) (c .before .before .before .before .before .before .before .before .before .before .before .before .before .before .before .before .before .before .before .before .before .args .short) (c .before .before .before .before .before .before .before .before .before .before .before .before .before .before .before .before .before .before .before .before .before .args .events) (now (c .before .before .before .before .before .before .before .before .before .before .before .before .before .before .before .before .before .before .before .before .before .args .list)) _ (c .before .before .before .before .before .before .before .before .before .before .before .before .before .count-all .result) (c .before .before .before .before .before .before .before .before .before .before .before .before .before .count-all .ensures .0) (c .before .before .before .before .before .before .before .before .before .before .before .before .before .count-all .ensures .1) (c .before .before .before .before .before .before .before .before .before .before .if1 .left) (c .before .before .before .before .before .write-all .ensures .0) (c .before .before .before .before .before .write-all .ensures .1) (c .before .before .before .before .before .before .before .before .before .count .result) (c .before .before .before .before .before .before .before .before .before .before .before .before .before .before .before .before .before .before .before .before .before .args .chains) (c .before .before .before .before .before .before .before .before .before .count .ensures) (c .before .before .before .before .before .before .before .before .before .before .before .before .before .before .before .before .before .before .before .before .before .pre .2) _ (c .listed2 .ensures)
@@ -53,13 +57,15 @@ list-filled-spec =
     count-all-requires
     refused-requires
     same-length
+    same-length-2
     returns
     count-requires
     listed-requires
-    same-length-2
+    same-length-3
+    same-length-4
     returns-2
     write-all-requires
     listed-requires-2
-    same-length-3
-    same-length-4
+    same-length-5
+    same-length-6
     returns-3)

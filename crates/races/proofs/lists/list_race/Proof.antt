@@ -1,57 +1,49 @@
-use Rattle.races.proofs.FilledLaws.{no-clash, clash-race}
-use Rattle.records.specs.Bytes.{decode}
-use borrow.Author.Tests.{not-true, not-false}
+use Rattle.races.proofs.ListLaws.{race-rows, race-told}
 use lib.Dec.{T}
 use native.Mathlib.Omega.{arith}
 use mathlib.Core.Bool.{not}
 use mathlib.Core.Path.{refl, sym, ap, _∙_, subst}
-use Prim.Native.Nat.{_<_}
-use denote.Ref.{now}
 use borrow.Author.Needs.{needs}
 use Rattle.races.proofs.lists.list_race.Statement.{statement}
 use Rattle.races.proofs.lists.list_race.Tie as tie
 
-is-clash-requires : tie.Need-is-clash-requires
-is-clash-requires c κs = search needs
+row-at-requires : tie.Need-row-at-requires
+row-at-requires c κs = search needs
+
+comes-before-requires : tie.Need-comes-before-requires
+comes-before-requires c κs = race-rows (c .before .before .before .before .before .before .pre) (c .row-at .result) (c .row-at .ensures)
 
 returns : tie.Need-returns
-returns c = let e = no-clash (decode (now (c .before .before .before .before .before .before .before .args .recs))) (c .before .before .before .before .before .before .before .args .a) (c .before .before .before .before .before .before .before .args .b) (c .before .before .before .before .before .before .before .pre .earlier) (c .before .before .before .before .before .before .before .pre .inside) (sym (c .before .is-clash .ensures) ∙ not-true (c .before .is-clash .result) (c .if1 .taken)) in record { next = rw e refl; list-is = rw e refl }
-
-is-before-requires : tie.Need-is-before-requires
-is-before-requires c κs = (c .before .before .before .before .before .before .before .pre .filled, omega (arith, c .before .before .before .before .before .before .before .pre .earlier, c .before .before .before .before .before .before .before .pre .inside), c .before .before .before .before .before .before .before .pre .inside)
-
-returns-2 : tie.Need-returns-2
-returns-2 c = let e = clash-race (decode (now (c .before .before .before .before .before .before .before .before .before .args .recs))) (c .before .before .before .before .before .before .before .before .before .args .a) (c .before .before .before .before .before .before .before .before .before .args .b) (c .before .before .before .before .before .before .before .before .before .pre .earlier) (c .before .before .before .before .before .before .before .before .before .pre .inside) (sym (c .before .before .before .is-clash .ensures) ∙ not-false (c .before .before .before .is-clash .result) (c .before .before .if1 .left)) ∙ ap not (sym (c .before .is-before .ensures) ∙ c .if2 .taken) in record { next = rw e refl; list-is = rw e refl }
+returns c = let e = race-told (c .before .before .before .before .before .before .before .before .pre) (c .before .before .row-at .result) (c .before .before .row-at .ensures) (c .before .comes-before .result) (c .before .comes-before .ensures) ∙ ap not (c .if1 .taken) in record { next = rw e refl; list-is = rw e refl }
 
 put-entry-requires : tie.Need-put-entry-requires
-put-entry-requires c κs = let e = clash-race (decode (now (c .before .before .before .before .before .before .before .before .before .before .before .args .recs))) (c .before .before .before .before .before .before .before .before .before .before .before .args .a) (c .before .before .before .before .before .before .before .before .before .before .before .args .b) (c .before .before .before .before .before .before .before .before .before .before .before .pre .earlier) (c .before .before .before .before .before .before .before .before .before .before .before .pre .inside) (sym (c .before .before .before .before .before .is-clash .ensures) ∙ not-false (c .before .before .before .before .before .is-clash .result) (c .before .before .before .before .if1 .left)) ∙ ap not (sym (c .before .before .before .is-before .ensures) ∙ c .before .before .if2 .left) in let h : c .before .before .before .before .before .before .before .before .before .before .before .args .b < 4096 = omega (arith, c .before .before .before .before .before .before .before .before .before .before .before .pre .inside, c .before .before .before .before .before .before .before .before .before .before .before .pre .filled .acceptable .few) in (c .before .before .before .before .before .before .before .before .before .before .before .pre .earlier, h, c .before .before .before .before .before .before .before .before .before .before .before .pre .space (subst T (sym (c .before .if3 .taken)) tt) e)
+put-entry-requires c κs = let e = race-told (c .before .before .before .before .before .before .before .before .before .before .pre) (c .before .before .before .before .row-at .result) (c .before .before .before .before .row-at .ensures) (c .before .before .before .comes-before .result) (c .before .before .before .comes-before .ensures) ∙ ap not (c .before .before .if1 .left) in (c .before .before .before .before .before .before .before .before .before .before .pre .earlier, omega (arith, c .before .before .before .before .before .before .before .before .before .before .pre .second .inside, c .before .before .before .before .before .before .before .before .before .before .pre .second .filled .acceptable .few), c .before .before .before .before .before .before .before .before .before .before .pre .space (subst T (sym (c .before .if2 .taken)) tt) e)
 
 add-result : tie.Need-add-result
-add-result c = omega (arith, c .before .before .before .before .before .before .before .before .before .before .before .before .before .before .pre .few, c .before .before .before .before .before .before .before .before .before .before .before .before .before .before .pre .earlier, c .before .before .before .before .before .before .before .before .before .before .before .before .before .before .pre .inside, c .before .before .before .before .before .before .before .before .before .before .before .before .before .before .pre .filled .acceptable .few)
+add-result c = omega (arith, c .before .before .before .before .before .before .before .before .before .before .before .before .before .pre .few, c .before .before .before .before .before .before .before .before .before .before .before .before .before .pre .earlier, c .before .before .before .before .before .before .before .before .before .before .before .before .before .pre .second .inside, c .before .before .before .before .before .before .before .before .before .before .before .before .before .pre .second .filled .acceptable .few)
 
 same-length : tie.Need-same-length
 same-length c = search needs
 
-returns-3 : tie.Need-returns-3
-returns-3 c = let e = clash-race (decode (now (c .before .before .before .before .before .before .before .before .before .before .before .before .before .before .args .recs))) (c .before .before .before .before .before .before .before .before .before .before .before .before .before .before .args .a) (c .before .before .before .before .before .before .before .before .before .before .before .before .before .before .args .b) (c .before .before .before .before .before .before .before .before .before .before .before .before .before .before .pre .earlier) (c .before .before .before .before .before .before .before .before .before .before .before .before .before .before .pre .inside) (sym (c .before .before .before .before .before .before .before .before .is-clash .ensures) ∙ not-false (c .before .before .before .before .before .before .before .before .is-clash .result) (c .before .before .before .before .before .before .before .if1 .left)) ∙ ap not (sym (c .before .before .before .before .before .before .is-before .ensures) ∙ c .before .before .before .before .before .if2 .left) in record { next = rw e refl; list-is = rw (e, c .before .before .before .before .if3 .taken) (c .before .before .put-entry .ensures) }
+returns-2 : tie.Need-returns-2
+returns-2 c = let e = race-told (c .before .before .before .before .before .before .before .before .before .before .before .before .before .pre) (c .before .before .before .before .before .before .before .row-at .result) (c .before .before .before .before .before .before .before .row-at .ensures) (c .before .before .before .before .before .before .comes-before .result) (c .before .before .before .before .before .before .comes-before .ensures) ∙ ap not (c .before .before .before .before .before .if1 .left) in record { next = rw e refl; list-is = rw (e, c .before .before .before .before .if2 .taken) (c .before .before .put-entry .ensures) }
 
 add-result-2 : tie.Need-add-result-2
-add-result-2 c = omega (arith, c .before .before .before .before .before .before .before .before .before .before .pre .few, c .before .before .before .before .before .before .before .before .before .before .pre .earlier, c .before .before .before .before .before .before .before .before .before .before .pre .inside, c .before .before .before .before .before .before .before .before .before .before .pre .filled .acceptable .few)
+add-result-2 c = omega (arith, c .before .before .before .before .before .before .before .before .before .pre .few, c .before .before .before .before .before .before .before .before .before .pre .earlier, c .before .before .before .before .before .before .before .before .before .pre .second .inside, c .before .before .before .before .before .before .before .before .before .pre .second .filled .acceptable .few)
 
-returns-4 : tie.Need-returns-4
-returns-4 c = let e = clash-race (decode (now (c .before .before .before .before .before .before .before .before .before .before .args .recs))) (c .before .before .before .before .before .before .before .before .before .before .args .a) (c .before .before .before .before .before .before .before .before .before .before .args .b) (c .before .before .before .before .before .before .before .before .before .before .pre .earlier) (c .before .before .before .before .before .before .before .before .before .before .pre .inside) (sym (c .before .before .before .before .is-clash .ensures) ∙ not-false (c .before .before .before .before .is-clash .result) (c .before .before .before .if1 .left)) ∙ ap not (sym (c .before .before .is-before .ensures) ∙ c .before .if2 .left) in record { next = rw e refl; list-is = rw (e, c .if3 .left) refl }
+returns-3 : tie.Need-returns-3
+returns-3 c = let e = race-told (c .before .before .before .before .before .before .before .before .before .pre) (c .before .before .before .row-at .result) (c .before .before .before .row-at .ensures) (c .before .before .comes-before .result) (c .before .before .comes-before .ensures) ∙ ap not (c .before .if1 .left) in record { next = rw e refl; list-is = rw (e, c .if2 .left) refl }
 
 pub list-race-spec : {M : Type 1} → statement M
 list-race-spec =
     tie.close
     (tie.spec
-    is-clash-requires
+    row-at-requires
+    comes-before-requires
     returns
-    is-before-requires
-    returns-2
     put-entry-requires
     add-result
     same-length
-    returns-3
+    returns-2
     add-result-2
-    returns-4)
+    returns-3)

@@ -1,19 +1,22 @@
 use borrow.Author.Needs.{needs}
-use Rattle.races.specs.Candidates.{leastKind}
+use Rattle.races.specs.Candidates.{leastKind, mayRace}
 use mathlib.Core.Path.{ap, _∙_}
-use Rattle.races.proofs.CandidateLaws.{next-jump}
-use Rattle.races.proofs.EntryStores.{Writing, writing-start, writing-size, writing-few, writing-room, writing-next, writing-end}
-use Prim.Native.Nat.{_-_, _<_}
+use Rattle.races.proofs.CandidateLaws.{past-quiet}
+use Rattle.races.proofs.ListLaws.{may-found}
+use Rattle.races.proofs.EntryStores.{Writing, writing-start, writing-size, writing-few, writing-room, writing-one, writing-past, writing-end}
+use Prim.Native.Nat.{_-_, _<_, _≤_}
+use lib.Dec.{T}
+use denote.Ref.{now}
 use native.Mathlib.Omega.{arith}
 use Rattle.records.specs.Bytes.{decode}
 use Rattle.races.proofs.lists.list_way.Statement.{statement}
 use Rattle.races.proofs.lists.list_way.Tie as tie
 
 abbrev Inv-loop : tie.InvT-loop
-Inv-loop recs ranks of width clocks from to b list₀ k writing c least next₀ a₀ list next a = Writing writing (decode recs) b from k list₀ list next a
+Inv-loop recs ranks of width clocks from to b u list₀ k writing c least next₀ a₀ list next a = Writing writing (decode recs) b from k list₀ list next a × (a ≤ to) × (a < to → T (mayRace (decode recs) least c a))
 
 abbrev μ-loop : tie.MeasureT-loop
-μ-loop recs ranks of width clocks from to b list₀ k writing c least next₀ a₀ list next a = b - a
+μ-loop recs ranks of width clocks from to b u list₀ k writing c least next₀ a₀ list next a = to - a
 
 second-at-requires : tie.Need-second-at-requires Inv-loop μ-loop
 second-at-requires c κs = search needs
@@ -24,29 +27,32 @@ kind-at-requires c κs = search needs
 least-kind-requires : tie.Need-least-kind-requires Inv-loop μ-loop
 least-kind-requires c κs = search needs
 
+next-access-requires : tie.Need-next-access-requires Inv-loop μ-loop
+next-access-requires c κs = (c .before .before .before .before .before .before .before .before .pre .0 .1 .low, omega (arith, c .before .before .before .before .before .before .before .before .pre .0 .1 .high, c .before .before .before .before .before .before .before .before .pre .0 .0 .inside), c .before .before .before .before .before .before .before .before .pre .0 .0 .filled .acceptable .few)
+
 loop-holds : tie.Need-loop-holds Inv-loop μ-loop
-loop-holds c = writing-start _ _ _ _ _ _ (c .before .before .before .before .before .before .before .before .pre .0 .2 .low)
+loop-holds c = let g = c .before .before .before .before .before .before .before .before .before .pre .0 .1 in let n = c .next-access .ensures in let w = writing-start (c .before .before .before .before .before .before .before .before .before .args .writing) (decode (now (c .before .before .before .before .before .before .before .before .before .args .recs))) (c .before .before .before .before .before .before .before .before .before .args .b) (c .before .before .before .before .before .before .before .before .before .args .from) (c .before .before .before .before .before .before .before .before .before .args .k) (now (c .before .before .before .before .before .before .before .before .before .args .list)) (omega (arith, g .low, g .high)) in (writing-past w (n .past .low) (omega (arith, n .high, g .high)) (past-quiet _ (c .before .before .before .before .before .before .before .before .before .args .b) (c .before .before .before .second-at .ensures) (c .before .least-kind .ensures ∙ ap leastKind (c .before .before .kind-at .ensures)) (n .past)), n .high, n .found)
 
 list-race-requires : tie.Need-list-race-requires Inv-loop μ-loop
-list-race-requires c κs = let h : c .before .before .loop .a < c .before .before .before .before .before .before .before .before .before .before .before .args .b = omega (arith, c .before .before .before .before .before .before .before .before .before .before .before .pre .0 .2 .high, c .before .loop-test .taken) in record { filled = c .before .before .before .before .before .before .before .before .before .before .before .pre .0 .0; earlier = h; inside = c .before .before .before .before .before .before .before .before .before .before .before .pre .0 .1; few = writing-few (c .before .before .loop .inv) (c .before .before .before .before .before .before .before .before .before .before .before .pre .1 .few); space = writing-room (c .before .before .loop .inv) h (c .before .before .before .before .before .before .before .before .before .before .before .pre .1) }
+list-race-requires c κs = let g = c .before .before .before .before .before .before .before .before .before .before .before .before .pre .0 .1 in let i = c .before .before .loop .inv in let h : c .before .before .loop .a < c .before .before .before .before .before .before .before .before .before .before .before .before .args .b = omega (arith, g .high, c .before .loop-test .taken) in record { second = c .before .before .before .before .before .before .before .before .before .before .before .before .pre .0 .0; earlier = h; may = may-found _ (c .before .before .loop .a) (c .before .before .before .before .before .before .before .before .before .before .before .before .args .b) (c .before .before .before .before .before .before .second-at .ensures) (c .before .before .before .before .least-kind .ensures ∙ ap leastKind (c .before .before .before .before .before .kind-at .ensures)) (i .2 (c .before .loop-test .taken)); few = writing-few (i .0) (c .before .before .before .before .before .before .before .before .before .before .before .before .pre .1 .few); space = writing-room (i .0) h (c .before .before .before .before .before .before .before .before .before .before .before .before .pre .1) }
 
 add-next-access : tie.Need-add-next-access Inv-loop μ-loop
-add-next-access c = omega (arith, c .before .before .before .before .loop-test .taken, c .before .before .before .before .before .before .before .before .before .before .before .before .before .before .pre .0 .2 .high, c .before .before .before .before .before .before .before .before .before .before .before .before .before .before .pre .0 .1, c .before .before .before .before .before .before .before .before .before .before .before .before .before .before .pre .0 .0 .acceptable .few)
+add-next-access c = omega (arith, c .before .before .before .before .loop-test .taken, c .before .before .before .before .before .before .before .before .before .before .before .before .before .before .before .pre .0 .1 .high, c .before .before .before .before .before .before .before .before .before .before .before .before .before .before .before .pre .0 .0 .inside, c .before .before .before .before .before .before .before .before .before .before .before .before .before .before .before .pre .0 .0 .filled .acceptable .few)
 
-next-access-requires : tie.Need-next-access-requires Inv-loop μ-loop
-next-access-requires c κs = (omega (arith, c .before .before .before .before .loop-test .taken), omega (arith, c .before .before .before .before .before .before .before .before .before .before .before .before .before .before .pre .0 .2 .high, c .before .before .before .before .before .before .before .before .before .before .before .before .before .before .pre .0 .1), c .before .before .before .before .before .before .before .before .before .before .before .before .before .before .pre .0 .0 .acceptable .few)
+next-access-requires-2 : tie.Need-next-access-requires-2 Inv-loop μ-loop
+next-access-requires-2 c κs = (omega (arith, c .before .before .before .before .loop-test .taken), omega (arith, c .before .before .before .before .before .before .before .before .before .before .before .before .before .before .before .pre .0 .1 .high, c .before .before .before .before .before .before .before .before .before .before .before .before .before .before .before .pre .0 .0 .inside), c .before .before .before .before .before .before .before .before .before .before .before .before .before .before .before .pre .0 .0 .filled .acceptable .few)
 
 loop-less : tie.Need-loop-less Inv-loop μ-loop
-loop-less c = omega (arith, c .next-access .ensures .1 .low, c .before .before .before .before .before .before .before .before .before .before .before .before .before .before .before .pre .0 .2 .high, c .before .before .before .before .before .loop-test .taken)
+loop-less c = omega (arith, c .next-access2 .ensures .past .low, c .before .before .before .before .before .loop-test .taken, c .next-access2 .ensures .high)
 
 loop-again : tie.Need-loop-again Inv-loop μ-loop
-loop-again c = let h : c .before .before .before .before .before .before .loop .a < c .before .before .before .before .before .before .before .before .before .before .before .before .before .before .before .args .b = omega (arith, c .before .before .before .before .before .before .before .before .before .before .before .before .before .before .before .pre .0 .2 .high, c .before .before .before .before .before .loop-test .taken) in writing-next (c .before .before .before .before .before .before .loop .inv) h _ _ (c .before .before .before .list-race .ensures) _ (next-jump _ (c .before .before .before .before .before .before .before .before .before .before .before .before .before .before .before .pre .0 .2 .high) (c .before .before .before .before .before .before .before .before .before .second-at .ensures) (c .before .before .before .before .before .before .before .least-kind .ensures ∙ ap leastKind (c .before .before .before .before .before .before .before .before .kind-at .ensures)) (c .next-access .ensures .0) (c .next-access .ensures .1))
+loop-again c = let g = c .before .before .before .before .before .before .before .before .before .before .before .before .before .before .before .before .pre .0 .1 in let n = c .next-access2 .ensures in let h : c .before .before .before .before .before .before .loop .a < c .before .before .before .before .before .before .before .before .before .before .before .before .before .before .before .before .args .b = omega (arith, g .high, c .before .before .before .before .before .loop-test .taken) in (writing-past (writing-one (c .before .before .before .before .before .before .loop .inv .0) h _ _ (c .before .before .before .list-race .ensures)) (n .past .low) (omega (arith, n .high, g .high)) (past-quiet _ (c .before .before .before .before .before .before .before .before .before .before .before .before .before .before .before .before .args .b) (c .before .before .before .before .before .before .before .before .before .before .second-at .ensures) (c .before .before .before .before .before .before .before .before .least-kind .ensures ∙ ap leastKind (c .before .before .before .before .before .before .before .before .before .kind-at .ensures)) (n .past)), n .high, n .found)
 
 same-length : tie.Need-same-length Inv-loop μ-loop
-same-length c = writing-size (c .before .loop .inv)
+same-length c = writing-size (c .before .loop .inv .0)
 
 returns : tie.Need-returns Inv-loop μ-loop
-returns c = writing-end (c .before .loop .inv) (c .loop-test .left) (c .before .before .before .before .before .before .before .before .before .before .pre .0 .2)
+returns c = writing-end (c .before .loop .inv .0) (c .loop-test .left) (c .before .before .before .before .before .before .before .before .before .before .before .pre .0 .1)
 
 pub list-way-spec : {M : Type 1} → statement M
 list-way-spec =
@@ -57,10 +63,11 @@ list-way-spec =
     second-at-requires
     kind-at-requires
     least-kind-requires
+    next-access-requires
     loop-holds
     list-race-requires
     add-next-access
-    next-access-requires
+    next-access-requires-2
     loop-less
     loop-again
     same-length

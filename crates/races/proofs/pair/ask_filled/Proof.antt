@@ -1,53 +1,61 @@
 -- `races::pair::ask_filled` meets its contract.
 -- Assumes nothing.
 use denote.Ref.{now}
-use native.Mathlib.Omega.{arith}
-use Prim.Native.Nat.{_≤_, _*_}
-use lib.Dec.{T}
-use lib.ListN.{length}
-use mathlib.Core.Bool.{true}
-use mathlib.Core.Path.{_≡_, refl, sym, _∙_, subst}
+use mathlib.Core.Path.{refl, sym, _∙_}
 use borrow.Author.Tests.{not-true, not-false}
 use Rattle.records.specs.Bytes.{decode}
-use Rattle.races.specs.Leading.{rows}
-use Rattle.races.specs.Traces.{settingOf}
-use Rattle.coverage.proofs.Order.{race-of}
-use Rattle.coverage.specs.Race.{raceb}
-use Rattle.races.proofs.PairLaws.{no-race, no-list, race-answered, ready, marks-of}
-use Rattle.races.proofs.PassLaws.{leading-kept}
-use Rattle.races.proofs.WorkLaws.{clear-again}
-use Rattle.races.proofs.EntryStores.{race-second}
+use Rattle.races.proofs.PairLaws.{no-race, no-list, markable, row-in, for-cover, for-kept, covered, uncovered, marks-fit, as-before}
 use borrow.Author.Needs.{needs}
 use Rattle.races.proofs.pair.ask_filled.Statement.{statement}
 use Rattle.races.proofs.pair.ask_filled.Tie as tie
 
 is-race-in-order-requires : tie.Need-is-race-in-order-requires
-is-race-in-order-requires c κs = c .before .before .before .before .before .before .pre .0
+is-race-in-order-requires c κs = search needs
 
 refused-requires : tie.Need-refused-requires
 refused-requires c κs = search needs
 
 returns : tie.Need-returns
-returns c = (no-race (decode (now (c .before .before .before .before .before .before .before .before .before .args .recs))) (c .before .before .before .before .before .before .before .before .before .args .events) (c .before .before .before .before .before .before .before .before .before .args .a) (c .before .before .before .before .before .before .before .before .before .args .b) (now (c .before .before .before .before .before .before .before .before .before .args .list)) (c .refused .result) (sym (c .before .before .is-race-in-order .ensures) ∙ not-true (c .before .before .is-race-in-order .result) (c .before .if1 .taken)) (c .refused .ensures), refl)
+returns c =
+    let s = c .before .before .before .before .before .before .before .before .before .before in
+    (no-race (decode (now (s .args .recs))) (s .args .events) (s .args .a) (s .args .b) (now (s .args .list)) (c .refused .result) (sym (c .before .before .is-race-in-order .ensures) ∙ not-true (c .before .before .is-race-in-order .result) (c .before .if1 .taken)) (c .refused .ensures), refl)
 
 refused-requires-2 : tie.Need-refused-requires-2
 refused-requires-2 c κs = search needs
 
 returns-2 : tie.Need-returns-2
-returns-2 c = (no-list (decode (now (c .before .before .before .before .before .before .before .before .before .before .args .recs))) (c .before .before .before .before .before .before .before .before .before .before .args .events) (c .before .before .before .before .before .before .before .before .before .before .args .a) (c .before .before .before .before .before .before .before .before .before .before .args .b) (now (c .before .before .before .before .before .before .before .before .before .before .args .list)) (c .refused2 .result) (sym (c .before .before .before .is-race-in-order .ensures) ∙ not-false (c .before .before .before .is-race-in-order .result) (c .before .before .if1 .left)) (c .before .if2 .taken) (c .refused2 .ensures), refl)
+returns-2 c =
+    let s = c .before .before .before .before .before .before .before .before .before .before .before in
+    (no-list (decode (now (s .args .recs))) (s .args .events) (s .args .a) (s .args .b) (now (s .args .list)) (c .refused2 .result) (sym (c .before .before .before .is-race-in-order .ensures) ∙ not-false (c .before .before .before .is-race-in-order .result) (c .before .before .if1 .left)) (c .before .if2 .taken) (c .refused2 .ensures), refl)
+
+row-at-requires : tie.Need-row-at-requires
+row-at-requires c κs = search needs
+
+row-at-requires-2 : tie.Need-row-at-requires-2
+row-at-requires-2 c κs = search needs
 
 mark-leading-requires : tie.Need-mark-leading-requires
-mark-leading-requires c κs = ready (c .before .before .before .before .before .before .before .before .before .before .pre .0 .0 .acceptable) (c .before .before .before .before .before .before .before .before .before .before .pre .1) (c .before .before .before .before .before .before .before .before .before .before .args .a) (c .before .before .before .before .before .before .before .before .before .before .args .b) (sym (c .before .before .before .is-race-in-order .ensures) ∙ not-false (c .before .before .before .is-race-in-order .result) (c .before .before .if1 .left)) (now (c .before .before .before .before .before .before .before .before .before .before .args .all)) (c .before .before .before .before .before .before .before .before .before .before .pre .0 .0 .ranks-are)
+mark-leading-requires c κs =
+    let s = c .before .before .before .before .before .before .before .before .before .before .before .before .before .before .before .before .before .before in
+    markable (s .pre .0 .0) (s .pre .1) (s .args .a) (s .args .b) (sym (c .before .before .before .before .before .before .before .before .before .before .is-race-in-order .ensures) ∙ not-false (c .before .before .before .before .before .before .before .before .before .before .is-race-in-order .result) (c .before .before .before .before .before .before .before .before .before .if1 .left)) (s .pre .0 .1) (c .before .before .row-at2 .ensures)
 
-put-entries-requires : tie.Need-put-entries-requires
-put-entries-requires c κs =
-    let e : raceb (settingOf (decode (now (c .before .before .before .before .before .before .before .before .before .before .before .before .before .before .before .args .recs)))) (c .before .before .before .before .before .before .before .before .before .before .before .before .before .before .before .args .a) (c .before .before .before .before .before .before .before .before .before .before .before .before .before .before .before .args .b) ≡ true = sym (c .before .before .before .before .before .before .before .before .is-race-in-order .ensures) ∙ not-false (c .before .before .before .before .before .before .before .before .is-race-in-order .result) (c .before .before .before .before .before .before .before .if1 .left) in
-    let r = race-of (settingOf (decode (now (c .before .before .before .before .before .before .before .before .before .before .before .before .before .before .before .args .recs)))) (c .before .before .before .before .before .before .before .before .before .before .before .before .before .before .before .args .a) (c .before .before .before .before .before .before .before .before .before .before .before .before .before .before .before .args .b) (subst T (sym e) tt) in
-    let m : 2 * rows (decode (now (c .before .before .before .before .before .before .before .before .before .before .before .before .before .before .before .args .recs))) ≤ length (now (c .before .before .before .before .before .before .before .before .before .before .before .before .before .before .before .args .list)) = omega (arith, c .before .before .before .before .before .before .if2 .left, c .before .before .before .before .before .before .before .before .before .before .before .before .before .before .before .pre .1 .events-are) in
-    ((c .before .before .before .before .before .before .before .before .before .before .before .before .before .before .before .pre .0 .0, marks-of (c .before .before .before .before .before .before .before .before .before .before .before .before .before .before .before .pre .0 .0 .acceptable) (c .before .before .before .before .before .before .before .before .before .before .before .before .before .before .before .pre .1) (c .before .before .before .before .before .before .before .before .before .before .before .before .before .before .before .args .b) _ (c .before .before .before .before .mark-leading .ensures) (race-second (decode (now (c .before .before .before .before .before .before .before .before .before .before .before .before .before .before .before .args .recs))) (c .before .before .before .before .before .before .before .before .before .before .before .before .before .before .before .args .a) (c .before .before .before .before .before .before .before .before .before .before .before .before .before .before .before .args .b) (subst T (sym e) tt)) (now (c .before .before .before .before .before .before .before .before .before .before .before .before .before .before .before .args .all)) (c .before .before .before .before .before .before .before .before .before .before .before .before .before .before .before .pre .0 .0 .ranks-are)), (r, m))
+slice-read-if3 : tie.Need-slice-read-if3
+slice-read-if3 c =
+    let s = c .before .before .before .before .before .before .before .before .before .before .before .before .before .before .before .before .before .before .before .before .before .before in
+    row-in (s .pre .0 .0) (s .pre .1) (s .args .a) (s .args .b) (sym (c .before .before .before .before .before .before .before .before .before .before .before .before .before .before .is-race-in-order .ensures) ∙ not-false (c .before .before .before .before .before .before .before .before .before .before .before .before .before .before .is-race-in-order .result) (c .before .before .before .before .before .before .before .before .before .before .before .before .before .if1 .left)) (c .before .before .before .mark-leading .ensures) (c .before .before .before .before .before .before .before .before .before .row-at .ensures)
+
+fill-ranks-requires : tie.Need-fill-ranks-requires
+fill-ranks-requires c κs = search needs
+
+put-cover-requires : tie.Need-put-cover-requires
+put-cover-requires c κs =
+    let s = c .before .before .before .before .before .before .before .before .before .before .before .before .before .before .before .before .before .before .before .before .before .before .before .before .before .before .before .before .before in
+    for-cover (s .pre .0 .0) (s .pre .1) (s .args .a) (s .args .b) (sym (c .before .before .before .before .before .before .before .before .before .before .before .before .before .before .before .before .before .before .before .before .before .is-race-in-order .ensures) ∙ not-false (c .before .before .before .before .before .before .before .before .before .before .before .before .before .before .before .before .before .before .before .before .before .is-race-in-order .result) (c .before .before .before .before .before .before .before .before .before .before .before .before .before .before .before .before .before .before .before .before .if1 .left)) (c .before .before .before .before .before .before .before .before .before .before .mark-leading .ensures) (c .before .before .before .before .before .before .before .before .before .before .before .before .before .before .before .before .row-at .ensures) (c .before .before .before .before .before .before .if3 .taken) _ (c .before .before .before .before .fill-ranks .ensures) (now (s .args .list)) (c .before .before .before .before .before .before .before .before .before .before .before .before .before .before .before .before .before .before .before .if2 .left)
 
 clear-marks-requires : tie.Need-clear-marks-requires
-clear-marks-requires c κs = omega (arith, c .before .before .before .before .before .before .before .before .before .before .before .before .before .before .before .before .before .before .before .pre .1 .work-room, c .before .before .before .before .before .before .before .before .before .before .before .before .before .before .before .before .before .before .before .pre .1 .events-are, leading-kept (c .before .before .before .before .before .before .before .before .mark-leading .ensures))
+clear-marks-requires c κs =
+    let s = c .before .before .before .before .before .before .before .before .before .before .before .before .before .before .before .before .before .before .before .before .before .before .before .before .before .before .before .before .before .before .before .before .before in
+    marks-fit (s .pre .0 .0) (s .pre .1) (s .args .a) (s .args .b) (sym (c .before .before .before .before .before .before .before .before .before .before .before .before .before .before .before .before .before .before .before .before .before .before .before .before .before .is-race-in-order .ensures) ∙ not-false (c .before .before .before .before .before .before .before .before .before .before .before .before .before .before .before .before .before .before .before .before .before .before .before .before .before .is-race-in-order .result) (c .before .before .before .before .before .before .before .before .before .before .before .before .before .before .before .before .before .before .before .before .before .before .before .before .if1 .left)) (c .before .before .before .before .before .before .before .before .before .before .before .before .before .before .mark-leading .ensures)
 
 same-length : tie.Need-same-length
 same-length c = search needs
@@ -57,8 +65,37 @@ same-length-2 c = search needs
 
 returns-3 : tie.Need-returns-3
 returns-3 c =
-    let e : raceb (settingOf (decode (now (c .before .before .before .before .before .before .before .before .before .before .before .before .before .before .before .before .before .before .before .before .before .before .args .recs)))) (c .before .before .before .before .before .before .before .before .before .before .before .before .before .before .before .before .before .before .before .before .before .before .args .a) (c .before .before .before .before .before .before .before .before .before .before .before .before .before .before .before .before .before .before .before .before .before .before .args .b) ≡ true = sym (c .before .before .before .before .before .before .before .before .before .before .before .before .before .before .before .is-race-in-order .ensures) ∙ not-false (c .before .before .before .before .before .before .before .before .before .before .before .before .before .before .before .is-race-in-order .result) (c .before .before .before .before .before .before .before .before .before .before .before .before .before .before .if1 .left) in
-    (race-answered (decode (now (c .before .before .before .before .before .before .before .before .before .before .before .before .before .before .before .before .before .before .before .before .before .before .args .recs))) (c .before .before .before .before .before .before .before .before .before .before .before .before .before .before .before .before .before .before .before .before .before .before .args .events) (c .before .before .before .before .before .before .before .before .before .before .before .before .before .before .before .before .before .before .before .before .before .before .args .a) (c .before .before .before .before .before .before .before .before .before .before .before .before .before .before .before .before .before .before .before .before .before .before .args .b) (now (c .before .before .before .before .before .before .before .before .before .before .before .before .before .before .before .before .before .before .before .before .before .before .args .list)) (c .before .before .before .before .before .before .put-entries .result) e (c .before .before .before .before .before .before .before .before .before .before .before .before .before .if2 .left) _ (c .before .before .before .before .before .before .put-entries .ensures), clear-again (c .before .before .before .before .before .before .before .before .before .before .before .before .before .before .before .before .before .before .before .before .before .before .pre .1) (c .before .before .before .before .before .before .before .before .before .before .before .mark-leading .ensures) _ (c .before .before .clear-marks .ensures))
+    let s = c .before .before .before .before .before .before .before .before .before .before .before .before .before .before .before .before .before .before .before .before .before .before .before .before .before .before .before .before .before .before .before .before .before .before .before .before in
+    let e = sym (c .before .before .before .before .before .before .before .before .before .before .before .before .before .before .before .before .before .before .before .before .before .before .before .before .before .before .before .before .is-race-in-order .ensures) ∙ not-false (c .before .before .before .before .before .before .before .before .before .before .before .before .before .before .before .before .before .before .before .before .before .before .before .before .before .before .before .before .is-race-in-order .result) (c .before .before .before .before .before .before .before .before .before .before .before .before .before .before .before .before .before .before .before .before .before .before .before .before .before .before .before .if1 .left) in
+    let m = c .before .before .before .before .before .before .before .before .before .before .before .before .before .before .before .before .before .mark-leading .ensures in (
+      covered (s .pre .0 .0) (s .pre .1) (s .args .a) (s .args .b) e m (c .before .before .before .before .before .before .before .before .before .before .before .before .before .before .before .before .before .before .before .before .before .before .before .row-at .ensures) (c .before .before .before .before .before .before .before .before .before .before .before .before .before .if3 .taken) (now (s .args .list)) _ (c .before .before .before .before .before .before .put-cover .result) (c .before .before .before .before .before .before .before .before .before .before .before .before .before .before .before .before .before .before .before .before .before .before .before .before .before .before .if2 .left) (c .before .before .before .before .before .before .put-cover .ensures),
+      as-before (s .pre .0 .0) (s .pre .1) (s .args .a) (s .args .b) e m _ (c .before .before .clear-marks .ensures),
+    )
+
+put-kept-requires : tie.Need-put-kept-requires
+put-kept-requires c κs =
+    let s = c .before .before .before .before .before .before .before .before .before .before .before .before .before .before .before .before .before .before .before .before .before .before .before .before .before in
+    for-kept (s .pre .0 .0) (s .pre .1) (s .args .a) (s .args .b) (sym (c .before .before .before .before .before .before .before .before .before .before .before .before .before .before .before .before .before .is-race-in-order .ensures) ∙ not-false (c .before .before .before .before .before .before .before .before .before .before .before .before .before .before .before .before .before .is-race-in-order .result) (c .before .before .before .before .before .before .before .before .before .before .before .before .before .before .before .before .if1 .left)) (c .before .before .before .before .before .before .mark-leading .ensures) (c .before .before .before .before .before .before .before .before .before .before .before .before .row-at .ensures) (now (s .args .list)) (c .before .before .before .before .before .before .before .before .before .before .before .before .before .before .before .if2 .left)
+
+clear-marks-requires-2 : tie.Need-clear-marks-requires-2
+clear-marks-requires-2 c κs =
+    let s = c .before .before .before .before .before .before .before .before .before .before .before .before .before .before .before .before .before .before .before .before .before .before .before .before .before .before .before .before .before in
+    marks-fit (s .pre .0 .0) (s .pre .1) (s .args .a) (s .args .b) (sym (c .before .before .before .before .before .before .before .before .before .before .before .before .before .before .before .before .before .before .before .before .before .is-race-in-order .ensures) ∙ not-false (c .before .before .before .before .before .before .before .before .before .before .before .before .before .before .before .before .before .before .before .before .before .is-race-in-order .result) (c .before .before .before .before .before .before .before .before .before .before .before .before .before .before .before .before .before .before .before .before .if1 .left)) (c .before .before .before .before .before .before .before .before .before .before .mark-leading .ensures)
+
+same-length-3 : tie.Need-same-length-3
+same-length-3 c = search needs
+
+same-length-4 : tie.Need-same-length-4
+same-length-4 c = search needs
+
+returns-4 : tie.Need-returns-4
+returns-4 c =
+    let s = c .before .before .before .before .before .before .before .before .before .before .before .before .before .before .before .before .before .before .before .before .before .before .before .before .before .before .before .before .before .before .before .before in
+    let e = sym (c .before .before .before .before .before .before .before .before .before .before .before .before .before .before .before .before .before .before .before .before .before .before .before .before .is-race-in-order .ensures) ∙ not-false (c .before .before .before .before .before .before .before .before .before .before .before .before .before .before .before .before .before .before .before .before .before .before .before .before .is-race-in-order .result) (c .before .before .before .before .before .before .before .before .before .before .before .before .before .before .before .before .before .before .before .before .before .before .before .if1 .left) in
+    let m = c .before .before .before .before .before .before .before .before .before .before .before .before .before .mark-leading .ensures in (
+      uncovered (s .pre .0 .0) (s .pre .1) (s .args .a) (s .args .b) e m (c .before .before .before .before .before .before .before .before .before .before .before .before .before .before .before .before .before .before .before .row-at .ensures) (c .before .before .before .before .before .before .before .before .before .if3 .left) (now (s .args .list)) _ (c .before .before .before .before .before .before .put-kept .result) (c .before .before .before .before .before .before .before .before .before .before .before .before .before .before .before .before .before .before .before .before .before .before .if2 .left) (c .before .before .before .before .before .before .put-kept .ensures),
+      as-before (s .pre .0 .0) (s .pre .1) (s .args .a) (s .args .b) e m _ (c .before .before .clear-marks2 .ensures),
+    )
 
 pub ask-filled-spec : {M : Type 1} → statement M
 ask-filled-spec =
@@ -69,9 +106,18 @@ ask-filled-spec =
     returns
     refused-requires-2
     returns-2
+    row-at-requires
+    row-at-requires-2
     mark-leading-requires
-    put-entries-requires
+    slice-read-if3
+    fill-ranks-requires
+    put-cover-requires
     clear-marks-requires
     same-length
     same-length-2
-    returns-3)
+    returns-3
+    put-kept-requires
+    clear-marks-requires-2
+    same-length-3
+    same-length-4
+    returns-4)

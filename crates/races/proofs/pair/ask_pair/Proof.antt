@@ -1,42 +1,63 @@
 -- `races::pair::ask_pair` meets its contract.
 -- Assumes nothing.
 use denote.Ref.{now}
-use mathlib.Core.Path.{refl, sym, ap, _∙_}
-use Rattle.trace.specs.Paper.{paper, refusalIn}
-use Rattle.records.specs.Bytes.{decode}
-use Rattle.order.proofs.EntryLaws.{refused-reading, records-are}
-use Rattle.races.specs.PairSearch.{ReadAs}
-use Rattle.races.proofs.PairEnds.{answers-bytes, refuses-bytes}
+use native.Mathlib.Omega.{arith}
+use mathlib.Core.Path.{refl, sym, ap}
+use Rattle.order.specs.Paper.{fillPaper}
+use Rattle.races.proofs.FilledLaws.{of-length}
+use Rattle.races.proofs.PreparedLaws.{marks-fit}
+use Rattle.races.proofs.PairEnds.{not-asked, askable}
 use borrow.Author.Needs.{needs}
 use Rattle.races.proofs.pair.ask_pair.Statement.{statement}
 use Rattle.races.proofs.pair.ask_pair.Tie as tie
 
-read-requires : tie.Need-read-requires
-read-requires c κs = search needs
+no-chains-requires : tie.Need-no-chains-requires
+no-chains-requires c κs = search needs
 
-enum-known-reading : tie.Need-enum-known-reading
-enum-known-reading c = search needs
+no-ranks-requires : tie.Need-no-ranks-requires
+no-ranks-requires c κs = search needs
 
-enum-told : tie.Need-enum-told
-enum-told c = search needs
+smaller-requires : tie.Need-smaller-requires
+smaller-requires c κs = search needs
 
-refusal-of-requires : tie.Need-refusal-of-requires
-refusal-of-requires c κs = search needs
+larger-requires : tie.Need-larger-requires
+larger-requires c κs = search needs
 
-returns : tie.Need-returns
-returns c =
-    let r = c .before .before .before .read .result in
-    let e = refused-reading (now (c .before .before .before .before .before .before .before .before .args .bytes)) r (c .before .before .before .read .ensures) (c .before .before .match .keys2) in
-    refuses-bytes (now (c .before .before .before .before .before .before .before .before .args .bytes)) (refusalIn r .number) (refusalIn r .place .0) e (c .before .before .before .before .before .before .before .before .args .width) _ _ _ (c .before .before .before .before .before .before .before .before .args .a .0) (c .before .before .before .before .before .before .before .before .args .b .0) _ (rw (c .refusal-of .ensures) refl)
+prepare-requires : tie.Need-prepare-requires
+prepare-requires c κs = search needs
+
+clear-marks-requires : tie.Need-clear-marks-requires
+clear-marks-requires c κs = marks-fit (now (c .before .before .before .before .before .before .before .before .before .before .before .before .before .before .before .before .args .work)) (c .before .before .before .before .prepare .ensures)
+
+enum-known-answer : tie.Need-enum-known-answer
+enum-known-answer c = search needs
+
+sub-i : tie.Need-sub-i
+sub-i c = let s = c .before .before .before .before .before .before .before .before .before .before .before .before .before .before .before .before .before .before .before .before .before .before .before in askable (now (s .args .bytes)) (s .args .a .0) (s .args .b .0) (s .args .width) (now (s .args .clocks)) _ (now (s .args .work)) _ _ (now (s .args .list)) _ _ (c .before .before .before .before .before .before .before .before .before .before .before .before .before .before .before .before .smaller .ensures) (c .before .before .before .before .before .before .before .before .before .before .before .before .before .before .before .larger .ensures) (c .before .before .before .before .before .before .before .before .before .before .before .prepare .ensures) (c .before .before .before .before .before .before .clear-marks .ensures) _ (ap fillPaper (c .before .before .answer .given .1)) _ refl .both-in .first
+
+cast-i : tie.Need-cast-i
+cast-i c = search needs
+
+sub-j : tie.Need-sub-j
+sub-j c = let s = c .before .before .before .before .before .before .before .before .before .before .before .before .before .before .before .before .before .before .before .before .before .before .before .before in askable (now (s .args .bytes)) (s .args .a .0) (s .args .b .0) (s .args .width) (now (s .args .clocks)) _ (now (s .args .work)) _ _ (now (s .args .list)) _ _ (c .before .before .before .before .before .before .before .before .before .before .before .before .before .before .before .before .before .smaller .ensures) (c .before .before .before .before .before .before .before .before .before .before .before .before .before .before .before .before .larger .ensures) (c .before .before .before .before .before .before .before .before .before .before .before .before .prepare .ensures) (c .before .before .before .before .before .before .before .clear-marks .ensures) _ (ap fillPaper (c .before .before .before .answer .given .1)) _ refl .both-in .second
+
+cast-j : tie.Need-cast-j
+cast-j c = search needs
 
 records-requires : tie.Need-records-requires
 records-requires c κs = search needs
 
-ask-trace-requires : tie.Need-ask-trace-requires
-ask-trace-requires c κs =
-    let t = c .before .before .before .before .before .reading .given .0 .0 in
-    let e = sym (ap paper (c .before .before .before .before .before .reading .given .1)) ∙ c .before .before .before .before .before .before .before .read .ensures in
-    record { start = t .start; count = t .records; reply = e; records = records-are (now (c .before .before .before .before .before .before .before .before .before .before .before .before .args .bytes)) (t .start) (t .records) (t .events) e _ (c .before .before .before .records .ensures) }
+slice-aggregate-ask-filled : tie.Need-slice-aggregate-ask-filled
+slice-aggregate-ask-filled c = let s = c .before .before .before .before .before .before .before .before .before .before .before .before .before .before .before .before .before .before .before .before .before .before .before .before .before .before .before in sym (of-length (askable (now (s .args .bytes)) (s .args .a .0) (s .args .b .0) (s .args .width) (now (s .args .clocks)) _ (now (s .args .work)) _ _ (now (s .args .list)) _ _ (c .before .before .before .before .before .before .before .before .before .before .before .before .before .before .before .before .before .before .before .before .smaller .ensures) (c .before .before .before .before .before .before .before .before .before .before .before .before .before .before .before .before .before .before .before .larger .ensures) (c .before .before .before .before .before .before .before .before .before .before .before .before .before .before .before .prepare .ensures) (c .before .before .before .before .before .before .before .before .before .before .clear-marks .ensures) _ (ap fillPaper (c .before .before .before .before .before .before .answer .given .1)) _ (c .before .before .records .ensures) .filled))
+
+ask-filled-requires : tie.Need-ask-filled-requires
+ask-filled-requires c κs =
+    let s = c .before .before .before .before .before .before .before .before .before .before .before .before .before .before .before .before .before .before .before .before .before .before .before .before .before .before .before .before .before .before in
+    let l = askable (now (s .args .bytes)) (s .args .a .0) (s .args .b .0) (s .args .width) (now (s .args .clocks)) _ (now (s .args .work)) _ _ (now (s .args .list)) _ _ (c .before .before .before .before .before .before .before .before .before .before .before .before .before .before .before .before .before .before .before .before .before .before .before .smaller .ensures) (c .before .before .before .before .before .before .before .before .before .before .before .before .before .before .before .before .before .before .before .before .before .before .larger .ensures) (c .before .before .before .before .before .before .before .before .before .before .before .before .before .before .before .before .before .before .prepare .ensures) (c .before .before .before .before .before .before .before .before .before .before .before .before .before .clear-marks .ensures) _ (ap fillPaper (c .before .before .before .before .before .before .before .before .before .answer .given .1)) _ (c .before .before .before .before .before .records .ensures) in
+    ((l .filled, l .chains-used, omega (arith, l .both-in .second, l .both-in .second-inside)), l .clear)
+
+enum-known-answer-2 : tie.Need-enum-known-answer-2
+enum-known-answer-2 c = search needs
 
 same-length : tie.Need-same-length
 same-length c = search needs
@@ -47,25 +68,45 @@ same-length-2 c = search needs
 same-length-3 : tie.Need-same-length-3
 same-length-3 c = search needs
 
+returns : tie.Need-returns
+returns c =
+    let s = c .before .before .before .before .before .before .before .before .before .before .before .before .before .before .before .before .before .before .before .before .before .before .before .before .before .before .before .before .before .before .before .before .before .before .before in
+    askable (now (s .args .bytes)) (s .args .a .0) (s .args .b .0) (s .args .width) (now (s .args .clocks)) _ (now (s .args .work)) _ _ (now (s .args .list)) _ _ (c .before .before .before .before .before .before .before .before .before .before .before .before .before .before .before .before .before .before .before .before .before .before .before .before .before .before .before .before .smaller .ensures) (c .before .before .before .before .before .before .before .before .before .before .before .before .before .before .before .before .before .before .before .before .before .before .before .before .before .before .before .larger .ensures) (c .before .before .before .before .before .before .before .before .before .before .before .before .before .before .before .before .before .before .before .before .before .before .before .prepare .ensures) (c .before .before .before .before .before .before .before .before .before .before .before .before .before .before .before .before .before .before .clear-marks .ensures) _ (ap fillPaper (c .before .before .before .before .before .before .before .before .before .before .before .before .before .before .answer .given .1)) _ (c .before .before .before .before .before .before .before .before .before .before .records .ensures) .answers _ _ _ (c .before .before .before .before .ask-filled .ensures .0) (c .before .before .before .before .ask-filled .ensures .1)
+
+same-length-4 : tie.Need-same-length-4
+same-length-4 c = search needs
+
+same-length-5 : tie.Need-same-length-5
+same-length-5 c = search needs
+
 returns-2 : tie.Need-returns-2
 returns-2 c =
-    let t = c .before .before .before .before .before .before .before .before .before .before .before .before .reading .given .0 .0 in
-    let e = sym (ap paper (c .before .before .before .before .before .before .before .before .before .before .before .before .reading .given .1)) ∙ c .before .before .before .before .before .before .before .before .before .before .before .before .before .before .read .ensures in
-    let trace : ReadAs (now (c .before .before .before .before .before .before .before .before .before .before .before .before .before .before .before .before .before .before .before .args .bytes)) (decode (now (c .before .before .before .before .before .before .before .before .before .before .records .result))) (t .events) = record { start = t .start; count = t .records; reply = e; records = records-are (now (c .before .before .before .before .before .before .before .before .before .before .before .before .before .before .before .before .before .before .before .args .bytes)) (t .start) (t .records) (t .events) e _ (c .before .before .before .before .before .before .before .before .before .before .records .ensures) } in
-    answers-bytes trace (c .before .before .before .before .before .before .before .before .before .before .before .before .before .before .before .before .before .before .before .args .width) _ _ _ _ _ _ (c .before .before .before .before .before .before .before .before .before .before .before .before .before .before .before .before .before .before .before .args .a .0) (c .before .before .before .before .before .before .before .before .before .before .before .before .before .before .before .before .before .before .before .args .b .0) _ (c .before .before .before .before .before .before .ask-trace .ensures)
+    let s = c .before .before .before .before .before .before .before .before .before .before .before .before .before .before .before .before .before .before .before .before .before .before in
+    not-asked (now (s .args .bytes)) (s .args .a .0) (s .args .b .0) (s .args .width) (now (s .args .clocks)) _ (now (s .args .work)) _ _ (now (s .args .list)) _ _ (c .before .before .before .before .before .before .before .before .before .before .before .before .before .before .before .smaller .ensures) (c .before .before .before .before .before .before .before .before .before .before .before .before .before .before .larger .ensures) (c .before .before .before .before .before .before .before .before .before .before .prepare .ensures) (c .before .before .before .before .before .clear-marks .ensures) _ _ (ap fillPaper (c .before .answer2 .given .1)) _ refl
 
 pub ask-pair-spec : {M : Type 1} → statement M
 ask-pair-spec =
     tie.close
     (tie.spec
-    read-requires
-    enum-known-reading
-    enum-told
-    refusal-of-requires
-    returns
+    no-chains-requires
+    no-ranks-requires
+    smaller-requires
+    larger-requires
+    prepare-requires
+    clear-marks-requires
+    enum-known-answer
+    sub-i
+    cast-i
+    sub-j
+    cast-j
     records-requires
-    ask-trace-requires
+    slice-aggregate-ask-filled
+    ask-filled-requires
+    enum-known-answer-2
     same-length
     same-length-2
     same-length-3
+    returns
+    same-length-4
+    same-length-5
     returns-2)

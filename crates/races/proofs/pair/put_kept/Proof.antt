@@ -1,59 +1,81 @@
 -- `races::pair::put_kept` meets its contract.
 -- Assumes nothing.
-use denote.Ref.{now}
-use native.Mathlib.Numerals.{add-one}
+use borrow.Author.Needs.{needs}
 use native.Mathlib.Omega.{arith}
-use Prim.Native.Nat.{suc, _≤_, _-_}
-use lib.ListN.{length}
-use mathlib.Core.Path.{_≡_, refl, ap, _∙_}
+use Prim.Native.Nat.{_-_}
+use mathlib.Core.Logic.{⊎-elim}
+use mathlib.Core.Path.{sym, ap, _∙_}
+use lib.ListN.{length, length-set}
 use Rattle.records.specs.Bytes.{decode}
-use Rattle.races.specs.Pair.{withEntries}
-use Rattle.races.specs.PairSearch.{keptBelow}
-use Rattle.races.proofs.PairEntries.{no-entries, entries-room, kept-none, kept-few, kept-all, kept-count}
+use Rattle.ranks.specs.Ranks.{ranksOf}
+use Rattle.races.specs.ListPass.{Marks}
+use Rattle.races.proofs.KeptEntries.{Ends, ends-start, ends-long, ends-row, ends-room, ends-next, ends-pass, ends-last-room, ends-last}
 use Rattle.races.proofs.pair.put_kept.Statement.{statement}
 use Rattle.races.proofs.pair.put_kept.Tie as tie
 
 abbrev Inv-loop : tie.InvT-loop
-Inv-loop recs ranks work b list₀ k₀ i₀ list k i = (k ≡ length (keptBelow (decode recs) b i)) × (list ≡ withEntries (keptBelow (decode recs) b i) list₀) × (i ≤ suc b)
+Inv-loop recs work b list₀ k₀ t₀ i₀ list k t i = (m : Marks (decode recs) (ranksOf (decode recs)) work b) → Ends m list₀ i t k list
 
 abbrev μ-loop : tie.MeasureT-loop
-μ-loop recs ranks work b list₀ k₀ i₀ list k i = suc b - i
+μ-loop recs work b list₀ k₀ t₀ i₀ list k t i = b - i
 
 loop-holds : tie.Need-loop-holds Inv-loop μ-loop
-loop-holds c = (rw (kept-none (decode (now (c .before .before .before .before .args .recs))) (c .before .before .before .before .args .b)) refl, rw (kept-none (decode (now (c .before .before .before .before .args .recs))) (c .before .before .before .before .args .b)) (no-entries (now (c .before .before .before .before .args .list))), omega arith)
+loop-holds c = let s = c .before .before .before in λ m. ends-start m (s .pre .1)
 
-put-kept-at-requires : tie.Need-put-kept-at-requires Inv-loop μ-loop
-put-kept-at-requires c κs =
-    let p = c .before .before .before .before .before .before .before .pre .0 in
-    let l : c .before .before .loop .i ≤ c .before .before .before .before .before .before .before .args .b = c .before .loop-test .taken in
-    let few = kept-few (p .acceptable) (c .before .before .before .before .before .before .before .args .b) (p .inside) (c .before .before .loop .i) (c .before .before .loop .inv .2) in
-    let n : length (c .before .before .loop .list) ≡ length (now (c .before .before .before .before .before .before .before .args .list)) = ap length (c .before .before .loop .inv .1) ∙ entries-room (keptBelow (decode (now (c .before .before .before .before .before .before .before .args .recs))) (c .before .before .before .before .before .before .before .args .b) (c .before .before .loop .i)) (now (c .before .before .before .before .before .before .before .args .list)) (omega (arith, c .before .before .before .before .before .before .before .pre .1)) in
-    ((p, l), (c .before .before .loop .inv .0, omega (arith, c .before .before .before .before .before .before .before .pre .1)))
+kind-at-requires : tie.Need-kind-at-requires Inv-loop μ-loop
+kind-at-requires c κs = search needs
+
+put-end-requires : tie.Need-put-end-requires Inv-loop μ-loop
+put-end-requires c κs =
+    let s = c .before .before .before .before .before .before .before .before in
+    let l = c .before .before .before .before .loop in
+    let e = l .inv (s .pre .0) in
+    let q = sym (c .before .before .kind-at .ensures) ∙ c .before .if1 .taken in
+    let h = c .before .before .before .loop-test .taken in
+    (ends-row (s .pre .0) (s .pre .1) e, omega (arith, s .pre .0 .inside, s .pre .0 .acceptable .few), ends-room (s .pre .0) (s .pre .1) e h q)
+
+add-t : tie.Need-add-t Inv-loop μ-loop
+add-t c = let s = c .before .before .before .before .before .before .before .before .before .before .before in omega (arith, ends-row (s .pre .0) (s .pre .1) (c .before .before .before .before .before .before .before .loop .inv (s .pre .0)))
 
 add-i : tie.Need-add-i Inv-loop μ-loop
-add-i c = omega (arith, c .before .before .before .before .loop-test .taken, c .before .before .before .before .before .before .before .before .before .before .pre .0 .inside, c .before .before .before .before .before .before .before .before .before .before .pre .0 .acceptable .few)
+add-i c = let s = c .before .before .before .before .before .before .before in omega (arith, c .before .before .loop-test .taken, s .pre .0 .inside, s .pre .0 .acceptable .few)
 
 loop-less : tie.Need-loop-less Inv-loop μ-loop
-loop-less c = omega (arith, c .before .before .before .before .loop-test .taken)
+loop-less c = omega (arith, c .before .before .loop-test .taken)
 
 loop-again : tie.Need-loop-again Inv-loop μ-loop
-loop-again c =
-    let e = add-one (c .before .before .before .before .before .loop .i) in
-    let l : suc (c .before .before .before .before .before .loop .i) ≤ suc (c .before .before .before .before .before .before .before .before .before .before .args .b) = omega (arith, c .before .before .before .before .loop-test .taken) in
-    rw e (c .before .before .put-kept-at .ensures .0, c .before .before .put-kept-at .ensures .1 (now (c .before .before .before .before .before .before .before .before .before .before .args .list)) (c .before .before .before .before .before .loop .inv .1), l)
+loop-again c m =
+    let s = c .before .before .before .before .before .before .before in
+    let e = c .before .before .before .loop .inv m in
+    let h = c .before .before .loop-test .taken in
+    let q = c .before .kind-at .ensures in
+    ⊎-elim
+    (λ w. rw (w .5, w .6, w .7) (ends-next m (s .pre .1) e h (sym q ∙ w .0 .taken) (w .2 .ensures)))
+    (λ w. rw (w .1, w .2, w .3) (ends-pass m (s .pre .1) e h (λ z. w .0 .left (q ∙ z))))
+    (c .if1 .came)
+
+first-at-requires : tie.Need-first-at-requires Inv-loop μ-loop
+first-at-requires c κs = search needs
+
+add-put-entry : tie.Need-add-put-entry Inv-loop μ-loop
+add-put-entry c = let s = c .before .before .before .before .before .before .before in omega (arith, s .pre .0 .inside, s .pre .0 .acceptable .few)
+
+cast-put-entry : tie.Need-cast-put-entry Inv-loop μ-loop
+cast-put-entry c = let s = c .before .before .before .before .before .before .before in omega (arith, s .pre .0 .inside, s .pre .0 .acceptable .few)
+
+put-entry-requires : tie.Need-put-entry-requires Inv-loop μ-loop
+put-entry-requires c κs = let s = c .before .before .before .before .before .before .before in ends-last-room (s .pre .0) (s .pre .1) (c .before .before .before .loop .inv (s .pre .0)) (c .before .before .loop-test .left)
+
+add-result : tie.Need-add-result Inv-loop μ-loop
+add-result c = let s = c .before .before .before .before .before .before .before .before .before .before in omega (arith, ends-last-room (s .pre .0) (s .pre .1) (c .before .before .before .before .before .before .loop .inv (s .pre .0)) (c .before .before .before .before .before .loop-test .left), ends-long (s .pre .0) (s .pre .1) (c .before .before .before .before .before .before .loop .inv (s .pre .0)))
 
 same-length : tie.Need-same-length Inv-loop μ-loop
-same-length c =
-    let p = c .before .before .before .before .before .before .pre .0 in
-    let few = kept-few (p .acceptable) (c .before .before .before .before .before .before .args .b) (p .inside) (c .before .loop .i) (c .before .loop .inv .2) in
-    ap length (c .before .loop .inv .1) ∙ entries-room (keptBelow (decode (now (c .before .before .before .before .before .before .args .recs))) (c .before .before .before .before .before .before .args .b) (c .before .loop .i)) (now (c .before .before .before .before .before .before .args .list)) (omega (arith, c .before .before .before .before .before .before .pre .1))
+same-length c = let s = c .before .before .before .before .before .before .before .before .before .before in ap length (c .before .before .put-entry .ensures) ∙ simp length-set (ends-long (s .pre .0) (s .pre .1) (c .before .before .before .before .before .before .loop .inv (s .pre .0)))
 
 returns : tie.Need-returns Inv-loop μ-loop
 returns c =
-    let tr = decode (now (c .before .before .before .before .before .before .args .recs)) in
-    let e : c .before .loop .i ≡ suc (c .before .before .before .before .before .before .args .b) = omega (arith, c .loop-test .left, c .before .loop .inv .2) in
-    let g = ap (keptBelow tr (c .before .before .before .before .before .before .args .b)) e ∙ kept-all tr (c .before .before .before .before .before .before .args .b) in
-    (c .before .loop .inv .0 ∙ ap length g ∙ kept-count tr (c .before .before .before .before .before .before .args .b), rw g at (c .before .loop .inv .1))
+    let s = c .before .before .before .before .before .before .before .before .before .before in
+    ends-last (s .pre .0) (s .pre .1) (c .before .before .before .before .before .before .loop .inv (s .pre .0)) (c .before .before .before .before .before .loop-test .left) _ (c .before .before .before .first-at .ensures) _ (c .before .before .put-entry .ensures)
 
 pub put-kept-spec : {M : Type 1} → statement M
 put-kept-spec =
@@ -62,9 +84,16 @@ put-kept-spec =
     Inv-loop
     μ-loop
     loop-holds
-    put-kept-at-requires
+    kind-at-requires
+    put-end-requires
+    add-t
     add-i
     loop-less
     loop-again
+    first-at-requires
+    add-put-entry
+    cast-put-entry
+    put-entry-requires
+    add-result
     same-length
     returns)

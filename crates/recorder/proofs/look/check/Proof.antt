@@ -36,8 +36,13 @@ check-requires c κs = search needs
 returns : tie.Need-returns
 unfolding judged before recordsIn begun ended
 returns c =
-    let a = c .before .before .before .before .before .before .before .before .before .before .args in
-    c .check .ensures ∙ simp (c .before .before .before .before .before .before .seen-if .ensures, c .before .before .before .before .seen-if2 .ensures, c .before .before .seen-if3 .ensures, c .before .before .before .before .before .before .before .starts .ensures, c .before .before .before .before .before .before .before .before .records .ensures, judge-asked)
+    let at-seen-if2 = c .before .before .before .before in
+    let at-seen-if = at-seen-if2 .before .before in
+    let at-starts = at-seen-if .before in
+    let at-records = at-starts .before in
+    let start = at-records .before .before in
+    let a = start .args in
+    c .check .ensures ∙ simp (at-seen-if .seen-if .ensures, at-seen-if2 .seen-if2 .ensures, c .before .before .seen-if3 .ensures, at-starts .starts .ensures, at-records .records .ensures, judge-asked)
 
 pub check-spec : {M : Type 1} → statement M
 check-spec =

@@ -35,25 +35,32 @@ first-at-requires c κs = search needs
 
 returns : tie.Need-returns Inv-loop μ-loop
 returns c =
-    let a = c .before .before .before .before .before .before .before .before .args in
-    let l = c .before .before .before .before .before .loop in
-    sym (l .inv ∙ seen-here (decode (now (a .recs))) (a .kind) (a .e) (l .i) (c .before .before .before .before .loop-test .taken) (sym (c .before .before .before .kind-at .ensures) ∙ c .before .before .if1 .taken) (sym (c .before .first-at .ensures) ∙ c .if2 .taken))
+    let at-loop-test = c .before .before .before .before in
+    let at-loop = at-loop-test .before in
+    let start = at-loop .before .before .before in
+    let a = start .args in
+    let l = at-loop .loop in
+    sym (l .inv ∙ seen-here (decode (now (a .recs))) (a .kind) (a .e) (l .i) (at-loop-test .loop-test .taken) (sym (c .before .before .before .kind-at .ensures) ∙ c .before .before .if1 .taken) (sym (c .before .first-at .ensures) ∙ c .if2 .taken))
 
 loop-less : tie.Need-loop-less Inv-loop μ-loop
 loop-less c = omega arith
 
 loop-again : tie.Need-loop-again Inv-loop μ-loop
 loop-again c =
-    let a = c .before .before .before .before .before .before .before .before .args in
-    let l = c .before .before .before .before .before .loop in
-    l .inv ∙ other-event (decode (now (a .recs))) (a .kind) (a .e) (l .i) (c .before .before .before .before .loop-test .taken) (λ p. c .if2 .left (c .before .first-at .ensures ∙ p))
+    let at-loop-test = c .before .before .before .before in
+    let at-loop = at-loop-test .before in
+    let start = at-loop .before .before .before in
+    let a = start .args in
+    let l = at-loop .loop in
+    l .inv ∙ other-event (decode (now (a .recs))) (a .kind) (a .e) (l .i) (at-loop-test .loop-test .taken) (λ p. c .if2 .left (c .before .first-at .ensures ∙ p))
 
 loop-less-2 : tie.Need-loop-less-2 Inv-loop μ-loop
 loop-less-2 c = omega arith
 
 loop-again-2 : tie.Need-loop-again-2 Inv-loop μ-loop
 loop-again-2 c =
-    let a = c .before .before .before .before .before .before .args in
+    let start = c .before .before .before .before .before .before in
+    let a = start .args in
     let l = c .before .before .before .loop in
     l .inv ∙ other-kind (decode (now (a .recs))) (a .kind) (a .e) (l .i) (c .before .before .loop-test .taken) (λ p. c .if1 .left (c .before .kind-at .ensures ∙ p))
 

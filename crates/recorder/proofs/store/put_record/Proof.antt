@@ -30,16 +30,22 @@ cast-put-two-2 : tie.Need-cast-put-two-2
 cast-put-two-2 c = search needs
 
 put-two-requires-2 : tie.Need-put-two-requires-2
-put-two-requires-2 c κs = simp (c .before .before .before .before .put-two .ensures, length-set) (omega arith)
+put-two-requires-2 c κs =
+    let at-put-two = c .before .before .before .before in
+    simp (at-put-two .put-two .ensures, length-set) (omega arith)
 
 same-length : tie.Need-same-length
-same-length c = omega (arith, length-set (now (c .before .before .before .before .before .before .before .before .before .before .before .args .bytes)) (c .before .before .before .before .before .before .before .before .before .before .before .args .at) (c .before .before .before .before .before .before .before .before .before .before .before .args .rec .kind))
+same-length c =
+    let start = c .before .before .before .before .before .before .before .before .before .before .before in
+    omega (arith, length-set (now (start .args .bytes)) (start .args .at) (start .args .rec .kind))
 
 returns : tie.Need-returns
 unfolding encode
 returns c =
-    let a = c .before .before .before .before .before .before .before .before .before .before .before .args in
-    simp (c .before .before .before .before .before .before .before .put-two .ensures, c .before .before .put-two2 .ensures, towards-suc) (stored-sets (now (a .bytes)) (a .at) (encode (a .rec ∷ [])) (omega arith))
+    let at-put-two = c .before .before .before .before .before .before .before in
+    let start = at-put-two .before .before .before .before in
+    let a = start .args in
+    simp (at-put-two .put-two .ensures, c .before .before .put-two2 .ensures, towards-suc) (stored-sets (now (a .bytes)) (a .at) (encode (a .rec ∷ [])) (omega arith))
 
 pub put-record-spec : {M : Type 1} → statement M
 put-record-spec =

@@ -43,8 +43,11 @@ same-length c = simp length-set (omega arith)
 returns : tie.Need-returns
 unfolding trailer
 returns c =
-    let a = c .before .before .before .before .before .before .before .before .before .before .before .before .before .args in
-    simp (c .before .before .before .before .before .before .before .before .before .before .put-two .ensures, c .before .before .before .before .before .before .put-two2 .ensures, c .before .before .put-two3 .ensures, towards-suc) (stored-sets (now (a .bytes)) (a .at) (trailer (a .at) (a .begins)) (omega arith))
+    let at-put-two2 = c .before .before .before .before .before .before in
+    let at-put-two = at-put-two2 .before .before .before .before in
+    let start = at-put-two .before .before .before in
+    let a = start .args in
+    simp (at-put-two .put-two .ensures, at-put-two2 .put-two2 .ensures, c .before .before .put-two3 .ensures, towards-suc) (stored-sets (now (a .bytes)) (a .at) (trailer (a .at) (a .begins)) (omega arith))
 
 pub put-trailer-spec : {M : Type 1} → statement M
 put-trailer-spec =

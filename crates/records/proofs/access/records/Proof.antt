@@ -39,7 +39,8 @@ part-result-end-2 c = search needs
 returns-2 : tie.Need-returns-2
 unfolding part
 returns-2 c =
-    let a = c .before .before .before .before .args in
+    let start = c .before .before .before .before in
+    let a = start .args in
     let r = drop (a .t .start) (now (a .bytes)) in
     let l : length r ≡ length (now (a .bytes)) - a .t .start = length-drop (a .t .start) (now (a .bytes)) in
     take-all (length (now (a .bytes)) - a .t .start) r (omega arith) ∙ sym (take-all (5 * a .t .records) r (omega arith))
@@ -62,7 +63,8 @@ part-result-end-3 c = search needs
 returns-3 : tie.Need-returns-3
 unfolding part
 returns-3 c =
-    let a = c .before .before .before .before .before .args in
+    let start = c .before .before .before .before .before in
+    let a = start .args in
     let e : a .t .start + 5 * a .t .records - a .t .start ≡ 5 * a .t .records = omega arith in
     rw e
 

@@ -33,15 +33,21 @@ returns-3 c = (simp (eq-eqb _ _ (c .before .before .before .if1 .left), eq-eqb _
 
 returns-4 : tie.Need-returns-4
 unfolding trailerReply demand orElse
-returns-4 c = (simp (eq-eqb _ _ (c .before .before .before .before .if1 .left), eq-eqb _ _ (c .before .before .if2 .left), eq-eqb _ _ (c .before .if3 .left), lt-leb _ _ (c .if4 .taken)), λ e. absurd (omega arith))
+returns-4 c =
+    let at-if1 = c .before .before .before .before in
+    (simp (eq-eqb _ _ (at-if1 .if1 .left), eq-eqb _ _ (c .before .before .if2 .left), eq-eqb _ _ (c .before .if3 .left), lt-leb _ _ (c .if4 .taken)), λ e. absurd (omega arith))
 
 returns-5 : tie.Need-returns-5
 unfolding trailerReply demand orElse
-returns-5 c = (simp (eq-eqb _ _ (c .before .before .before .before .before .if1 .left), eq-eqb _ _ (c .before .before .before .if2 .left), eq-eqb _ _ (c .before .before .if3 .left), le-leb _ _ (c .before .if4 .left), lt-leb _ _ (c .if5 .taken)), λ e. absurd (omega arith))
+returns-5 c =
+    let at-if1 = c .before .before .before .before .before in
+    (simp (eq-eqb _ _ (at-if1 .if1 .left), eq-eqb _ _ (c .before .before .before .if2 .left), eq-eqb _ _ (c .before .before .if3 .left), le-leb _ _ (c .before .if4 .left), lt-leb _ _ (c .if5 .taken)), λ e. absurd (omega arith))
 
 returns-6 : tie.Need-returns-6
 unfolding trailerReply demand orElse
-returns-6 c = (simp (eq-eqb _ _ (c .before .before .before .before .before .if1 .left), eq-eqb _ _ (c .before .before .before .if2 .left), eq-eqb _ _ (c .before .before .if3 .left), le-leb _ _ (c .before .if4 .left), le-leb _ _ (c .if5 .left)), λ e. c .if5 .left)
+returns-6 c =
+    let at-if1 = c .before .before .before .before .before in
+    (simp (eq-eqb _ _ (at-if1 .if1 .left), eq-eqb _ _ (c .before .before .before .if2 .left), eq-eqb _ _ (c .before .before .if3 .left), le-leb _ _ (c .before .if4 .left), le-leb _ _ (c .if5 .left)), λ e. c .if5 .left)
 
 pub fault-spec : {M : Type 1} → statement M
 fault-spec =

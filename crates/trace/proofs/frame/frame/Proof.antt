@@ -27,8 +27,9 @@ refuse-requires-2 c κs = search needs
 returns-2 : tie.Need-returns-2
 unfolding frameReply demand
 returns-2 c =
+    let at-if1 = c .before .before .before .before in
     c .refuse2 .ensures
-    ∙ simp (le-leb _ _ (c .before .before .before .before .if1 .left), ← c .before .before .before .distance-at .ensures) (stops _ _ _ (c .before .if2 .taken) ∙ c .before .before .fault .ensures .0)
+    ∙ simp (le-leb _ _ (at-if1 .if1 .left), ← c .before .before .before .distance-at .ensures) (stops _ _ _ (c .before .if2 .taken) ∙ c .before .before .fault .ensures .0)
 
 sub-accept : tie.Need-sub-accept
 sub-accept c = let l = c .before .fault .ensures .1 (c .if2 .left) in search needs
@@ -48,8 +49,10 @@ accept-requires c κs = search needs
 returns-3 : tie.Need-returns-3
 unfolding frameReply demand orElse
 returns-3 c =
+    let at-distance-at = c .before .before .before .before in
+    let at-if1 = at-distance-at .before in
     c .accept .ensures
-    ∙ simp (le-leb _ _ (c .before .before .before .before .before .if1 .left), ← c .before .before .before .before .distance-at .ensures, c .before .two-bytes .ensures) (simp (c .before .before .if2 .left) at (c .before .before .before .fault .ensures .0))
+    ∙ simp (le-leb _ _ (at-if1 .if1 .left), ← at-distance-at .distance-at .ensures, c .before .two-bytes .ensures) (simp (c .before .before .if2 .left) at (c .before .before .before .fault .ensures .0))
 
 pub frame-spec : {M : Type 1} → statement M
 frame-spec =

@@ -15,10 +15,14 @@ fault-requires : tie.Need-fault-requires
 fault-requires c κs = c .next .ensures
 
 returns : tie.Need-returns
-returns c = at-fault (c .before .fault .result) (c .before .before .before .before .before .args .op .0) _ (c .before .fault .ensures) (c .if1 .taken)
+returns c =
+    let start = c .before .before .before .before .before in
+    at-fault (c .before .fault .result) (start .args .op .0) _ (c .before .fault .ensures) (c .if1 .taken)
 
 returns-2 : tie.Need-returns-2
-returns-2 c = no-fault (c .before .before .before .before .before .args .op .0) (c .before .fault .ensures) (c .if1 .left) (c .before .before .next .ensures)
+returns-2 c =
+    let start = c .before .before .before .before .before in
+    no-fault (start .args .op .0) (c .before .fault .ensures) (c .if1 .left) (c .before .before .next .ensures)
 
 pub check-spec : {M : Type 1} → statement M
 check-spec = tie.close (tie.spec table-requires next-requires fault-requires returns returns-2)

@@ -18,10 +18,16 @@ is-misplaced-requires : tie.Need-is-misplaced-requires
 is-misplaced-requires c κs = search needs
 
 returns-3 : tie.Need-returns-3
-returns-3 c = simp (← c .before .before .before .before .before .pre, ne-eqb _ _ (c .before .before .before .before .if1 .left), ← c .before .before .before .is-well-formed .ensures, not-false (c .before .before .before .is-well-formed .result) (c .before .before .if2 .left), ← c .before .is-misplaced .ensures, c .if3 .taken)
+returns-3 c =
+    let at-if1 = c .before .before .before .before in
+    let start = at-if1 .before in
+    simp (← start .pre, ne-eqb _ _ (at-if1 .if1 .left), ← c .before .before .before .is-well-formed .ensures, not-false (c .before .before .before .is-well-formed .result) (c .before .before .if2 .left), ← c .before .is-misplaced .ensures, c .if3 .taken)
 
 returns-4 : tie.Need-returns-4
-returns-4 c = simp (← c .before .before .before .before .before .pre, ne-eqb _ _ (c .before .before .before .before .if1 .left), ← c .before .before .before .is-well-formed .ensures, not-false (c .before .before .before .is-well-formed .result) (c .before .before .if2 .left), ← c .before .is-misplaced .ensures, c .if3 .left)
+returns-4 c =
+    let at-if1 = c .before .before .before .before in
+    let start = at-if1 .before in
+    simp (← start .pre, ne-eqb _ _ (at-if1 .if1 .left), ← c .before .before .before .is-well-formed .ensures, not-false (c .before .before .before .is-well-formed .result) (c .before .before .if2 .left), ← c .before .is-misplaced .ensures, c .if3 .left)
 
 pub place-fault-spec : {M : Type 1} → statement M
 place-fault-spec =

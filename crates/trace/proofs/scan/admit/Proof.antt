@@ -14,7 +14,9 @@ has-begun-requires c κs = search needs
 
 returns : tie.Need-returns
 unfolding again
-returns c = (simp (c .before .before .before .before .if1 .taken, ← c .before .has-begun .ensures, c .if2 .taken), λ z. absurd (omega arith))
+returns c =
+    let at-if1 = c .before .before .before .before in
+    (simp (at-if1 .if1 .taken, ← c .before .has-begun .ensures, c .if2 .taken), λ z. absurd (omega arith))
 
 note-requires : tie.Need-note-requires
 note-requires c κs = search needs
@@ -22,7 +24,8 @@ note-requires c κs = search needs
 returns-2 : tie.Need-returns-2
 unfolding again early noted
 returns-2 c =
-    let is = c .before .before .before .before .before .before .if1 .taken in
+    let at-if1 = c .before .before .before .before .before .before in
+    let is = at-if1 .if1 .taken in
     (simp (is, ← c .before .before .before .has-begun .ensures, c .before .before .if2 .left), λ z. c .note .ensures ∙ simp is)
 
 note-requires-2 : tie.Need-note-requires-2
@@ -48,7 +51,12 @@ order-fault-requires c κs = search needs
 
 returns-4 : tie.Need-returns-4
 unfolding noted
-returns-4 c = (simp (← c .before .before .before .before .before .before .before .has-begun2 .ensures, ← c .before .before .before .before .has-begun3 .ensures, ← c .before .has-ended .ensures) (c .order-fault .ensures), λ z. simp (ne-eqb _ _ (c .before .before .before .before .before .before .before .before .before .before .before .if1 .left), ne-eqb _ _ (c .before .before .before .before .before .before .before .before .before .before .if3 .left)))
+returns-4 c =
+    let at-has-begun3 = c .before .before .before .before in
+    let at-has-begun2 = at-has-begun3 .before .before .before in
+    let at-if3 = at-has-begun2 .before .before .before in
+    let at-if1 = at-if3 .before in
+    (simp (← at-has-begun2 .has-begun2 .ensures, ← at-has-begun3 .has-begun3 .ensures, ← c .before .has-ended .ensures) (c .order-fault .ensures), λ z. simp (ne-eqb _ _ (at-if1 .if1 .left), ne-eqb _ _ (at-if3 .if3 .left)))
 
 pub admit-spec : {M : Type 1} → statement M
 admit-spec =

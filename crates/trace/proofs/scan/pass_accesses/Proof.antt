@@ -33,7 +33,9 @@ is-inner-access-requires : tie.Need-is-inner-access-requires Inv-loop μ-loop
 is-inner-access-requires c κs = search needs
 
 returns-2 : tie.Need-returns-2 Inv-loop μ-loop
-returns-2 c = c .before .before .before .before .loop .inv
+returns-2 c =
+    let at-loop = c .before .before .before .before in
+    at-loop .loop .inv
 
 add-i : tie.Need-add-i Inv-loop μ-loop
 add-i c = omega arith

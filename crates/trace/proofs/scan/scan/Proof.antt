@@ -31,14 +31,17 @@ none-requires c κs = search needs
 
 loop-holds : tie.Need-loop-holds Inv-loop μ-loop
 loop-holds c =
-    let a = c .before .before .before .before .args in
+    let start = c .before .before .before .before in
+    let a = start .args in
     rw (c .none .ensures) (going-start (decode (now (a .recs))) (a .start) (a .events))
 
 record-at-requires : tie.Need-record-at-requires Inv-loop μ-loop
 record-at-requires c κs = search needs
 
 next-requires : tie.Need-next-requires Inv-loop μ-loop
-next-requires c κs = c .before .before .before .before .before .table .ensures
+next-requires c κs =
+    let at-table = c .before .before .before .before .before in
+    at-table .table .ensures
 
 place-fault-requires : tie.Need-place-fault-requires Inv-loop μ-loop
 place-fault-requires c κs = c .next .ensures
@@ -48,15 +51,18 @@ add-refuse c = omega arith
 
 refuse-requires : tie.Need-refuse-requires Inv-loop μ-loop
 refuse-requires c κs =
-    let l = c .before .before .before .before .before .before in
+    let at-before = c .before .before .before .before .before in
+    let l = at-before .before in
     let p = l .before .before .before .before .before .pre in
     let n = l .before .before .before .count .ensures in
     omega arith
 
 returns : tie.Need-returns Inv-loop μ-loop
 returns c =
-    let l = c .before .before .before .before .before .before .before in
-    let r = c .before .before .before .before .before .record-at in
+    let at-record-at = c .before .before .before .before .before in
+    let at-before = at-record-at .before in
+    let l = at-before .before in
+    let r = at-record-at .record-at in
     let f = c .before .before .place-fault .ensures in
     let n = l .before .before .before .count .ensures in
     let less : l .loop .i < length (decode (now (l .before .before .before .before .before .args .recs))) = omega arith in
@@ -70,23 +76,29 @@ add-refuse-2 c = omega arith
 
 refuse-requires-2 : tie.Need-refuse-requires-2 Inv-loop μ-loop
 refuse-requires-2 c κs =
-    let l = c .before .before .before .before .before .before .before .before .before in
+    let at-before = c .before .before .before .before .before .before .before .before in
+    let l = at-before .before in
     let p = l .before .before .before .before .before .pre in
     let n = l .before .before .before .count .ensures in
     omega arith
 
 returns-2 : tie.Need-returns-2 Inv-loop μ-loop
 returns-2 c =
-    let l = c .before .before .before .before .before .before .before .before .before .before in
-    let r = c .before .before .before .before .before .before .before .before .record-at in
-    let f = c .before .before .before .before .before .place-fault .ensures in
+    let at-if1 = c .before .before .before .before in
+    let at-place-fault = at-if1 .before in
+    let at-record-at = at-place-fault .before .before .before in
+    let at-before = at-record-at .before in
+    let l = at-before .before in
+    let r = at-record-at .record-at in
+    let f = at-place-fault .place-fault .ensures in
     let n = l .before .before .before .count .ensures in
     let less : l .loop .i < length (decode (now (l .before .before .before .before .before .args .recs))) = omega arith in
-    c .refuse2 .ensures ∙ going-refused (l .loop .inv) less (r .result) (r .ensures) _ (by-order _ _ _ _ _ _ f (c .before .before .before .before .if1 .left) (c .before .before .admit .ensures .0)) (c .before .if2 .taken)
+    c .refuse2 .ensures ∙ going-refused (l .loop .inv) less (r .result) (r .ensures) _ (by-order _ _ _ _ _ _ f (at-if1 .if1 .left) (c .before .before .admit .ensures .0)) (c .before .if2 .taken)
 
 one-more-requires : tie.Need-one-more-requires Inv-loop μ-loop
 one-more-requires c κs =
-    let l = c .before .before .before .before .before .before .before .before .before in
+    let at-before = c .before .before .before .before .before .before .before .before in
+    let l = at-before .before in
     let p = l .before .before .before .before .before .pre in
     let n = l .before .before .before .count .ensures in
     let f = l .loop .inv .few in
@@ -96,7 +108,9 @@ add-pass-accesses : tie.Need-add-pass-accesses Inv-loop μ-loop
 add-pass-accesses c = omega arith
 
 pass-accesses-requires : tie.Need-pass-accesses-requires Inv-loop μ-loop
-pass-accesses-requires c κs = c .before .before .before .before .before .before .before .before .before .before .before .before .before .table .ensures
+pass-accesses-requires c κs =
+    let at-table = c .before .before .before .before .before .before .before .before .before .before .before .before .before in
+    at-table .table .ensures
 
 loop-less : tie.Need-loop-less Inv-loop μ-loop
 loop-less c =
@@ -105,26 +119,36 @@ loop-less c =
 
 loop-again : tie.Need-loop-again Inv-loop μ-loop
 loop-again c =
-    let l = c .before .before .before .before .before .before .before .before .before .before .before .before in
-    let r = c .before .before .before .before .before .before .before .before .before .before .record-at in
-    let f = c .before .before .before .before .before .before .before .place-fault .ensures in
-    let a = c .before .before .before .before .admit .ensures in
+    let at-admit = c .before .before .before .before in
+    let at-if1 = at-admit .before .before in
+    let at-place-fault = at-if1 .before in
+    let at-next = at-place-fault .before in
+    let at-record-at = at-next .before .before in
+    let at-before = at-record-at .before in
+    let l = at-before .before in
+    let r = at-record-at .record-at in
+    let f = at-place-fault .place-fault .ensures in
+    let a = at-admit .admit .ensures in
     let z = c .before .before .before .if2 .left in
     let n = l .before .before .before .count .ensures in
     let less : l .loop .i < length (decode (now (l .before .before .before .before .before .args .recs))) = omega arith in
     let o = c .before .before .one-more in
-    let x = c .before .before .before .before .before .before .before .before .next in
+    let x = at-next .next in
     going-along (c .pass-accesses .ensures) (rw (a .1 z)
-    (going-next (l .loop .inv) less (r .result) (r .ensures) _ (by-order _ _ _ _ _ _ f (c .before .before .before .before .before .before .if1 .left) (a .0)) z (x .result) (x .ensures) (o .result) (o .ensures)))
+    (going-next (l .loop .inv) less (r .result) (r .ensures) _ (by-order _ _ _ _ _ _ f (at-if1 .if1 .left) (a .0)) z (x .result) (x .ensures) (o .result) (o .ensures)))
 
 finish-requires : tie.Need-finish-requires Inv-loop μ-loop
 finish-requires c κs =
-    let p = c .before .before .before .before .before .before .pre in
-    let n = c .before .before .before .before .count .ensures in
+    let at-count = c .before .before .before .before in
+    let start = at-count .before .before in
+    let p = start .pre in
+    let n = at-count .count .ensures in
     omega arith
 
 returns-3 : tie.Need-returns-3 Inv-loop μ-loop
-returns-3 c = c .finish .ensures ∙ sym (going-end (c .before .before .loop .inv) (c .before .before .before .before .before .count .ensures) (c .before .loop-test .left))
+returns-3 c =
+    let at-count = c .before .before .before .before .before in
+    c .finish .ensures ∙ sym (going-end (c .before .before .loop .inv) (at-count .count .ensures) (c .before .loop-test .left))
 
 pub scan-spec : {M : Type 1} → statement M
 scan-spec =

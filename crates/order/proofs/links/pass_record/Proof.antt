@@ -1,0 +1,63 @@
+-- `order::links::pass_record` meets its contract.
+-- Assumes nothing.
+use Rattle.ranks.proofs.SaidLaws.{begin-said, nothing-said}
+use Rattle.ranks.specs.Ranks.{says}
+use mathlib.Core.Path.{refl, sym, ap, _∙_}
+use borrow.Author.Needs.{needs}
+use Rattle.order.proofs.links.pass_record.Statement.{statement}
+use Rattle.order.proofs.links.pass_record.Tie as tie
+
+ordering-at-requires : tie.Need-ordering-at-requires
+ordering-at-requires c κs = search needs
+
+enum-known-said : tie.Need-enum-known-said
+enum-known-said c = search needs
+
+merge-row-requires : tie.Need-merge-row-requires
+merge-row-requires c κs = search needs
+
+note-requires : tie.Need-note-requires
+note-requires c κs = search needs
+
+enum-told : tie.Need-enum-told
+enum-told c = search needs
+
+enum-told-2 : tie.Need-enum-told-2
+enum-told-2 c = search needs
+
+same-length : tie.Need-same-length
+same-length c = search needs
+
+same-length-2 : tie.Need-same-length-2
+same-length-2 c = search needs
+
+returns : tie.Need-returns
+returns c =
+    rw (sym (c .before .before .before .before .before .before .before .before .before .before .before .ordering-at .ensures) ∙ ap says (c .before .before .before .before .before .before .before .before .before .said .given .1))
+    (record { stopped-is = refl; clocks-are = c .before .before .before .before .before .before .merge-row .ensures; linked-are = c .before .before .note .ensures })
+
+returns-2 : tie.Need-returns-2
+returns-2 c =
+    rw (sym (c .before .before .ordering-at .ensures) ∙ begin-said (c .before .before .ordering-at .result) (c .before .match .keys2) .1)
+    (record { stopped-is = refl; clocks-are = refl; linked-are = refl })
+
+returns-3 : tie.Need-returns-3
+returns-3 c =
+    rw (sym (c .before .before .ordering-at .ensures) ∙ nothing-said (c .before .before .ordering-at .result) (c .before .match .keys3))
+    (record { stopped-is = refl; clocks-are = refl; linked-are = refl })
+
+pub pass-record-spec : {M : Type 1} → statement M
+pass-record-spec =
+    tie.close
+    (tie.spec
+    ordering-at-requires
+    enum-known-said
+    merge-row-requires
+    note-requires
+    enum-told
+    enum-told-2
+    same-length
+    same-length-2
+    returns
+    returns-2
+    returns-3)

@@ -1,0 +1,92 @@
+-- Where raising stands: rows before are the cover clock's, the row itself is raised up to some record, and later rows hold what was passed on to them so far.
+-- Assumes nothing.
+use Prim.Native.Nat.{ℕ, suc, _≤_, _<_, max}
+use mathlib.Core.Path.{_≡_, ap, _∙_}
+use mathlib.Core.Logic.{_≢_, _⊎_, inl, inr, _↔_}
+use mathlib.Core.Bool.{Bool}
+use mathlib.Core.List.{List}
+use native.Mathlib.Omega.{arith}
+use lib.Dec.{T, leb, leb→le, le→leb}
+use lib.ListN.{length}
+use Rattle.records.specs.declared.Record.{Record}
+use Rattle.records.specs.Records.{at}
+use Rattle.trace.specs.Reading.{Acceptable}
+use Rattle.ranks.specs.Said.{begin}
+use Rattle.coverage.specs.Race.{Race}
+use Rattle.coverage.specs.Leading.{coveredb}
+use Rattle.coverage.specs.Whole.{Edges}
+use Rattle.coverage.proofs.Tests.{decide-eq, same as equal-tests}
+use Rattle.order.specs.Sets.{index}
+use Rattle.order.specs.Schedule.{linked}
+use Rattle.order.specs.Clocks.{chainOf, entry, largest}
+use Rattle.order.specs.HappensBefore.{opAt, traceLinks}
+use Rattle.order.proofs.ScheduleLaws.{linked-suc, links-made}
+use Rattle.order.proofs.WalkLaws.{linked-all}
+use Rattle.order.proofs.TraceOrder.{ops-ordered}
+use Rattle.order.proofs.CoverRows.{cover-own, mark-decides, race-earlier}
+use Rattle.races.specs.Traces.{settingOf}
+use Rattle.races.proofs.Instance.{laws}
+use Rattle.races.proofs.CoverNumbers.{events, nameOf, number, Tested, numbered, in-order, number-name}
+use Rattle.races.proofs.RaisedRows.{final, finalAt, Raised, name-of, raised-start}
+
+module _ (tr : List Record) (e : ℕ → ℕ → Bool) where
+  -- at row t, whose begin is record i; the edges with a second before y are merged
+  pub record Standing (i t y : ℕ) (rows : ℕ → ℕ → ℕ) : Type 0 where
+    pub inside : i < length tr
+    pub begins-it : opAt tr i ≡ begin t
+    pub known : t < events tr
+    pub done : (v c : ℕ) → v < t → rows v c ≡ final tr v c
+    pub row : Raised tr e t y (rows t)
+    pub coming : (v c : ℕ) → t < v → rows v c ≡ max (entry (traceLinks tr) v c) (largest (linked (opAt tr) (suc i) v) (λ p. final tr p c))
+    pub seen : (d : ℕ) → d < y → number tr d ≤ t
+
+module _ {tr : List Record} (a : Acceptable tr) where
+  module _ (e : ℕ → ℕ → Bool) (es : Edges (settingOf tr) (Tested tr e)) where
+    -- no edge leads into row v from record y on
+    abbrev pub NoEdge : ℕ → ℕ → Type 0
+    NoEdge v y = (p d : ℕ) → T (e p d) → number tr d ≡ v → y ≤ d → ⊥
+
+    -- the rows where the links after its begin are passed on
+    pub stand-leave : {i t y : ℕ} {rows : ℕ → ℕ → ℕ} → Standing tr e i t y rows → NoEdge t y → (v c : ℕ) → v < suc t → rows v c ≡ final tr v c
+    stand-leave {i} {t} {y} {rows} s n v c h = go (decide-eq v t)
+      where
+        go : (v ≡ t) ⊎ (v ≢ t) → rows v c ≡ final tr v c
+        go (inl q) = rw q (s .row .ends c n)
+        go (inr q) = s .done v c (omega arith)
+
+    -- and where the next begin is met
+    pub stand-arrive : (j t y : ℕ) (rows : ℕ → ℕ → ℕ) → j < length tr → opAt tr j ≡ begin t → t < events tr → ((d : ℕ) → d < y → number tr d < t) → ((v c : ℕ) → v < t → rows v c ≡ final tr v c) → ((v c : ℕ) → t ≤ v → rows v c ≡ max (entry (traceLinks tr) v c) (largest (linked (opAt tr) j v) (λ p. final tr p c))) → Standing tr e j t y rows
+    stand-arrive j t y rows h b k s f g = record {
+      inside = h;
+      begins-it = b;
+      known = k;
+      done = f;
+      row = raised-start a e es t k y first (rows t) (λ c. g t c (omega arith) ∙ ap (max (entry (traceLinks tr) t c)) (linked-all (opAt tr) (length tr) (ops-ordered a) (traceLinks tr) (links-made (opAt tr) (length tr)) j t (λ p. final tr p c) h b));
+      coming = λ v c l. rw (linked-suc (opAt tr) j v (begin t) b) (g v c (omega arith));
+      seen = λ d l. omega (arith, s d l);
+    }
+      where
+        first : (p d : ℕ) → T (e p d) → number tr d ≡ t → y ≤ d
+        first p d w n = let z : d < y → ⊥ = λ l. omega (arith, s d l) in omega (arith, z)
+
+    -- The mark of a race (x, b) where b is met.
+    pub stand-marks : {i t y : ℕ} {rows : ℕ → ℕ → ℕ} → Standing tr e i t y rows → (b : ℕ) → number tr b ≡ t → y ≤ b → ((p d : ℕ) → T (e p d) → y ≤ d → b ≤ d) → (x : ℕ) → Race (settingOf tr) x b → (number tr x < t) × (leb (rows (number tr x) (chainOf (traceLinks tr) (number tr x))) (rows t (chainOf (traceLinks tr) (number tr x))) ≡ coveredb (settingOf tr) x b)
+    stand-marks {i} {t} {y} {rows} s b n l f x r = (before, rw (s .done (number tr x) c before, s .row .here b c (r .inside) n l (λ p d w z m. f p d w m), own) told)
+      where
+        c : ℕ
+        c = chainOf (traceLinks tr) (number tr x)
+
+        there : (number tr x < events tr) × (at tr x .first ≡ nameOf tr (number tr x))
+        there = number-name a x (omega (arith, r .first, r .inside))
+
+        before : number tr x < t
+        before = race-earlier (settingOf tr) (laws a) (events tr) (nameOf tr) (chainOf (traceLinks tr)) (numbered a) (in-order a) x b (number tr x) t r (there .0) (s .known) (there .1) (name-of a b t (r .inside) n)
+
+        own : final tr (number tr x) c ≡ index (chainOf (traceLinks tr)) (number tr x)
+        own = cover-own (settingOf tr) (laws a) (events tr) (nameOf tr) (chainOf (traceLinks tr)) (numbered a) (in-order a) (number tr x) (there .0)
+
+        decides : T (coveredb (settingOf tr) x b) ↔ (index (chainOf (traceLinks tr)) (number tr x) ≤ finalAt tr b t c)
+        decides = mark-decides (settingOf tr) (laws a) (events tr) (nameOf tr) (chainOf (traceLinks tr)) (numbered a) (in-order a) t (s .known) b (r .inside) (name-of a b t (r .inside) n) x (number tr x) (there .0) (there .1)
+
+        told : leb (index (chainOf (traceLinks tr)) (number tr x)) (finalAt tr b t c) ≡ coveredb (settingOf tr) x b
+        told = equal-tests (leb (index (chainOf (traceLinks tr)) (number tr x)) (finalAt tr b t c)) (coveredb (settingOf tr) x b) (λ h. decides .1 (leb→le (index (chainOf (traceLinks tr)) (number tr x)) (finalAt tr b t c) h)) (λ h. le→leb (index (chainOf (traceLinks tr)) (number tr x)) (finalAt tr b t c) (decides .0 h))

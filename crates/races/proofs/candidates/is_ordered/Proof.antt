@@ -1,0 +1,31 @@
+use borrow.Author.Tests.{ne-eqb, lt-ltb, le-ltb}
+use Rattle.races.specs.Candidates.{orderedIn}
+use borrow.Author.Needs.{needs}
+use Rattle.races.proofs.candidates.is_ordered.Statement.{statement}
+use Rattle.races.proofs.candidates.is_ordered.Tie as tie
+
+returns : tie.Need-returns
+unfolding orderedIn
+returns c = simp (c .if1 .taken)
+
+returns-2 : tie.Need-returns-2
+unfolding orderedIn
+returns-2 c = simp (ne-eqb _ _ (c .before .if1 .left), lt-ltb _ _ (c .if2 .taken))
+
+sub-comes-before : tie.Need-sub-comes-before
+sub-comes-before c = search needs
+
+cast-comes-before : tie.Need-cast-comes-before
+cast-comes-before c = search needs
+
+comes-before-requires : tie.Need-comes-before-requires
+comes-before-requires c κs = c .before .before .before .before .pre (c .before .if1 .left) (c .if2 .left)
+
+returns-3 : tie.Need-returns-3
+unfolding orderedIn
+returns-3 c = simp (ne-eqb _ _ (c .before .before .if1 .left), le-ltb _ _ (c .before .if2 .left), ← c .comes-before .ensures)
+
+pub is-ordered-spec : {M : Type 1} → statement M
+is-ordered-spec =
+    tie.close
+    (tie.spec returns returns-2 sub-comes-before cast-comes-before comes-before-requires returns-3)

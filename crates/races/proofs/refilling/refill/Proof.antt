@@ -1,0 +1,98 @@
+-- `races::refilling::refill` meets its contract.
+-- Assumes nothing.
+use native.Mathlib.Omega.{arith}
+use borrow.Author.Needs.{needs}
+use mathlib.Core.Path.{_≡_, refl, ap, _∙_}
+use mathlib.Core.Logic.{⊎-elim}
+use mathlib.Core.List.{List, _++_}
+use Prim.Native.Nat.{_+_, _-_, _<_, max}
+use lib.ListN.{length, getD}
+use denote.Ref.{now}
+use Rattle.records.specs.Bytes.{decode}
+use Rattle.races.specs.Refilling.{Refillable}
+use Rattle.order.specs.Fill.{traceClocks}
+use Rattle.order.proofs.TableLaws.{events-few}
+use Rattle.races.proofs.RefillLaws.{Refilling, refilling-start, of-room, add-room, refilling-next, refilling-end, cleared-rest, cleared-zeros, cleared-refillable}
+use Rattle.races.proofs.refilling.refill.Statement.{statement}
+use Rattle.races.proofs.refilling.refill.Tie as tie
+
+abbrev Inv-loop : tie.InvT-loop
+Inv-loop recs ranks of events width clocks₀ n none₀ chains₀ u₀ i₀ clocks none chains u i = (f : Refillable (decode recs) ranks of events width clocks₀) × Refilling f i u chains clocks × (n ≡ length (decode recs)) × (length clocks ≡ length clocks₀) × (length none ≡ 1)
+
+abbrev μ-loop : tie.MeasureT-loop
+μ-loop recs ranks of events width clocks₀ n none₀ chains₀ u₀ i₀ clocks none chains u i = n - i
+
+cast-clear-rows : tie.Need-cast-clear-rows Inv-loop μ-loop
+cast-clear-rows c = let pre = c .before .before .before .before .before .pre in record { fits = omega (arith, pre .events-are, events-few (pre .acceptable)) }
+
+clear-rows-requires : tie.Need-clear-rows-requires Inv-loop μ-loop
+clear-rows-requires c κs = search needs
+
+count-requires : tie.Need-count-requires Inv-loop μ-loop
+count-requires c κs = search needs
+
+loop-holds : tie.Need-loop-holds Inv-loop μ-loop
+loop-holds c = let pre = c .before .before .before .before .before .before .before .before .before .pre in let clear-rows = c .before .before .before .clear-rows in let count = c .count in (cleared-refillable pre _ (clear-rows .ensures), refilling-start (cleared-refillable pre _ (clear-rows .ensures)) (cleared-zeros pre _ (clear-rows .ensures)), count .ensures, refl, refl)
+
+mul-c : tie.Need-mul-c Inv-loop μ-loop
+mul-c c = let loop = c .before .loop in let loop-test = c .loop-test in let h = of-room (loop .inv .0) (loop .inv .1) (omega (arith, loop .inv .2, loop-test .taken)) in search needs
+
+shared-slice-read-c : tie.Need-shared-slice-read-c Inv-loop μ-loop
+shared-slice-read-c c = let loop = c .before .before .loop in let loop-test = c .before .loop-test in of-room (loop .inv .0) (loop .inv .1) (omega (arith, loop .inv .2, loop-test .taken))
+
+cast-c : tie.Need-cast-c Inv-loop μ-loop
+cast-c c = let shared-slice-known4 = c .shared-slice-known4 in let loop = c .before .before .loop in record { fits = omega (arith, shared-slice-known4 .given (loop .u) .fits) }
+
+add-one-requires : tie.Need-add-one-requires Inv-loop μ-loop
+add-one-requires c κs = let loop = c .before .before .before .loop in let loop-test = c .before .before .loop-test in add-room (loop .inv .0) (loop .inv .1) (omega (arith, loop .inv .2, loop-test .taken)) _ refl
+
+add-chains : tie.Need-add-chains Inv-loop μ-loop
+add-chains c = let shared-slice-known4 = c .before .before .before .before .before .shared-slice-known4 in let loop = c .before .before .before .before .before .before .before .loop in record { fits = omega (arith, shared-slice-known4 .given (loop .u) .fits) }
+
+slice-aggregate-merge-links : tie.Need-slice-aggregate-merge-links Inv-loop μ-loop
+slice-aggregate-merge-links c = search needs
+
+add-merge-links : tie.Need-add-merge-links Inv-loop μ-loop
+add-merge-links c = search needs
+
+merge-links-requires : tie.Need-merge-links-requires Inv-loop μ-loop
+merge-links-requires c κs = search needs
+
+add-u : tie.Need-add-u Inv-loop μ-loop
+add-u c = let loop = c .before .before .before .before .before .before .before .before .before .before .before .before .before .loop in let loop-test = c .before .before .before .before .before .before .before .before .before .before .before .before .loop-test in let h = of-room (loop .inv .0) (loop .inv .1) (omega (arith, loop .inv .2, loop-test .taken)) in search needs
+
+loop-less : tie.Need-loop-less Inv-loop μ-loop
+loop-less c = let loop = c .before .before .before .before .before .before .before .before .before .before .before .before .before .loop in let args = c .before .before .before .before .before .before .before .before .before .before .before .before .before .before .before .before .before .before .before .before .before .before .before .args in let loop-test = c .before .before .before .before .before .before .before .before .before .before .before .before .loop-test in let if1 = c .before .before .before .before .before .before .if1 in let add-one = c .before .before .before .before .before .before .before .before .before .add-one in let merge-links = c .before .before .before .merge-links in let h : loop .i < length (decode (now (args .recs))) = omega (arith, loop .inv .2, loop-test .taken) in let m : if1 .chains ≡ max (loop .chains) (getD (now (args .of)) (loop .u) 0 + 1) = ⊎-elim (λ w. omega (arith, w .0 .taken, w .1)) (λ w. omega (arith, w .0 .left, w .1)) (if1 .came) in let t = refilling-next (loop .inv .0) (loop .inv .1) h _ refl _ m _ _ (add-one .ensures) _ _ _ (merge-links .ensures) in omega (arith, t .0, loop-test .taken)
+
+loop-again : tie.Need-loop-again Inv-loop μ-loop
+loop-again c = let loop = c .before .before .before .before .before .before .before .before .before .before .before .before .before .loop in let args = c .before .before .before .before .before .before .before .before .before .before .before .before .before .before .before .before .before .before .before .before .before .before .before .args in let loop-test = c .before .before .before .before .before .before .before .before .before .before .before .before .loop-test in let if1 = c .before .before .before .before .before .before .if1 in let add-one = c .before .before .before .before .before .before .before .before .before .add-one in let merge-links = c .before .before .before .merge-links in let h : loop .i < length (decode (now (args .recs))) = omega (arith, loop .inv .2, loop-test .taken) in let m : if1 .chains ≡ max (loop .chains) (getD (now (args .of)) (loop .u) 0 + 1) = ⊎-elim (λ w. omega (arith, w .0 .taken, w .1)) (λ w. omega (arith, w .0 .left, w .1)) (if1 .came) in let t = refilling-next (loop .inv .0) (loop .inv .1) h _ refl _ m _ _ (add-one .ensures) _ _ _ (merge-links .ensures) in (loop .inv .0, t .1, loop .inv .2, merge-links .kept .1 .1 .1 .1 .0 ∙ add-one .kept .0 ∙ loop .inv .3, merge-links .kept .1 .1 .1 .1 .1 .0 ∙ loop .inv .4)
+
+same-length : tie.Need-same-length Inv-loop μ-loop
+same-length c = search needs
+
+returns : tie.Need-returns Inv-loop μ-loop
+returns c = let loop = c .before .loop in let loop-test = c .loop-test in let args = c .before .before .before .before .before .before .before .before .before .before .before .args in let pre = c .before .before .before .before .before .before .before .before .before .before .before .pre in let clear-rows = c .before .before .before .before .before .clear-rows in refilling-end (loop .inv .0) (loop .inv .1) (omega (arith, loop .inv .2, loop-test .left)) ∙ ap (λ (xs : List _). traceClocks (decode (now (args .recs))) (args .width) ++ xs) (cleared-rest pre _ (clear-rows .ensures))
+
+pub refill-spec : {M : Type 1} → statement M
+refill-spec =
+    tie.close
+    (tie.spec
+    Inv-loop
+    μ-loop
+    cast-clear-rows
+    clear-rows-requires
+    count-requires
+    loop-holds
+    mul-c
+    shared-slice-read-c
+    cast-c
+    add-one-requires
+    add-chains
+    slice-aggregate-merge-links
+    add-merge-links
+    merge-links-requires
+    add-u
+    loop-less
+    loop-again
+    same-length
+    returns)

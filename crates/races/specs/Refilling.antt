@@ -1,0 +1,18 @@
+-- Filling the clock rows once more, where the chain of each row is known. Assumes nothing.
+use Prim.Native.Nat.{ℕ, _*_, _≤_}
+use mathlib.Core.Path.{_≡_}
+use mathlib.Core.List.{List}
+use lib.ListN.{length}
+use Rattle.records.specs.declared.Record.{Record}
+use Rattle.trace.specs.Reading.{Acceptable}
+use Rattle.ranks.specs.Ranks.{ranksOf}
+use Rattle.order.specs.Fill.{eventsIn, shortRow, chainTable}
+
+pub record Refillable (tr : List Record) (ranks of : List ℕ) (events width : ℕ) (clocks : List ℕ) : Type 0 where
+  pub acceptable : Acceptable tr
+  pub ranks-are : ranks ≡ ranksOf tr
+  pub of-are : of ≡ chainTable tr
+  pub events-are : events ≡ eventsIn tr
+  pub narrow : width ≤ 1024
+  pub enough : shortRow tr width ≡ eventsIn tr
+  pub room : eventsIn tr * width ≤ length clocks

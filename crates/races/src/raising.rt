@@ -1,0 +1,203 @@
+// The marks of a list's entries by the rows of the combined order, happens-before and the races of the list: made in place in the lent clocks, event
+// action by event action.
+use crate::racing::comes_before;
+use crate::racing::row_at;
+use crate::refilling::refill;
+use clocks::merge_row;
+use order::links::merge_links;
+ghost use mathlib.Core.Path.{_≡_};
+ghost use Prim.Native.Nat.{ℕ, _+_, _*_, _-_, _≤_, _<_, max};
+ghost use lib.ListN.{length, getD};
+ghost use Rattle.records.specs.Bytes.{decode};
+ghost use Rattle.order.specs.Fill.{eventsIn};
+ghost use Rattle.races.specs.Filled.{Filled, RowsIn};
+ghost use Rattle.races.specs.Marking.{first};
+ghost use Rattle.races.specs.Raising.{Unmarked, MarksList, markIn, Markable, MarksSecond, raiseBy, raiseDown, MayGo, Went, MarksAll};
+
+// 0 where row t leads to row u as it stands, else 1.
+fn mark_of(of: &[u16], width: usize, clocks: &[u16], t: usize, u: usize) -> u16
+    requires { ⌜ RowsIn (now of) width (now clocks) t u ⌝ }
+    ensures { λ r. ⌜ r ≡ markIn (now (of .entry)) width (now (clocks .entry)) t u ⌝ }
+{
+    if comes_before(of, width, clocks, t, u) {
+        return 0;
+    }
+    1
+}
+
+// Marks the entries of one second access of row u, from k on; the entry after them.
+fn mark_second(
+    recs: &[u8],
+    ranks: &[u16],
+    of: &[u16],
+    width: usize,
+    clocks: &[u16],
+    u: usize,
+    list: &mut [u16],
+    k: usize,
+    count: usize,
+) -> usize
+    requires { ⌜ Markable (decode (now recs)) (now ranks) (now of) width (now clocks) u (now list) k count ⌝ }
+    ensures { λ r. ⌜ MarksSecond (decode (now (recs .entry))) (now (list .entry)) (now (list .exit)) k count r ⌝ }
+{
+    let second = list[5 * k + 1];
+    let mut e = k;
+    while e < count {
+        if list[5 * e + 1] != second {
+            return e;
+        }
+        let t = row_at(recs, ranks, (list[5 * e] - 1) as usize);
+        list[5 * e + 4] = mark_of(of, width, clocks, t, u);
+        e += 1;
+    }
+    e
+}
+
+// Raises row u by entry j, where that is open.
+fn raise_by(
+    recs: &[u8],
+    ranks: &[u16],
+    width: usize,
+    chains: usize,
+    clocks: &mut [u16],
+    u: usize,
+    list: &[u16],
+    j: usize,
+)
+    requires { ⌜ (5 * j + 5 ≤ length (now list)) × (u < 65536) × (0 < first (now list) j) ⌝ }
+    ensures { λ r. ⌜ now (clocks .exit)
+        ≡ raiseBy (decode (now (recs .entry))) (now (ranks .entry)) width chains u (now (list .entry)) j (now (clocks .entry)) ⌝ }
+{
+    if list[5 * j + 4] != 1 {
+        return;
+    }
+    let t = row_at(recs, ranks, (list[5 * j] - 1) as usize);
+    merge_row(clocks, width, chains, t as u16, u as u16);
+}
+
+// Raises row u by the open entries from k on, before e, the last first, down to the first one whose first access writes.
+fn raise(
+    recs: &[u8],
+    ranks: &[u16],
+    width: usize,
+    chains: usize,
+    clocks: &mut [u16],
+    u: usize,
+    list: &[u16],
+    k: usize,
+    e: usize,
+)
+    requires { ⌜ (k ≤ e) × (5 * e ≤ length (now list)) × (u < 65536) × ((i : ℕ) → k ≤ i → i < e → 0 < first (now list) i) ⌝ }
+    ensures { λ r. ⌜ now (clocks .exit)
+        ≡ raiseDown (decode (now (recs .entry))) (now (ranks .entry)) width chains u (now (list .entry)) k (e - k) (now (clocks .entry)) ⌝ }
+{
+    let mut j = e;
+    while k < j {
+        j -= 1;
+        raise_by(recs, ranks, width, chains, clocks, u, list, j);
+        if list[5 * j + 3] != 3 {
+            return;
+        }
+    }
+}
+
+// The chains taken by row u and those before, where those before took that many.
+fn more_chains(of: &[u16], chains: usize, u: usize) -> usize
+    requires { ⌜ u < length (now of) ⌝ }
+    ensures { λ r. ⌜ r ≡ max chains (getD (now (of .entry)) u 0 + 1) ⌝ }
+{
+    let c = of[u] as usize;
+    if chains <= c {
+        return c + 1;
+    }
+    chains
+}
+
+// Where raising stands: at the begin of that row, and the chains taken by it and those before.
+struct Stand {
+    row: usize,
+    position: usize,
+    chains: usize,
+}
+
+// Goes on to row u: rows are merged along the links.
+fn go_on(
+    recs: &[u8],
+    ranks: &[u16],
+    of: &[u16],
+    width: usize,
+    clocks: &mut [u16],
+    s: Stand,
+    u: usize,
+) -> Stand
+    requires { ⌜ MayGo (decode (now recs)) (now of) (s .row) (s .position) u ⌝ }
+    ensures { λ r. ⌜ Went (decode (now (recs .entry))) (now (ranks .entry)) (now (of .entry)) width (s .row) (s .position) (s .chains) (now (clocks .entry)) u
+        (r .row) (r .position) (r .chains) (now (clocks .exit)) ⌝ }
+{
+    let mut none = [0; 1];
+    let mut t = s.row;
+    let mut i = s.position;
+    let mut chains = s.chains;
+    while t < u {
+        i = merge_links(recs, ranks, width, chains, clocks, &mut none, i + 1);
+        t += 1;
+        chains = more_chains(of, chains, t);
+    }
+    Stand {
+        row: t,
+        position: i,
+        chains: chains,
+    }
+}
+
+// Marks that many entries. The clocks are filled before; afterwards their rows hold other things.
+fn mark_all(
+    recs: &[u8],
+    ranks: &[u16],
+    of: &[u16],
+    width: usize,
+    clocks: &mut [u16],
+    list: &mut [u16],
+    count: usize,
+)
+    requires { ⌜ Filled (decode (now recs)) (now ranks) (now of) width (now clocks) × Unmarked (decode (now recs)) (now list) count ⌝ }
+    ensures { λ r. ⌜ MarksAll (decode (now (recs .entry))) width (now (clocks .entry)) (now (clocks .exit)) (now (list .entry)) (now (list .exit)) count ⌝ }
+{
+    let mut s = Stand {
+        row: 0,
+        position: 0,
+        chains: 1,
+    };
+    let mut k = 0;
+    while k < count {
+        let u = row_at(recs, ranks, (list[5 * k + 1] - 1) as usize);
+        s = go_on(recs, ranks, of, width, clocks, s, u);
+        let e = mark_second(recs, ranks, of, width, clocks, u, list, k, count);
+        if e < count {
+            raise(recs, ranks, width, s.chains, clocks, u, list, k, e);
+        }
+        k = e;
+    }
+}
+
+// Marks that many entries; the clocks are filled before and after.
+pub(crate) fn mark_list(
+    recs: &[u8],
+    ranks: &[u16],
+    of: &[u16],
+    events: usize,
+    width: usize,
+    clocks: &mut [u16],
+    list: &mut [u16],
+    count: usize,
+)
+    requires { ⌜ Filled (decode (now recs)) (now ranks) (now of) width (now clocks)
+        × Unmarked (decode (now recs)) (now list) count × (events ≡ eventsIn (decode (now recs))) ⌝ }
+    ensures { λ r. ⌜ MarksList (decode (now (recs .entry))) (now (clocks .entry)) (now (clocks .exit)) (now (list .entry)) (now (list .exit)) count ⌝ }
+{
+    if count == 0 {
+        return;
+    }
+    mark_all(recs, ranks, of, width, clocks, list, count);
+    refill(recs, ranks, of, events, width, clocks);
+}

@@ -1,0 +1,11 @@
+use mathlib.Core.Path.{refl}
+use Rattle.report.specs.Text.{noClocks}
+use Rattle.report.proofs.no_clocks.Statement.{statement}
+use Rattle.report.proofs.no_clocks.Tie as tie
+
+returns : tie.Need-returns
+unfolding noClocks
+returns c = refl
+
+pub no-clocks-spec : {M : Type 1} → statement M
+no-clocks-spec = tie.close (tie.spec returns)

@@ -1,0 +1,11 @@
+use mathlib.Core.Path.{refl}
+use Rattle.report.specs.Text.{noList}
+use Rattle.report.proofs.no_list.Statement.{statement}
+use Rattle.report.proofs.no_list.Tie as tie
+
+returns : tie.Need-returns
+unfolding noList
+returns c = refl
+
+pub no-list-spec : {M : Type 1} → statement M
+no-list-spec = tie.close (tie.spec returns)

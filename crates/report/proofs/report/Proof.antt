@@ -1,0 +1,100 @@
+use mathlib.Core.Path.{ap}
+use denote.Ref.{now}
+use Rattle.races.specs.Paper.{listPaper}
+use Rattle.report.proofs.TextLaws.{long-input, listed-few, listed-lines, refused-lines, over-zeros, prints-one, prints-then}
+use borrow.Author.Needs.{needs}
+use Rattle.report.proofs.report.Statement.{statement}
+use Rattle.report.proofs.report.Tie as tie
+
+put-refusal-requires : tie.Need-put-refusal-requires
+put-refusal-requires c κs = search needs
+
+same-length : tie.Need-same-length
+same-length c = search needs
+
+returns : tie.Need-returns
+returns c = rw (long-input (now (c .before .before .before .before .before .before .before .args .input)) (c .before .before .before .before .if1 .taken)) (prints-one (c .before .before .put-refusal .ensures))
+
+no-clocks-requires : tie.Need-no-clocks-requires
+no-clocks-requires c κs = search needs
+
+no-work-requires : tie.Need-no-work-requires
+no-work-requires c κs = search needs
+
+no-list-requires : tie.Need-no-list-requires
+no-list-requires c κs = search needs
+
+slice-aggregate-short-list : tie.Need-slice-aggregate-short-list
+slice-aggregate-short-list c = search needs
+
+slice-aggregate-short-list-2 : tie.Need-slice-aggregate-short-list-2
+slice-aggregate-short-list-2 c = search needs
+
+slice-aggregate-short-list-3 : tie.Need-slice-aggregate-short-list-3
+slice-aggregate-short-list-3 c = search needs
+
+short-list-requires : tie.Need-short-list-requires
+short-list-requires c κs = search needs
+
+enum-known-found : tie.Need-enum-known-found
+enum-known-found c = search needs
+
+put-header-requires : tie.Need-put-header-requires
+put-header-requires c κs = search needs
+
+slice-aggregate-put-entries : tie.Need-slice-aggregate-put-entries
+slice-aggregate-put-entries c = search needs
+
+put-entries-requires : tie.Need-put-entries-requires
+put-entries-requires c κs = listed-few (now (c .before .before .before .before .before .before .before .before .before .before .before .before .before .before .before .before .before .before .before .before .before .before .args .input)) _ _ _ _ (c .before .before .before .before .before .before .before .before .before .before .before .before .before .before .before .before .before .before .before .if1 .left) (over-zeros (c .before .before .before .before .before .before .before .before .before .before .before .before .before .before .before .before .before .before .no-clocks .ensures) (c .before .before .before .before .before .before .before .before .before .before .before .before .before .before .before .before .before .no-work .ensures) (c .before .before .before .before .before .before .before .before .before .before .before .before .before .before .before .before .no-list .ensures) (c .before .before .before .before .before .before .before .before .before .before .before .before .short-list .ensures)) _ _ _ _ (ap listPaper (c .before .before .before .before .before .before .before .found .given .1))
+
+enum-known-found-2 : tie.Need-enum-known-found-2
+enum-known-found-2 c = search needs
+
+cast-put-refusal : tie.Need-cast-put-refusal
+cast-put-refusal c = search needs
+
+cast-put-refusal-2 : tie.Need-cast-put-refusal-2
+cast-put-refusal-2 c = search needs
+
+put-refusal-requires-2 : tie.Need-put-refusal-requires-2
+put-refusal-requires-2 c κs = search needs
+
+same-length-2 : tie.Need-same-length-2
+same-length-2 c = search needs
+
+returns-2 : tie.Need-returns-2
+returns-2 c = rw (listed-lines (now (c .before .before .before .before .before .before .before .before .before .before .before .before .before .before .before .before .before .before .before .before .before .before .before .before .before .args .input)) _ _ _ _ (c .before .before .before .before .before .before .before .before .before .before .before .before .before .before .before .before .before .before .before .before .before .before .if1 .left) (over-zeros (c .before .before .before .before .before .before .before .before .before .before .before .before .before .before .before .before .before .before .before .before .before .no-clocks .ensures) (c .before .before .before .before .before .before .before .before .before .before .before .before .before .before .before .before .before .before .before .before .no-work .ensures) (c .before .before .before .before .before .before .before .before .before .before .before .before .before .before .before .before .before .before .before .no-list .ensures) (c .before .before .before .before .before .before .before .before .before .before .before .before .before .before .before .short-list .ensures)) _ _ _ _ (ap listPaper (c .before .before .before .before .before .before .before .before .before .before .found .given .1))) (prints-then (c .before .before .before .before .before .before .before .put-header .ensures) (c .before .before .put-entries .ensures))
+
+same-length-3 : tie.Need-same-length-3
+same-length-3 c = search needs
+
+returns-3 : tie.Need-returns-3
+returns-3 c = rw (refused-lines (now (c .before .before .before .before .before .before .before .before .before .before .before .before .before .before .before .before .before .before .before .before .before .before .args .input)) _ _ _ _ (c .before .before .before .before .before .before .before .before .before .before .before .before .before .before .before .before .before .before .before .if1 .left) (over-zeros (c .before .before .before .before .before .before .before .before .before .before .before .before .before .before .before .before .before .before .no-clocks .ensures) (c .before .before .before .before .before .before .before .before .before .before .before .before .before .before .before .before .before .no-work .ensures) (c .before .before .before .before .before .before .before .before .before .before .before .before .before .before .before .before .no-list .ensures) (c .before .before .before .before .before .before .before .before .before .before .before .before .short-list .ensures)) _ _ (ap listPaper (c .before .before .before .before .before .before .before .found2 .given .1))) (prints-one (c .before .before .put-refusal2 .ensures))
+
+pub report-spec : {M : Type 1} → statement M
+report-spec =
+    tie.close
+    (tie.spec
+    put-refusal-requires
+    same-length
+    returns
+    no-clocks-requires
+    no-work-requires
+    no-list-requires
+    slice-aggregate-short-list
+    slice-aggregate-short-list-2
+    slice-aggregate-short-list-3
+    short-list-requires
+    enum-known-found
+    put-header-requires
+    slice-aggregate-put-entries
+    put-entries-requires
+    enum-known-found-2
+    cast-put-refusal
+    cast-put-refusal-2
+    put-refusal-requires-2
+    same-length-2
+    returns-2
+    same-length-3
+    returns-3)

@@ -1,0 +1,68 @@
+-- What the trace program prints, as lines of bytes, for every input. Assumes nothing.
+use Prim.Native.Nat.{ℕ, zero, suc, _+_, _*_}
+use mathlib.Core.Path.{_≡_}
+use mathlib.Core.Bool.{true, cond}
+use mathlib.Core.List.{List, [], _∷_, _++_}
+use lib.Dec.{ltb}
+use lib.ListN.{length, getD, replicate}
+use Rattle.records.specs.declared.Record.{Record}
+use Rattle.records.specs.Records.{at}
+use Rattle.trace.specs.Reading as reading
+use Rattle.trace.specs.Reading.{Reply, recordsIn, readReply}
+use Rattle.races.specs.Lists.{ListReply, refused, listed, listTrace, pairsOf, shapeOf, markOf}
+use Rattle.listing.specs.Lines.{headerLine, pairLine, refusedLine, putAt, afterLine}
+
+-- "then the short list: first, second, cell, shape (ww, wr or rw, first access then second), mark (open or covered)."; records are numbered from 1
+unfoldable pub pairLines : List Record → List (ℕ × ℕ) → List (List ℕ)
+pairLines tr [] = []
+pairLines tr ((a, b) ∷ ps) = pairLine (a + 1) (b + 1) (at tr b .second) (shapeOf tr a b) (markOf tr a b) ∷ pairLines tr ps
+
+-- "prints one header line .., then the short list"; "A refusal prints one line only"
+unfoldable pub replyLines : List Record → ListReply → List (List ℕ)
+replyLines tr (refused n p) = refusedLine n p ∷ []
+replyLines tr (listed e r c k) = headerLine e r c k ∷ pairLines tr (pairsOf tr true)
+
+-- "uses width 32 and spaces that never give 22 or 24": 32 × 1,024 clocks, 1,024 bytes, 8,192 entries
+unfoldable pub readLines : List ℕ → Reply → List (List ℕ)
+readLines b (reading.refused n p) = refusedLine n p ∷ []
+readLines b (reading.accepted start n m) = replyLines (recordsIn b start n) (listTrace true (recordsIn b start n) m 32 32768 1024 40960)
+
+-- "13: program only, more than 32,768 bytes."; "Order: 13, 1, 2, 3, .."
+unfoldable pub linesOf : List ℕ → List (List ℕ)
+linesOf b = cond (ltb 32768 (length b)) (refusedLine 13 0 ∷ []) (readLines b (readReply b))
+
+-- the whole text
+unfoldable pub text : List (List ℕ) → List ℕ
+text [] = []
+text (l ∷ ls) = l ++ text ls
+
+-- Lines printed one after the other into lent bytes, each where it fits: the bytes then, and the position after them.
+unfoldable pub putLines : List ℕ → ℕ → List (List ℕ) → List ℕ
+putLines s at [] = s
+putLines s at (l ∷ ls) = putLines (putAt s at l) (afterLine s at l) ls
+
+unfoldable pub afterLines : List ℕ → ℕ → List (List ℕ) → ℕ
+afterLines s at [] = at
+afterLines s at (l ∷ ls) = afterLines (putAt s at l) (afterLine s at l) ls
+
+pub record Prints (s : List ℕ) (at : ℕ) (ls : List (List ℕ)) (s′ : List ℕ) (r : ℕ) : Type 0 where
+  pub contents : s′ ≡ putLines s at ls
+  pub answer : r ≡ afterLines s at ls
+
+-- the line of entry i of a list of numbers, and of k entries from i on
+unfoldable pub entryLine : List ℕ → ℕ → List ℕ
+entryLine list i = pairLine (getD list (5 * i) 0) (getD list (5 * i + 1) 0) (getD list (5 * i + 2) 0) (getD list (5 * i + 3) 0) (getD list (5 * i + 4) 0)
+
+unfoldable pub entryLines : List ℕ → ℕ → ℕ → List (List ℕ)
+entryLines list i zero = []
+entryLines list i (suc k) = entryLine list i ∷ entryLines list (suc i) k
+
+-- the program's spaces
+unfoldable pub noClocks : List ℕ
+noClocks = replicate 32768 0
+
+unfoldable pub noWork : List ℕ
+noWork = replicate 1024 0
+
+unfoldable pub noList : List ℕ
+noList = replicate 40960 0
