@@ -1,5 +1,5 @@
-// The boundary cases of filling, the order question, the lists and the pair question, on trace T: widths, spaces just enough and one short, and refusals in their order.
-// Each line has the call, its width and spaces, and the answer.
+// The boundary cases of filling, the order question, the lists and the pair question, on trace T: widths, spaces just enough and one short, and
+// refusals in their order. Each line has the call, its width and spaces, and the answer.
 mod show;
 
 use races::Listing;
@@ -114,8 +114,8 @@ fn order_in(clocks: &[u16], width: usize, space: usize, first: u16, second: u16)
             &t,
             width,
             &clocks[..space],
-            trace::EventId(first),
-            trace::EventId(second),
+            records::EventId(first),
+            records::EventId(second),
         ));
         word(b"\n");
     }
@@ -221,14 +221,14 @@ fn pair_in(
     number(l);
     number(first as usize);
     number(second as usize);
-    show::pair(races::pair::ask_pair(
+    show::pair(pair::ask_pair(
         &t,
         width,
         clocks,
         &mut work[..w],
         &mut list[..l],
-        trace::Operation(first),
-        trace::Operation(second),
+        records::Operation(first),
+        records::Operation(second),
     ));
     show::numbers(clocks, 7);
     show::bytes(work, 4);

@@ -1,8 +1,8 @@
 // What a call answered and left, as numbers on the line.
 use order::Filling;
+use pair::PairAnswer;
 use question::Answer;
 use races::Listing;
-use races::pair::PairAnswer;
 use trace::Refusal;
 
 pub(crate) fn word(text: &[u8]) {

@@ -13,8 +13,8 @@ use borrow.Author.Tests.{lt-ltb, ltb-true, le-leb, leb-true}
 use borrow.Rule.Slice.PartMut.{putMid, set-mid-at, post-is, mid-len}
 use lib.Dec.{leb, ltb}
 use lib.ListN.{length, getD, set, take, drop, replicate, length-append, length-take, length-drop, length-set, length-replicate, replicate-append-replicate}
-use lib.Seq.{getD-take, getD-drop, take-at, drop-append-add, drop-drop}
-use Rattle.clocks.specs.Rows.{hasRow, rowsIf, reach, mergeAt, mergeFrom, mergeRow, clearRow, clearRows}
+use lib.Seq.{getD-set-other, getD-take, getD-drop, take-at, drop-append-add, drop-drop}
+use Rattle.clocks.specs.Rows.{oneMore, hasRow, rowsIf, reach, mergeAt, mergeFrom, mergeRow, copyAt, copyFrom, copyRow, clearRow, clearRows}
 
 -- row u stands in the clocks
 pub record Stands (space w u : ℕ) : Type 0 where
@@ -78,6 +78,11 @@ pub merged-at : (w p u c : ℕ) (xs ys : List ℕ) → u * w + w ≤ length xs �
 unfolding mergeAt
 merged-at w p u c xs ys h i e = stored (λ x. max x (getD xs (p * w + c) 0)) (u * w) (u * w + w - u * w) c xs ys (omega arith) (omega arith) e
 
+pub copied-at : (w p u c : ℕ) (xs ys : List ℕ) → u * w + w ≤ length xs → c < w
+    → ys ≡ set (take (u * w + w - u * w) (drop (u * w) xs)) c (getD xs (p * w + c) 0) → putMid (u * w) (u * w + w - u * w) xs ys ≡ copyAt w p u c xs
+unfolding copyAt
+copied-at w p u c xs ys h i e = stored (λ x. getD xs (p * w + c) 0) (u * w) (u * w + w - u * w) c xs ys (omega arith) (omega arith) e
+
 -- merging as a loop makes it, from entry c up to entry k
 module _ (w p u c : ℕ) (cs : List ℕ) where
   pub merge-length : length (mergeAt w p u c cs) ≡ length cs
@@ -120,6 +125,54 @@ module _ (w chains p u : ℕ) (cs : List ℕ) where
 
   pub merge-row-fits : p < u → w ≤ 1024 → u * w + w ≤ length cs → mergeRow w chains p u cs ≡ mergeFrom w p u 0 (reach w chains p) cs
   merge-row-fits h k l = merge-row-is (rw (lt-ltb p u h) (stands-row (length cs) w u k l))
+
+-- copying as a loop makes it
+module _ (w p u c : ℕ) (cs : List ℕ) where
+  pub copy-length : length (copyAt w p u c cs) ≡ length cs
+  unfolding copyAt
+  copy-length = length-set cs (u * w + c) (getD cs (p * w + c) 0)
+
+  pub copy-next : (k : ℕ) → c < k → copyFrom w p u c (k - c) cs ≡ copyFrom w p u (c + 1) (k - (c + 1)) (copyAt w p u c cs)
+  unfolding copyFrom
+  copy-next k h =
+      let i : k - c ≡ suc (k - suc c) = omega arith in
+      let j : c + 1 ≡ suc c = omega arith in
+      rw (i, j)
+
+  pub copy-over : (k : ℕ) → k ≤ c → copyFrom w p u c (k - c) cs ≡ cs
+  unfolding copyFrom
+  copy-over k h = let i : k - c ≡ 0 = omega arith in rw i
+
+module _ (w chains p u : ℕ) (cs : List ℕ) where
+  pub copy-row-none : (ltb p u && hasRow (length cs) w u) ≡ false → copyRow w chains p u cs ≡ cs
+  unfolding copyRow
+  copy-row-none e = rw e
+
+  pub copy-row-is : (ltb p u && hasRow (length cs) w u) ≡ true → copyRow w chains p u cs ≡ copyFrom w p u 0 (reach w chains p) cs
+  unfolding copyRow
+  copy-row-is e = rw e
+
+-- copying over zeros is merging
+copy-at-merges : (w p u c : ℕ) (cs : List ℕ) → getD cs (u * w + c) 0 ≡ 0 → copyAt w p u c cs ≡ mergeAt w p u c cs
+unfolding copyAt mergeAt
+copy-at-merges w p u c cs z = let e : getD cs (p * w + c) 0 ≡ max (getD cs (u * w + c) 0) (getD cs (p * w + c) 0) = omega arith in ap (set cs (u * w + c)) e
+
+merge-at-other : (w p u c d : ℕ) (cs : List ℕ) → c < d → getD (mergeAt w p u c cs) (u * w + d) 0 ≡ getD cs (u * w + d) 0
+unfolding mergeAt
+merge-at-other w p u c d cs h = getD-set-other cs (u * w + c) (u * w + d) (max (getD cs (u * w + c) 0) (getD cs (p * w + c) 0)) 0 (omega arith)
+
+copy-from-merges : (w p u k c : ℕ) (cs : List ℕ) → ((d : ℕ) → c ≤ d → d < c + k → getD cs (u * w + d) 0 ≡ 0) → copyFrom w p u c k cs ≡ mergeFrom w p u c k cs
+unfolding copyFrom mergeFrom
+copy-from-merges w p u zero c cs z = refl
+copy-from-merges w p u (suc k) c cs z =
+    rw (copy-at-merges w p u c cs (z c (omega arith) (omega arith)))
+    (copy-from-merges w p u k (suc c) (mergeAt w p u c cs) (λ d h i. merge-at-other w p u c d cs (omega arith) ∙ z d (omega arith) (omega arith)))
+
+pub copy-merges : (w chains p u : ℕ) (cs : List ℕ) → ((d : ℕ) → d < w → getD cs (u * w + d) 0 ≡ 0) → copyRow w chains p u cs ≡ mergeRow w chains p u cs
+unfolding copyRow mergeRow
+copy-merges w chains p u cs z =
+    ap (λ xs. rowsIf (ltb p u && hasRow (length cs) w u) xs cs)
+    (copy-from-merges w p u (reach w chains p) 0 cs (λ d h i. z d (omega (arith, reach-le w chains p))))
 
 -- clearing the part of a row
 pub cleared-at : (w u : ℕ) (xs ys : List ℕ) → u * w + w ≤ length xs → ys ≡ replicate (length (take (u * w + w - u * w) (drop (u * w) xs))) 0 → putMid (u * w) (u * w + w - u * w) xs ys ≡ take (u * w) xs ++ (replicate w 0 ++ drop (u * w + w) xs)
@@ -179,3 +232,8 @@ module _ (w : ℕ) (cs : List ℕ) where
         where
           past : length (replicate {A = ℕ} (u * w) 0) ≡ u * w → drop (u * w + w) (replicate (u * w) 0 ++ drop (u * w) cs) ≡ drop (u * w + w) cs
           past z = sym (ap (λ (k : ℕ). drop (k + w) (replicate (u * w) 0 ++ drop (u * w) cs)) z) ∙ (drop-append-add (replicate {A = ℕ} (u * w) 0) (drop (u * w) cs) w ∙ drop-drop w (u * w) cs)
+
+-- one more at an entry that can be raised
+pub one-more : (row : List ℕ) {row′ : List ℕ} (c : ℕ) → c < length row → getD row c 0 < 65535 → row′ ≡ oneMore c row → row′ ≡ set row c (getD row c 0 + 1)
+unfolding oneMore
+one-more row c l h e = rw (lt-ltb c (length row) l, lt-ltb (getD row c 0) 65535 h) at e

@@ -39,6 +39,21 @@ mergeFrom width p u c (suc k) cs = mergeFrom width p u (suc c) k (mergeAt width 
 unfoldable pub mergeRow : ℕ → ℕ → ℕ → ℕ → List ℕ → List ℕ
 mergeRow width chains p u cs = rowsIf (ltb p u && hasRow (length cs) width u) (mergeFrom width p u 0 (reach width chains p) cs) cs
 
+-- "with 1 added at its own chain": one more at entry c of a row, where it has one below 65,535
+unfoldable pub oneMore : ℕ → List ℕ → List ℕ
+oneMore c row = rowsIf (ltb c (length row) && ltb (getD row c 0) 65535) (set row c (getD row c 0 + 1)) row
+
+-- the same with copying: where row u is 0 it is merging (`copy-merges`)
+unfoldable pub copyAt : ℕ → ℕ → ℕ → ℕ → List ℕ → List ℕ
+copyAt width p u c cs = set cs (u * width + c) (getD cs (p * width + c) 0)
+
+unfoldable pub copyFrom : ℕ → ℕ → ℕ → ℕ → ℕ → List ℕ → List ℕ
+copyFrom width p u c zero cs = cs
+copyFrom width p u c (suc k) cs = copyFrom width p u (suc c) k (copyAt width p u c cs)
+
+unfoldable pub copyRow : ℕ → ℕ → ℕ → ℕ → List ℕ → List ℕ
+copyRow width chains p u cs = rowsIf (ltb p u && hasRow (length cs) width u) (copyFrom width p u 0 (reach width chains p) cs) cs
+
 -- zeros in row u, where it stands in the clocks; and in the first rows
 unfoldable pub clearRow : ℕ → ℕ → List ℕ → List ℕ
 clearRow width u cs = rowsIf (hasRow (length cs) width u) (take (u * width) cs ++ (replicate width 0 ++ drop (u * width + width) cs)) cs

@@ -4,7 +4,7 @@ ghost use mathlib.Core.Bool.{_&&_};
 ghost use Prim.Native.Nat.{_<_, max};
 ghost use lib.Dec.{ltb};
 ghost use lib.ListN.{length, getD, set, replicate};
-ghost use Rattle.clocks.specs.Rows.{spaceFor, compareIn, hasRow, reach, mergeRow, clearRow, clearRows};
+ghost use Rattle.clocks.specs.Rows.{spaceFor, compareIn, hasRow, reach, mergeRow, oneMore, copyRow, clearRow, clearRows};
 
 // Whether the width is in range and that many rows fit the clock space.
 pub fn has_space(width: usize, events: usize, space: usize) -> bool
@@ -52,6 +52,14 @@ fn raise(row: &mut [u16], c: usize, value: u16)
     ensures { λ r. ⌜ now (row .exit) ≡ set (now (row .entry)) c (max (getD (now (row .entry)) c 0) value) ⌝ }
 {
     row[c] = larger(row[c], value);
+}
+
+// One entry of a row becomes the value.
+fn put(row: &mut [u16], c: usize, value: u16)
+    requires { do ⌜ c < (← ⟦row.len()⟧) ⌝ }
+    ensures { λ r. ⌜ now (row .exit) ≡ set (now (row .entry)) c value ⌝ }
+{
+    row[c] = value;
 }
 
 // Does row u stand in the clocks?
@@ -105,6 +113,37 @@ pub fn merge_row(clocks: &mut [u16], width: usize, chains: usize, p: u16, u: u16
     while c < entries {
         let value = clocks[b + c];
         raise(&mut clocks[a..e], c, value);
+        c += 1;
+    }
+}
+
+// One more at entry c of a row, where it has one that can be raised.
+pub fn add_one(row: &mut [u16], c: usize)
+    ensures { λ r. ⌜ now (row .exit) ≡ oneMore c (now (row .entry)) ⌝ }
+{
+    if row.len() <= c {
+        return;
+    }
+    if row[c] < 65535 {
+        row[c] += 1;
+    }
+}
+
+// Row p is copied over row u, as far as merging goes; no other part is written.
+pub fn copy_row(clocks: &mut [u16], width: usize, chains: usize, p: u16, u: u16)
+    ensures { λ r. ⌜ now (clocks .exit) ≡ copyRow width chains p u (now (clocks .entry)) ⌝ }
+{
+    if !fits(clocks.len(), width, p, u) {
+        return;
+    }
+    let a = (u as usize) * width;
+    let e = a + width;
+    let b = (p as usize) * width;
+    let entries = reach(width, chains, p);
+    let mut c = 0;
+    while c < entries {
+        let value = clocks[b + c];
+        put(&mut clocks[a..e], c, value);
         c += 1;
     }
 }

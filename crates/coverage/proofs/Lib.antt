@@ -13,6 +13,7 @@ pub mod Listed
 pub mod Bound
 pub mod Total
 pub mod Spelled
+pub mod CoverTest
 pub mod Whole
 pub mod WholeEdges
 pub mod WholeSteps

@@ -10,7 +10,7 @@ use lib.ListN.{length}
 use Rattle.coverage.specs.Below.{_∈_, Listed, Ordered}
 use Rattle.coverage.specs.Setting.{Setting, Laws}
 use Rattle.coverage.specs.Race.{before, Race, raceb}
-use Rattle.coverage.specs.Cover.{Covers, Covered, Open}
+use Rattle.coverage.specs.Cover.{Covers, Covered, Open, coversb}
 use Rattle.coverage.specs.Arrangement.{Last, Arrangement, Accesses, Accessible}
 use Rattle.coverage.specs.Leading.{Leads, leads, coveredb, kept}
 use Rattle.coverage.specs.Neighbours.{Cells, conflicts, Neighbours, neighbour}
@@ -19,6 +19,7 @@ use Rattle.coverage.specs.Demand.{OpenExactly, OpenCells}
 use Rattle.coverage.proofs.Order
 use Rattle.coverage.proofs.Spelled.{Spelled}
 use Rattle.coverage.proofs.Spelled as Spelling
+use Rattle.coverage.proofs.CoverTest
 use Rattle.coverage.proofs.Leads as Leading
 use Rattle.coverage.proofs.Steps.{Links, GoOn, Onward}
 use Rattle.coverage.proofs.Steps
@@ -44,6 +45,10 @@ module _ (t : Setting) where
   -- The computed race test says what a race is.
   pub race-iff : (a b : ℕ) → T (raceb t a b) ↔ Race t a b
   race-iff a b = (Order.race-of t a b, Order.of-race t a b)
+
+  -- The computed test says what a cover is.
+  pub covers-test : (cs : List (ℕ × ℕ)) (a b : ℕ) → T (coversb t cs a b) ↔ Covers t cs a b
+  covers-test cs a b = (CoverTest.cover-of t b (t .ev a) cs, CoverTest.of-cover t b)
 
   -- A cover, place by place: "n at least 1, when ev(a) ≼ ev(c1), each ev(di) ≼ ev(c(i+1)), and dn ≼ b"
   pub covers-iff : (a b : ℕ) (cs : List (ℕ × ℕ)) → Covers t cs a b ↔ Spelled t b (t .ev a) cs

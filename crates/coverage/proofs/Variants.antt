@@ -11,7 +11,7 @@ use lib.ListN.{getD, length}
 use Rattle.coverage.specs.Below.{some, upto, pairs}
 use Rattle.coverage.specs.Setting.{Setting, Laws}
 use Rattle.coverage.specs.Race.{before, raceb}
-use Rattle.coverage.specs.Leading.{reach, leads, coveredb, lastKept, entries}
+use Rattle.coverage.specs.Leading.{reach, leads, coveredb}
 use Rattle.coverage.specs.Neighbours.{Cells, conflicts}
 use Rattle.coverage.proofs.Tests.{either, or-left, or-right, eq→eqb}
 
@@ -160,8 +160,3 @@ one-race-false = (refl, refl)
 pub stated-agrees : (opens twice (stated twice) ≡ opened twice) × (opens T₁ (stated T₁) ≡ opened T₁) × (opens T₂ (stated T₂) ≡ opened T₂) × (opens relay (stated relay) ≡ opened relay)
 unfolding pairs upto leads reach some raceb before conflicts
 stated-agrees = (refl, refl, refl, refl)
-
--- "pair 7 10: open, kept (1, 4), (3, 10)"
-pub kept-of-T : entries T₁ 9 ≡ (1, 3) ∷ (3, 9) ∷ []
-unfolding entries upto lastKept leads reach some raceb before conflicts
-kept-of-T = refl

@@ -28,4 +28,5 @@ module _ (t : Setting) where
 
   -- "For every cell, the short list names it as open exactly when some race on that cell, listed there or not, is open."
   abbrev pub OpenCells : Cells → Type 0
-  OpenCells s = (c : ℕ) → ((a b : ℕ) × Listed a b (shortList t s) × (s .cell b ≡ c) × (coveredb t a b ≡ false)) ↔ ((a b : ℕ) × Race t a b × (s .cell b ≡ c) × Open t a b)
+  OpenCells s = (c : ℕ) → ((a b : ℕ) × Listed a b (shortList t s) × (s .cell b ≡ c) × (coveredb t a b ≡ false)) ↔
+      ((a b : ℕ) × Race t a b × (s .cell b ≡ c) × Open t a b)

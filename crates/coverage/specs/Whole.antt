@@ -33,7 +33,8 @@ module _ (t : Setting) where
   -- Edges: races such that, wherever a race is the last on a way from v, one of them is, no later (or v ≼ is enough)
   pub record Edges (E : ℕ → ℕ → Type 0) : Type 0 where
     pub race : {c d : ℕ} → E c d → Race t c d
-    pub ends : {v c d : ℕ} → Race t c d → Whole (t .ev c) v → T (t .le v (t .ev d)) ⊎ ((p q : ℕ) × E p q × (q ≤ d) × T (t .le (t .ev q) (t .ev d)) × Whole (t .ev p) v)
+    pub ends : {v c d : ℕ} → Race t c d → Whole (t .ev c) v → T (t .le v (t .ev d)) ⊎
+        ((p q : ℕ) × E p q × (q ≤ d) × T (t .le (t .ev q) (t .ev d)) × Whole (t .ev p) v)
 
   -- Direct links: ≼ is made of them, and none goes back
   pub record Direct (Link : ℕ → ℕ → Type 0) : Type 0 where

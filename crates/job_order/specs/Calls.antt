@@ -13,8 +13,8 @@ use Rattle.question.specs.Question as order
 use Rattle.question.specs.Question.{OrderReply, orderReply}
 use Rattle.races.specs.Lists as lists
 use Rattle.races.specs.Lists.{ListReply, listReply, clocksRead, workRead, listAfterRead}
-use Rattle.races.specs.Pair as pair
-use Rattle.races.specs.Pair.{PairReply, pairReply, clocksAfterPair, workAfterPair, ListAfterPair}
+use Rattle.pair.specs.Pair as pair
+use Rattle.pair.specs.Pair.{PairReply, pairReply, clocksAfterPair, workAfterPair, ListAfterPair}
 
 -- result, place, start, records, events
 abbrev pub readNumbers : Reply → List ℕ
@@ -46,7 +46,8 @@ abbrev pub listNumbers : ListReply → List ℕ
 listNumbers (lists.refused n p) = n ∷ p ∷ 0 ∷ 0 ∷ 0 ∷ 0 ∷ []
 listNumbers (lists.listed events records chains count) = 0 ∷ 0 ∷ events ∷ records ∷ chains ∷ count ∷ []
 
-pub record ListsOut (short : Bool) (b : List ℕ) (width : ℕ) (clocks clocks′ work work′ list list′ : List ℕ) (number place events records chains count : ℕ) : Type 0 where
+pub record ListsOut (short : Bool) (b : List ℕ) (width : ℕ) (clocks clocks′ work work′ list list′ : List ℕ)
+    (number place events records chains count : ℕ) : Type 0 where
   pub given : number ∷ place ∷ events ∷ records ∷ chains ∷ count ∷ [] ≡ listNumbers (listReply short b width (length clocks) (length work) (length list))
   pub clocks-after : clocks′ ≡ clocksRead b (readReply b) width (length work) clocks
   pub work-after : work′ ≡ workRead b (readReply b) width (length clocks) work

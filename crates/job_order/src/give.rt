@@ -1,8 +1,8 @@
 // What each answer holds, as the numbers that a call gives out: its result, then those it stores.
 use order::Filling;
+use pair::PairAnswer;
 use question::Answer;
 use races::Listing;
-use races::pair::PairAnswer;
 use trace::Reading;
 ghost use mathlib.Core.Path.{_≡_};
 ghost use mathlib.Core.List.{[], _∷_};
@@ -10,7 +10,7 @@ ghost use Rattle.trace.specs.Paper.{paper};
 ghost use Rattle.order.specs.Paper.{fillPaper};
 ghost use Rattle.question.specs.Question.{orderPaper};
 ghost use Rattle.races.specs.Paper.{listPaper};
-ghost use Rattle.races.specs.Pair.{pairPaper, entriesGiven};
+ghost use Rattle.pair.specs.Pair.{pairPaper, entriesGiven};
 ghost use Rattle.job_order.specs.Calls.{readNumbers, fillNumbers, orderNumbers, listNumbers, pairNumbers};
 
 pub(crate) struct Read {

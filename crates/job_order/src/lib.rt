@@ -3,8 +3,8 @@
 mod give;
 pub mod recording;
 
-use trace::EventId;
-use trace::Operation;
+use records::EventId;
+use records::Operation;
 ghost use mathlib.Core.Bool.{true, false};
 ghost use Rattle.job_order.specs.Calls.{Reads, FillsOut, Answers, ListsOut, AsksPair};
 
@@ -78,7 +78,8 @@ pub extern "C" fn jco_all_races(
     chains: &mut usize,
     count: &mut usize,
 ) -> u16
-    ensures { λ r. ⌜ ListsOut false (now (bytes .entry)) width (now (clocks .entry)) (now (clocks .exit)) (now (work .entry)) (now (work .exit)) (now (list .entry)) (now (list .exit)) r (now (place .exit)) (now (events .exit)) (now (records .exit)) (now (chains .exit)) (now (count .exit)) ⌝ }
+    ensures { λ r. ⌜ ListsOut false (now (bytes .entry)) width (now (clocks .entry)) (now (clocks .exit)) (now (work .entry)) (now (work .exit))
+        (now (list .entry)) (now (list .exit)) r (now (place .exit)) (now (events .exit)) (now (records .exit)) (now (chains .exit)) (now (count .exit)) ⌝ }
 {
     let listing = races::all_races(bytes, width, clocks, work, list);
     let given = give::listing(listing);
@@ -104,7 +105,8 @@ pub extern "C" fn jco_short_list(
     chains: &mut usize,
     count: &mut usize,
 ) -> u16
-    ensures { λ r. ⌜ ListsOut true (now (bytes .entry)) width (now (clocks .entry)) (now (clocks .exit)) (now (work .entry)) (now (work .exit)) (now (list .entry)) (now (list .exit)) r (now (place .exit)) (now (events .exit)) (now (records .exit)) (now (chains .exit)) (now (count .exit)) ⌝ }
+    ensures { λ r. ⌜ ListsOut true (now (bytes .entry)) width (now (clocks .entry)) (now (clocks .exit)) (now (work .entry)) (now (work .exit))
+        (now (list .entry)) (now (list .exit)) r (now (place .exit)) (now (events .exit)) (now (records .exit)) (now (chains .exit)) (now (count .exit)) ⌝ }
 {
     let listing = races::short_list(bytes, width, clocks, work, list);
     let given = give::listing(listing);
@@ -130,17 +132,10 @@ pub extern "C" fn jco_ask_pair(
     covered: &mut u8,
     count: &mut usize,
 ) -> u16
-    ensures { λ r. ⌜ AsksPair (now (bytes .entry)) width (now (clocks .entry)) (now (clocks .exit)) (now (work .entry)) (now (work .exit)) (now (list .entry)) (now (list .exit)) a b r (now (place .exit)) (now (covered .exit)) (now (count .exit)) ⌝ }
+    ensures { λ r. ⌜ AsksPair (now (bytes .entry)) width (now (clocks .entry)) (now (clocks .exit)) (now (work .entry)) (now (work .exit))
+        (now (list .entry)) (now (list .exit)) a b r (now (place .exit)) (now (covered .exit)) (now (count .exit)) ⌝ }
 {
-    let answer = races::pair::ask_pair(
-        bytes,
-        width,
-        clocks,
-        work,
-        list,
-        Operation(a),
-        Operation(b),
-    );
+    let answer = pair::ask_pair(bytes, width, clocks, work, list, Operation(a), Operation(b));
     let given = give::pair(answer);
     *place = given.place;
     *covered = given.covered;

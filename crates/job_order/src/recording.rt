@@ -3,8 +3,8 @@ use recorder::Closing;
 use recorder::Opening;
 use recorder::Recorder;
 use recorder::Stepped;
+use records::EventId;
 use records::Record;
-use trace::EventId;
 ghost use mathlib.Core.Path.{_≡_};
 ghost use Rattle.recorder.specs.Recording.{openingPaper, steppedPaper, closingPaper};
 ghost use Rattle.job_order.specs.Recording.{state, recorderOf, closedAfter, stateAfter, numberOf, placeOf, lengthOf, Opens, Steps, Closes};
@@ -137,7 +137,10 @@ pub extern "C" fn jco_recorder_step(
     second: u16,
     place: &mut u16,
 ) -> u16
-    ensures { λ r. ⌜ Steps (now (space .entry)) (now (space .exit)) (state (now (count .entry)) (now (situation .entry)) (now (owner .entry)) (now (closed .entry))) (state (now (count .exit)) (now (situation .exit)) (now (owner .exit)) (now (closed .exit))) (record { kind = kind; first = first; second = second }) r (now (place .exit)) ⌝ }
+    ensures { λ r. ⌜ Steps (now (space .entry)) (now (space .exit))
+        (state (now (count .entry)) (now (situation .entry)) (now (owner .entry)) (now (closed .entry)))
+        (state (now (count .exit)) (now (situation .exit)) (now (owner .exit)) (now (closed .exit)))
+        (record { kind = kind; first = first; second = second }) r (now (place .exit)) ⌝ }
 {
     let r = recorder_of(*count, *situation, *owner, *closed);
     let record = Record {
@@ -168,7 +171,9 @@ pub extern "C" fn jco_recorder_close(
     place: &mut u16,
     length: &mut usize,
 ) -> u16
-    ensures { λ r. ⌜ Closes (now (space .entry)) (now (space .exit)) (state (now (count .entry)) (now (situation .entry)) (now (owner .entry)) (now (closed .entry))) (state (now (count .exit)) (now (situation .exit)) (now (owner .exit)) (now (closed .exit))) r (now (place .exit)) (now (length .exit)) ⌝ }
+    ensures { λ r. ⌜ Closes (now (space .entry)) (now (space .exit))
+        (state (now (count .entry)) (now (situation .entry)) (now (owner .entry)) (now (closed .entry)))
+        (state (now (count .exit)) (now (situation .exit)) (now (owner .exit)) (now (closed .exit))) r (now (place .exit)) (now (length .exit)) ⌝ }
 {
     let r = recorder_of(*count, *situation, *owner, *closed);
     let ended = recorder::close_on(space, r);

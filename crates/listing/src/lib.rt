@@ -1,4 +1,6 @@
 // The printed lines of the trace program: each is written into lent bytes at a position, where it fits.
+use records::Operation;
+use records::Var;
 ghost use mathlib.Core.Path.{_≡_};
 ghost use mathlib.Core.List.{[], _∷_, _++_};
 ghost use Prim.Native.Nat.{_+_, _-_, _≤_};
@@ -72,7 +74,8 @@ fn put_number(out: &mut [u8], at: usize, n: usize, end: u8) -> usize
 // Writes a word, the digits of n, and the byte that ends the field.
 fn put_named(out: &mut [u8], at: usize, name: &[u8], n: usize, end: u8) -> usize
     requires { ⌜ at + length (now name) + length (decimal n) + 1 ≤ length (now out) ⌝ }
-    ensures { λ r. ⌜ Written (now (out .entry)) at (now (name .entry) ++ (decimal n ++ end ∷ [])) (length (now (name .entry)) + (length (decimal n) + 1)) (now (out .exit)) r ⌝ }
+    ensures { λ r. ⌜ Written (now (out .entry)) at (now (name .entry) ++ (decimal n ++ end ∷ []))
+        (length (now (name .entry)) + (length (decimal n) + 1)) (now (out .exit)) r ⌝ }
 {
     let at_number = put_word(out, at, name);
     put_number(out, at_number, n, end)
@@ -155,17 +158,17 @@ fn pair_width(first: usize, second: usize, cell: usize, mark: u16) -> usize
 pub fn put_pair(
     out: &mut [u8],
     at: usize,
-    first: u16,
-    second: u16,
-    cell: u16,
+    first: Operation,
+    second: Operation,
+    cell: Var,
     shape: u16,
     mark: u16,
 ) -> usize
-    ensures { λ r. ⌜ Printed (now (out .entry)) at (pairLine first second cell shape mark) (now (out .exit)) r ⌝ }
+    ensures { λ r. ⌜ Printed (now (out .entry)) at (pairLine (first .0) (second .0) (cell .0) shape mark) (now (out .exit)) r ⌝ }
 {
-    let a = first as usize;
-    let b = second as usize;
-    let c = cell as usize;
+    let a = first.0 as usize;
+    let b = second.0 as usize;
+    let c = cell.0 as usize;
     if room(out.len(), at) < pair_width(a, b, c, mark) {
         return at;
     }
@@ -177,13 +180,14 @@ pub fn put_pair(
 }
 
 // Prints a refusal's line at at, where it fits. Gives the position after it, or at where it doesn't fit.
-pub fn put_refusal(out: &mut [u8], at: usize, number: usize, place: usize) -> usize
-    ensures { λ r. ⌜ Printed (now (out .entry)) at (refusedLine number place) (now (out .exit)) r ⌝ }
+pub fn put_refusal(out: &mut [u8], at: usize, number: usize, place: Operation) -> usize
+    ensures { λ r. ⌜ Printed (now (out .entry)) at (refusedLine number (place .0)) (now (out .exit)) r ⌝ }
 {
-    let len = 10 + width(number) + width(place);
+    let p = place.0 as usize;
+    let len = 10 + width(number) + width(p);
     if room(out.len(), at) < len {
         return at;
     }
     let at_place = put_named(out, at, b"refused ", number, b' ');
-    put_number(out, at_place, place, b'\n')
+    put_number(out, at_place, p, b'\n')
 }

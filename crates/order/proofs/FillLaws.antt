@@ -1,10 +1,10 @@
 -- Filling as the records go on: what each begin finds, whatever makes the links. Base rows are 0 and final rows the clock rows.
 -- Assumes nothing.
-use Prim.Native.Nat.{ℕ, suc, _+_, _≤_, _<_, max}
+use Prim.Native.Nat.{ℕ, zero, suc, _+_, _-_, _≤_, _<_, max}
 use mathlib.Core.Path.{_≡_, refl, sym, _∙_, ap}
 use mathlib.Core.Logic.{_≢_, _⊎_, inl, inr}
 use mathlib.Core.Bool.{Bool, false}
-use mathlib.Core.List.{List, []}
+use mathlib.Core.List.{List}
 use native.Mathlib.Omega.{arith}
 use lib.Dec.{eqb}
 use lib.ListN.{length, getD, set, replicate, length-set, length-replicate, getD-replicate}
@@ -15,15 +15,15 @@ use Rattle.order.specs.Chains.{bit, chain, used, members}
 use Rattle.order.specs.Clocks.{largest, chainOf, entry, merged}
 use Rattle.ranks.specs.Said.{Op, link, begin}
 use Rattle.order.specs.Schedule.{begins, linked, Ordered, Makes}
-use Rattle.coverage.proofs.Tests.{eq→eqb, decide-eq}
-use Rattle.order.proofs.Tests.{decide-lt}
-use Rattle.order.proofs.CountLaws.{count-less}
+use Rattle.coverage.proofs.Tests.{both, eq→eqb, decide-eq}
+use Rattle.order.proofs.Tests.{decide-lt, rises}
+use Rattle.order.proofs.CountLaws.{count-less, count-mono}
 use Rattle.order.proofs.ScheduleLaws.{begins-mono, linked-exact, link-between}
-use Rattle.order.proofs.ChainLaws.{used-zero, used-suc, used-mono, used-le-self, lasts-last, members-zero, members-suc, members-count}
+use Rattle.order.proofs.ChainLaws.{chain-first, chain-le-used, used-zero, used-suc, used-mono, used-le-self, lasts-last, members-zero, members-suc, members-count}
 use Rattle.order.proofs.SetLaws.{largest-le}
-use Rattle.order.proofs.ClockLaws.{entry-law, entry-zero, entry-le}
+use Rattle.order.proofs.ClockLaws.{below, entry-law, entry-zero, entry-le, merged-count, last-≼}
 use Rattle.order.proofs.FlatLaws.{addAt, add-own, add-other}
-use Rattle.order.proofs.WalkLaws.{Along, along-begin, along-merged, linked-all}
+use Rattle.order.proofs.WalkLaws.{Along, along-begin, along-merged}
 
 -- every chain taken has a member
 pub members-some : (le : ℕ → ℕ → Bool) (u c : ℕ) → c < used le u → members le u c ≢ 0
@@ -69,6 +69,37 @@ module _ (l : Links) (fw : Forward l) where
   entry-short u p c h (inl k) = entry-zero l fw p c (omega (arith, used-mono (leq l) (suc p) u h))
   entry-short u p c h (inr k) = entry-zero l fw p c (omega (arith, used-le-self (leq l) (suc p)))
 
+  -- no chain below its own has all its members in a row, and so it stays
+  members-mono : (p u c : ℕ) → p ≤ u → members (leq l) p c ≤ members (leq l) u c
+  members-mono p u c h = rises (λ k. members (leq l) k c) (λ k. omega (arith, members-suc (leq l) k c)) p u h
+
+  pub below-own : (p c : ℕ) → c < chainOf l p → entry l p c < members (leq l) p c
+  below-own p c h =
+      let taken : c < used (leq l) p = omega (arith, chain-le-used (leq l) p) in
+      let apart : merged l p c ≢ members (leq l) p c = λ e. chain-first (leq l) p .none c (omega arith) h (last-≼ l fw p c taken .1 e) in
+      let most = count-mono (below l p c) (λ t. eqb (chainOf l t) c) p p (λ s a b. (a, both (eqb (chainOf l s) c) (leq l s p) b .0)) in
+      let bound : merged l p c ≤ members (leq l) p c = omega (arith, merged-count l fw p c, members-count (leq l) p c) in
+      let same = rw (ne-eqb (chainOf l p) c (omega arith)) at (entry-law l fw p c) in
+      less (merged l p c) (members (leq l) p c) (entry l p c) apart bound (omega arith)
+    where
+      less : (x y z : ℕ) → x ≢ y → x ≤ y → z ≡ x → z < y
+      less x y z n h e = go (decide-lt x y)
+        where
+          go : (x < y) ⊎ (y ≤ x) → z < y
+          go (inl k) = omega arith
+          go (inr k) = absurd (n (omega arith))
+
+  -- so none below the chains of all direct predecessors has them in the merged row
+  pub hinted-none : (u h : ℕ) → ((p : ℕ) → p ∈ l .preds u → h ≤ chainOf l p) → (c : ℕ) → c < h → c < used (leq l) u → merged l u c ≢ members (leq l) u c
+  hinted-none u h low c k g e =
+      let some : 0 < members (leq l) u c = positive (members (leq l) u c) (members-some (leq l) u c g) in
+      let each : (p : ℕ) → p ∈ l .preds u → entry l p c ≤ members (leq l) u c - 1 = λ p m. omega (arith, below-own p c (omega (arith, low p m)), members-mono p u c (omega (arith, fw u p m))) in
+      omega (arith, some, largest-le (l .preds u) (λ p. entry l p c) (members (leq l) u c - 1) each)
+    where
+      positive : (x : ℕ) → x ≢ 0 → 0 < x
+      positive zero n = absurd (n refl)
+      positive (suc x) n = omega arith
+
   module _ (op : ℕ → Op) (n : ℕ) (w : Ordered op n) (makes : Makes op n l) where
     abbrev pub Filling : ℕ → (ℕ → ℕ → ℕ) → Type 0
     Filling i rows = Along op (λ u c. 0) (entry l) i rows
@@ -82,14 +113,6 @@ module _ (l : Links) (fw : Forward l) where
       filling-begin rows f =
           along-begin op (λ u c. 0) (entry l) n w i v rows (addAt rows v (chainOf l v)) h e f (λ u c. add-other rows v (chainOf l v) u c)
           (λ c. omega (arith, add-own rows v (chainOf l v) c, row-merged rows f c, entry-law l fw v c))
-
-      -- where no link came, no chain that is taken has all its members in the row
-      pub unlinked : linked op i v ≡ [] → (c : ℕ) → c < used (leq l) v → merged l v c ≢ members (leq l) v c
-      unfolding largest
-      unlinked z c k q =
-          let m = linked-all op n w l makes i v (λ p. entry l p c) h e in
-          let s : members (leq l) v c ≡ 0 = sym q ∙ sym (rw z at m) in
-          members-some (leq l) v c k s
 
     -- all numbers of the rows are at most the number of begins
     rows-le-at : (i : ℕ) (rows : ℕ → ℕ → ℕ) → i ≤ n → Filling i rows → (u c : ℕ) → (u < begins op i) ⊎ (begins op i ≤ u) → rows u c ≤ begins op i

@@ -15,9 +15,9 @@ pub mod Theorems
 pub mod ScheduleLaws
 pub mod FlatLaws
 pub mod WalkLaws
+pub mod HintLaws
 pub mod FillLaws
 pub mod Examples
-pub mod Cases
 -- Traces: their links, ranks and order
 pub mod TraceOrder
 pub mod TraceLaws
@@ -30,3 +30,10 @@ pub mod SpaceLaws
 pub mod FillEnds
 pub mod EntryLaws
 pub mod PrepareLaws
+-- By event number, of every accepted trace
+pub mod EventRows
+pub mod FilledTrace
+pub mod ByEvent
+pub mod OwnPart
+pub mod Variants
+pub mod Upward

@@ -3,7 +3,7 @@
 use Prim.Native.Nat.{ℕ, suc, _+_, _*_, _-_, _<_, _≤_, max}
 use mathlib.Core.Path.{_≡_, refl, sym, ap, ap₂, _∙_, subst}
 use mathlib.Core.Bool.{_&&_}
-use mathlib.Core.List.{List, [], _∷_, _++_, append-assoc, List·Memᴰ·head}
+use mathlib.Core.List.{List, [], _∷_, _++_, append-assoc}
 use mathlib.Core.Logic.{_≢_, _⊎_, inl, inr}
 use native.Mathlib.Omega.{arith}
 use native.Mathlib.Numerals.{add-one}
@@ -19,23 +19,24 @@ use Rattle.trace.proofs.Events.{few-events}
 use Rattle.records.proofs.Positions.{lt-or-ge}
 use Rattle.ranks.specs.Ranks.{ranksOf}
 use Rattle.ranks.specs.Said.{Op, link, begin}
-use Rattle.order.specs.Links.{Links, Forward, leq}
+use Rattle.order.specs.Links.{Links, Forward, _∈_, leq}
 use Rattle.order.specs.Clocks.{table, flat, chainOf, entry, merged, clocksOf}
-use Rattle.order.specs.Schedule.{begins, linked}
-use Rattle.order.specs.Walk.{Walked, Walks}
+use Rattle.order.specs.Schedule.{begins}
+use Rattle.order.specs.Walk.{FillWalked, FillWalks}
 use Rattle.order.specs.Pass.{tick, chooseIn, Rows, enterRow, beginRow, RoomToBegin, Are}
 use Rattle.order.specs.PassEnds.{Ready, Passes}
 use Rattle.order.specs.HappensBefore.{opAt, traceLinks}
 use Rattle.order.specs.Fill.{eventsIn, beginPosition, shortRow, chainsUsed, chainTable, traceClocks, noChains}
 use Rattle.coverage.proofs.Tests.{both, and, eq→eqb, decide-eq}
 use Rattle.order.proofs.CountLaws.{firstFrom-local, first-first, first-only}
-use Rattle.order.proofs.ScheduleLaws.{begins-zero, begins-suc, begins-mono, begin-next, links-made, linked-exact}
-use Rattle.order.proofs.ChainLaws.{members-le, needs-at, needs-none}
+use Rattle.order.proofs.ScheduleLaws.{begins-zero, begins-suc, begins-mono, begin-next, links-made}
+use Rattle.order.proofs.ChainLaws.{chain-below, members-le, needs-at, needs-none}
 use Rattle.order.proofs.ClockLaws.{chain-merged}
 use Rattle.order.proofs.RowLaws.{flat-length, flat-same, flat-zero, table-length, table-at}
 use Rattle.order.proofs.FlatLaws.{addAt, flat-read, ticked-row}
-use Rattle.order.proofs.WalkLaws.{Along, along-start, Noted, linked-zero, noted-none, noted-zero, noted-begin, Arrives, ZeroPast}
-use Rattle.order.proofs.FillLaws.{Taken, taken-start, taken-more, entry-short, row-merged, filling-begin, unlinked, rows-le}
+use Rattle.order.proofs.WalkLaws.{Along, along-start, pred-linked, ZeroPast}
+use Rattle.order.proofs.HintLaws.{Hinted, hinted-begin, FillArrives}
+use Rattle.order.proofs.FillLaws.{Taken, taken-start, taken-more, entry-short, row-merged, filling-begin, hinted-none, rows-le}
 use Rattle.order.proofs.TraceOrder.{counted, counted-passes, ops-begins, ops-ordered, op-kind, forward-links, link-target, first-begins}
 use Rattle.order.proofs.TraceWalk.{arrives}
 
@@ -116,8 +117,8 @@ module _ {tr : List Record} (a : Acceptable tr) (w : ℕ) (rest : List ℕ) wher
     pub along : Along op (λ u c. 0) (entry l) i rows
     pub taken : Taken l w (begins op i) (s .sizes) (s .chains)
     pub of-size : length (s .of) ≡ 1024
-    pub of-done : (u : ℕ) → u < begins op i → getD (s .of) u 0 ≡ chainOf l u
-    pub of-noted : Noted op i (s .of)
+    pub of-hinted : Hinted op (chainOf l) i (s .of)
+    pub of-past : (u : ℕ) → m ≤ u → u < 1024 → getD (s .of) u 0 ≡ 0
 
   pub passing-start : w ≤ 1024 → Passing 0 (record { clocks = replicate (m * w) 0 ++ rest; sizes = noChains; of = noChains; chains = 0 })
   unfolding noChains
@@ -130,8 +131,12 @@ module _ {tr : List Record} (a : Acceptable tr) (w : ℕ) (rest : List ℕ) wher
         along = along-start op (λ u c. 0) (entry l) (λ u c. 0) (λ u c. refl);
         taken = rw b (taken-start l w 1024 h);
         of-size = k;
-        of-done = λ u g. absurd (omega arith);
-        of-noted = λ u g q. rw (linked-zero op u, getD-replicate {A = ℕ} 1024 u 0 0 (omega arith));
+        of-hinted = record {
+          chains = λ u g. absurd (omega arith);
+          hints = λ u q j g k y. absurd (omega arith);
+          low = λ u g. omega (arith, getD-replicate {A = ℕ} 1024 u 0 0 (omega arith));
+        };
+        of-past = λ u g q. getD-replicate {A = ℕ} 1024 u 0 0 q;
       }
 
   module _ (i : ℕ) (s : Rows) (p : Passing i s) where
@@ -165,14 +170,19 @@ module _ {tr : List Record} (a : Acceptable tr) (w : ℕ) (rest : List ℕ) wher
         of-room = inside;
         few-entries = λ c g. omega (arith, row-is c g, rows-le l fw op n (ops-ordered a) (links-made op n) i (p .rows) (omega arith) (p .along) u c, few, begins-mono op i n (omega arith));
         few-members = λ c g. omega (arith, taken .sizes-are c g, members-le (leq l) u c, few, turn .1);
-        unlinked = λ z c g q.
+        hint-low = p .of-hinted .low u inside;
+        hinted = λ c g q.
             let k : c < w = omega (arith, taken .chains-fit) in
-            unlinked l fw op n (ops-ordered a) (links-made op n) i u h e (noted-none op i (s .of) (p .of-noted) u (omega (arith, turn .0)) inside z) c (omega (arith, taken .chains-are))
-            (sym (merged-is c k) ∙ (q ∙ taken .sizes-are c k));
+            hinted-none l fw u (1024 - getD (s .of) u 0) low c (omega arith) (omega (arith, taken .chains-are)) (sym (merged-is c k) ∙ (q ∙ taken .sizes-are c k));
       }
         where
           inside : u < length (s .of)
           inside = omega (arith, p .of-size, few, turn .1)
+
+          low : (q : ℕ) → q ∈ l .preds u → 1024 - getD (s .of) u 0 ≤ chainOf l q
+          low q y =
+              let r = pred-linked op n (ops-ordered a) l (links-made op n) i u h e q y in
+              omega (arith, p .of-hinted .hints u q (r .0) (omega (arith, turn .0)) inside (r .1) (r .2))
 
           fits : u * w + w ≤ length (s .clocks)
           fits = omega (arith, ap length (p .clocks-are), length-append (flat w m (p .rows)) rest, flat-length w m (p .rows), mul-le-mul-right w (turn .1), suc-mul u w)
@@ -185,23 +195,19 @@ module _ {tr : List Record} (a : Acceptable tr) (w : ℕ) (rest : List ℕ) wher
           ∙ (rw (taken .chains-are) (sym (chain-merged l fw u)))
 
       -- a chain is left for it
-      pub passing-begin : chainOf l u < w → Passing (suc i) (beginRow w u s)
-      passing-begin t = rw (chosen-is, enter-room w u s (chainOf l u) t) (record {
+      pub passing-begin : w ≤ 1024 → chainOf l u < w → Passing (suc i) (beginRow w u s)
+      passing-begin narrow t = rw (chosen-is, enter-room w u s (chainOf l u) t) (record {
         rows = addAt (p .rows) u (chainOf l u);
         clocks-are = ap (tick w u (chainOf l u)) (p .clocks-are) ∙ ticked-row w m rest (p .rows) u (chainOf l u) (turn .1) t;
         along = filling-begin l fw op n (ops-ordered a) (links-made op n) i u h e (p .rows) (p .along);
         taken = rw b (taken-more l w u (s .sizes) (s .chains) taken t);
         of-size = length-set (s .of) u (chainOf l u) ∙ p .of-size;
-        of-done = λ v k. done v (omega (arith, b)) (decide-eq v u);
-        of-noted = noted-begin op i u (chainOf l u) (s .of) e (omega (arith, b)) (p .of-noted);
+        of-hinted = hinted-begin op (chainOf l) i u (s .of) e (turn .0) (omega (arith, p .of-size, few, turn .1)) (omega (arith, narrow)) (p .of-hinted);
+        of-past = λ v k g. getD-set-other (s .of) u v (chainOf l u) 0 (omega (arith, turn .1)) ∙ p .of-past v k g;
       })
         where
           b : begins op (suc i) ≡ suc u
           b = begins-suc op i (begin u) e ∙ ap suc (sym (turn .0))
-
-          done : (v : ℕ) → v < suc u → (v ≡ u) ⊎ (v ≢ u) → getD (set (s .of) u (chainOf l u)) v 0 ≡ chainOf l v
-          done v k (inl j) = rw j (getD-set-same (s .of) u (chainOf l u) 0 (omega (arith, p .of-size, few, turn .1)))
-          done v k (inr j) = getD-set-other (s .of) u v (chainOf l u) 0 j ∙ p .of-done v (omega (arith, turn .0))
 
       -- none is left: it is the begin that needs one
       pub short-is : w ≤ chainOf l u → shortRow tr w ≡ u
@@ -209,16 +215,20 @@ module _ {tr : List Record} (a : Acceptable tr) (w : ℕ) (rest : List ℕ) wher
       short-is t = rw (← events-are) (needs-at (leq l) w m u (turn .1) (omega (arith, taken .chains-are, taken .chains-fit)) t)
 
     -- along the links to the next begin
-    pub passing-walk : (r : Walked) → Arrives op n (λ u c. 0) (entry l) w rest i (s .of) r → Passing (r .position) (record { clocks = r .clocks; sizes = s .sizes; of = r .linked; chains = s .chains })
-    passing-walk r g = record {
-      rows = g .rows;
-      clocks-are = g .clocks-are;
-      along = g .along;
-      taken = rw (g .none-begun) (p .taken);
-      of-size = g .same-length ∙ p .of-size;
-      of-done = λ u h. let k : u < begins op i = omega (arith, g .none-begun) in g .kept u k ∙ p .of-done u k;
-      of-noted = g .noted (p .of-noted);
-    }
+    pub passing-walk :
+        (narrow : w ≤ 1024) (r : FillWalked) → FillArrives op n (ops-ordered a) (link-target a) (entry l) (chainOf l) w (s .chains) narrow rest i (s .of) r →
+        Passing (r .position) (record { clocks = r .clocks; sizes = s .sizes; of = r .hints; chains = s .chains })
+    passing-walk narrow r f =
+        let g = f .arrives in
+        record {
+          rows = g .rows;
+          clocks-are = g .clocks-are;
+          along = g .along;
+          taken = rw (g .none-begun) (p .taken);
+          of-size = f .same-length ∙ p .of-size;
+          of-hinted = f .hinted;
+          of-past = λ u h k. f .past u h ∙ p .of-past u h k;
+        }
 
   -- all records are passed
   pub record Completed (s : Rows) : Type 0 where
@@ -239,20 +249,12 @@ module _ {tr : List Record} (a : Acceptable tr) (w : ℕ) (rest : List ℕ) wher
       size : length (chains-of m) ≡ 1024
       size = omega (arith, length-append (table m (chainOf l)) (replicate (1024 - m) 0), table-length m (chainOf l), length-replicate {A = ℕ} (1024 - m) 0, few)
 
-      -- no link comes to a row past the last
-      no-link : (u : ℕ) → m ≤ u → (ps : List ℕ) → linked op n u ≡ ps → ps ≡ []
-      no-link u h [] e = refl
-      no-link u h (q ∷ ps) e =
-          let r = linked-exact op n q u .0 (rw e (List·Memᴰ·head refl)) in
-          absurd (omega (arith, link-target a (r .0) q u (r .1) (r .2)))
-
       each : (u : ℕ) → u < 1024 → (u < m) ⊎ (m ≤ u) → getD (s .of) u 0 ≡ getD (chains-of m) u 0
-      each u h (inl k) = p .of-done u k ∙ sym (List·getD-append (table m (chainOf l)) (replicate (1024 - m) 0) 0 u (omega (arith, table-length m (chainOf l))) ∙ table-at m (chainOf l) u k)
+      each u h (inl k) = p .of-hinted .chains u k ∙ sym (List·getD-append (table m (chainOf l)) (replicate (1024 - m) 0) 0 u (omega (arith, table-length m (chainOf l))) ∙ table-at m (chainOf l) u k)
       each u h (inr k) =
-          let z = noted-zero op n (s .of) (p .of-noted) u k (omega (arith, p .of-size)) (no-link u k (linked op n u) refl) in
           let t = table-length m (chainOf l) in
           let x : u ≡ length (table m (chainOf l)) + (u - m) = omega arith in
-          z ∙ sym (ap (λ v. getD (chains-of m) v 0) x ∙ (getD-append-add (table m (chainOf l)) (replicate (1024 - m) 0) (u - m) 0 ∙ getD-replicate {A = ℕ} (1024 - m) (u - m) 0 0 (omega (arith, few))))
+          p .of-past u k h ∙ sym (ap (λ v. getD (chains-of m) v 0) x ∙ (getD-append-add (table m (chainOf l)) (replicate (1024 - m) 0) (u - m) 0 ∙ getD-replicate {A = ℕ} (1024 - m) (u - m) 0 0 (omega (arith, few))))
 
 -- The loop of the pass, event action by event action.
 module _ (tr : List Record) (w : ℕ) (ranks clocks₀ : List ℕ) where
@@ -305,15 +307,20 @@ module _ (tr : List Record) (w : ℕ) (ranks clocks₀ : List ℕ) where
         left k (inl c) = c
         left k (inr c) = absurd (omega (arith, ap (λ r. r .chains) (begun ∙ enter-full w u _ chosen c)))
 
-        module _ (k : next ≤ w) (clocks″ of″ : List ℕ) (j : ℕ) (x : Walks tr ranks w next (i + 1) clocks′ of′ clocks″ of″ j) where
+        module _ (k : next ≤ w) (clocks″ of″ : List ℕ) (j : ℕ) (x : FillWalks tr ranks w next (i + 1) clocks′ of′ clocks″ of″ j) where
           entered : Passing (g .acceptable) w (drop (eventsIn tr * w) clocks₀) (suc i) (record { clocks = clocks′; sizes = sizes′; of = of′; chains = next })
-          entered = rw (are-rows _ clocks′ sizes′ of′ next t) (passing-begin (g .acceptable) w _ i _ (g .passing) u h (g .at-begin h) (left k (lt-or-ge chosen w)))
+          entered = rw (are-rows _ clocks′ sizes′ of′ next t) (passing-begin (g .acceptable) w _ i _ (g .passing) u h (g .at-begin h) (g .narrow) (left k (lt-or-ge chosen w)))
 
-          arrived : Arrives (opAt tr) (length tr) (λ u c. 0) (entry (traceLinks tr)) w (drop (eventsIn tr * w) clocks₀) (suc i) of′ (record { position = j; clocks = clocks″; linked = of″ })
-          arrived = arrives (g .acceptable) ranks (g .ranks-are) _ _ w next _ (suc i) (entered .rows) clocks′ of′ clocks″ of″ j (g .narrow) h (entered .clocks-are) (entered .along) (zero-past (g .acceptable) w _ (suc i) _ entered) (rw (add-one i) at x)
+          early : (q : ℕ) → q < begins (opAt tr) (suc i) → chainOf (traceLinks tr) q < 1024
+          early q y = omega (arith, chain-below (leq (traceLinks tr)) q _ y, entered .taken .chains-are, entered .taken .chains-fit, g .narrow)
+
+          arrived : FillArrives (opAt tr) (length tr) (ops-ordered (g .acceptable)) (link-target (g .acceptable)) (entry (traceLinks tr)) (chainOf (traceLinks tr)) w next (g .narrow) (drop (eventsIn tr * w) clocks₀) (suc i) of′ (record { position = j; clocks = clocks″; hints = of″ })
+          arrived =
+              arrives (g .acceptable) ranks (g .ranks-are) _ _ w next _ (suc i) (entered .rows) clocks′ of′ clocks″ of″ j (g .narrow) h (entered .clocks-are) (entered .along)
+              (zero-past (g .acceptable) w _ (suc i) _ entered) (entered .of-hinted) early (omega (arith, entered .of-size, few (g .acceptable) w [])) (rw (add-one i) at x)
 
           pub going-on : i < j
-          going-on = arrived .later
+          going-on = arrived .arrives .later
 
           pub going-next : Going clocks″ sizes′ of″ next (u + 1) j
           going-next =
@@ -322,10 +329,10 @@ module _ (tr : List Record) (w : ℕ) (ranks clocks₀ : List ℕ) where
                 acceptable = g .acceptable;
                 narrow = g .narrow;
                 ranks-are = g .ranks-are;
-                within = arrived .inside;
-                row-is = sym (arrived .none-begun ∙ b);
-                at-begin = λ y. arrived .at-begin y ∙ ap begin b;
-                passing = passing-walk (g .acceptable) w _ (suc i) _ entered _ arrived;
+                within = arrived .arrives .inside;
+                row-is = sym (arrived .arrives .none-begun ∙ b);
+                at-begin = λ y. arrived .arrives .at-begin y ∙ ap begin b;
+                passing = passing-walk (g .acceptable) w _ (suc i) _ entered (g .narrow) _ arrived;
               }
 
         -- none was left

@@ -19,7 +19,7 @@ use Rattle.clocks.specs.Rows.{mergeRow}
 use Rattle.order.specs.Links.{Links, _∈_}
 use Rattle.order.specs.Clocks.{largest, flat}
 use Rattle.order.specs.Schedule.{begins, linked, Ordered, Makes}
-use Rattle.order.specs.Walk.{Walked, stops, mergedBy, notedBy, walkOn, walk, opBy, walkFrom}
+use Rattle.order.specs.Walk.{Walked, stops, mergedBy, walkOn, walk, opBy, walkFrom}
 use Rattle.coverage.proofs.Tests.{decide-eq}
 use Rattle.order.proofs.Tests.{decide-lt}
 use Rattle.order.proofs.SetLaws.{largest-in, largest-le}
@@ -48,6 +48,20 @@ module _ (op : ℕ → Op) where
 
   -- at its begin an event action has the links of all of its direct predecessors
   module _ (n : ℕ) (w : Ordered op n) (l : Links) (makes : Makes op n l) where
+    -- a link from each of its direct predecessors came before it
+    pub pred-linked : (i v : ℕ) → i < n → op i ≡ begin v → (p : ℕ) → p ∈ l .preds v → (j : ℕ) × (j < i) × (op j ≡ link p v)
+    pred-linked i v h e p m = (r .0, early (decide-lt (r .0) i), r .2)
+      where
+        begun : v < begins op n
+        begun = omega (arith, begin-next op n w i v h e, begins-suc op i (begin v) e, begins-mono op (suc i) n h)
+
+        r : (j : ℕ) × (j < n) × (op j ≡ link p v)
+        r = makes p v begun .0 m
+
+        early : (r .0 < i) ⊎ (i ≤ r .0) → r .0 < i
+        early (inl k) = k
+        early (inr k) = absurd (omega (arith, link-after op n w i v e (r .0) p v k (r .1) (r .2)))
+
     pub linked-all : (i v : ℕ) (g : ℕ → ℕ) → i < n → op i ≡ begin v → largest (linked op i v) g ≡ largest (l .preds v) g
     linked-all i v g h e = largest-same (linked op i v) (l .preds v) g there back
       where
@@ -57,12 +71,8 @@ module _ (op : ℕ → Op) where
         there : (p : ℕ) → p ∈ linked op i v → p ∈ l .preds v
         there p m = let r = linked-exact op i p v .0 m in makes p v begun .1 (r .0, omega (arith, r .1), r .2)
 
-        early : (p j : ℕ) → j < n → op j ≡ link p v → (j < i) ⊎ (i ≤ j) → j < i
-        early p j a k (inl m) = m
-        early p j a k (inr m) = absurd (omega (arith, link-after op n w i v e j p v m a k))
-
         back : (p : ℕ) → p ∈ l .preds v → p ∈ linked op i v
-        back p m = let r = makes p v begun .0 m in linked-exact op i p v .1 (r .0, early p (r .0) (r .1) (r .2) (decide-lt (r .0) i), r .2)
+        back p m = linked-exact op i p v .1 (pred-linked i v h e p m)
 
   -- After the first i records: the rows of those that have begun are final, and the row of any other is its base row merged with the final
   -- rows linked to it so far.
@@ -127,46 +137,9 @@ module _ (op : ℕ → Op) where
         along-merged i v rows h e f c =
             f .coming v c (omega (arith, begin-next op n w i v h e)) ∙ ap (max (B v c)) (linked-all n w l makes i v (λ p. R p c) h e)
 
-  -- the list tells of those that have not begun whether a link has come to them
-  abbrev pub empty : List ℕ → Bool
-  empty [] = true
-  empty (p ∷ ps) = false
-
-  abbrev pub Noted : ℕ → List ℕ → Type 0
-  Noted i ls = (u : ℕ) → begins op i ≤ u → u < length ls → eqb (getD ls u 0) 0 ≡ empty (linked op i u)
-
-  pub noted-none : (i : ℕ) (ls : List ℕ) → Noted i ls → (u : ℕ) → begins op i ≤ u → u < length ls → getD ls u 0 ≡ 0 → linked op i u ≡ []
-  noted-none i ls f u h k e = none (linked op i u) (sym (f u h k) ∙ eq-eqb (getD ls u 0) 0 e)
-    where
-      none : (ps : List ℕ) → empty ps ≡ true → ps ≡ []
-      none [] t = refl
-      none (p ∷ ps) t = let z : _≡_ {A = ℕ} 0 1 = cc in absurd (omega arith)
-
-  pub noted-zero : (i : ℕ) (ls : List ℕ) → Noted i ls → (u : ℕ) → begins op i ≤ u → u < length ls → linked op i u ≡ [] → getD ls u 0 ≡ 0
-  noted-zero i ls f u h k e = eqb-true (getD ls u 0) 0 (f u h k ∙ ap empty e)
-
-  noted-other : (i : ℕ) (ls : List ℕ) → op i ≡ other → Noted i ls → Noted (suc i) ls
-  noted-other i ls e f u h k = rw (linked-suc op i u other e) (f u (omega (arith, begins-suc op i other e)) k)
-
-  noted-link : (i p v : ℕ) (ls : List ℕ) → op i ≡ link p v → Noted i ls → Noted (suc i) (set ls v 1)
-  noted-link i p v ls e f u h k = go (decide-eq u v)
-    where
-      inside : u < length ls
-      inside = omega (arith, length-set ls v 1)
-
-      go : (u ≡ v) ⊎ (u ≢ v) → eqb (getD (set ls v 1) u 0) 0 ≡ empty (linked op (suc i) u)
-      go (inl j) = rw (j, linked-suc op i v (link p v) e, eq-eqb v v refl, getD-set-same ls v 1 0 (rw j at inside))
-      go (inr j) = rw (linked-apart i p v u e j, getD-set-other ls v u 1 0 j) (f u (omega (arith, begins-suc op i (link p v) e)) inside)
-
-  -- a store at the one that begins leaves the others
-  pub noted-begin : (i v x : ℕ) (ls : List ℕ) → op i ≡ begin v → v < begins op (suc i) → Noted i ls → Noted (suc i) (set ls v x)
-  noted-begin i v x ls e b f u h k =
-      rw (linked-suc op i u (begin v) e, getD-set-other ls v u x 0 (omega arith))
-      (f u (omega (arith, begins-suc op i (begin v) e)) (omega (arith, length-set ls v x)))
-
 -- The walk from record i on, in flat clocks of all rows: up to the next begin, with the rows along.
 module _ (op : ℕ → Op) (n : ℕ) (B R : ℕ → ℕ → ℕ) (w : ℕ) (rest : List ℕ) where
-  pub record Arrives (i : ℕ) (ls : List ℕ) (r : Walked) : Type 0 where
+  pub record Arrives (i : ℕ) (r : Walked) : Type 0 where
     pub later : i ≤ r .position
     pub inside : r .position ≤ n
     pub none-begun : begins op (r .position) ≡ begins op i
@@ -174,14 +147,11 @@ module _ (op : ℕ → Op) (n : ℕ) (B R : ℕ → ℕ → ℕ) (w : ℕ) (rest
     pub rows : ℕ → ℕ → ℕ
     pub clocks-are : r .clocks ≡ flat w (begins op n) rows ++ rest
     pub along : Along op B R (r .position) rows
-    pub same-length : length (r .linked) ≡ length ls
-    pub kept : (u : ℕ) → u < begins op i → getD (r .linked) u 0 ≡ getD ls u 0
-    pub noted : Noted op i ls → Noted op (r .position) (r .linked)
 
-  arrives-here :
-      (i : ℕ) (rows : ℕ → ℕ → ℕ) (ls : List ℕ) → i ≤ n → (i < n → op i ≡ begin (begins op i)) → Along op B R i rows →
-      Arrives i ls (record { position = i; clocks = flat w (begins op n) rows ++ rest; linked = ls })
-  arrives-here i rows ls h k f = record {
+  pub arrives-here :
+      (i : ℕ) (rows : ℕ → ℕ → ℕ) → i ≤ n → (i < n → op i ≡ begin (begins op i)) → Along op B R i rows →
+      Arrives i (record { position = i; clocks = flat w (begins op n) rows ++ rest })
+  arrives-here i rows h k f = record {
     later = omega arith;
     inside = h;
     none-begun = refl;
@@ -189,16 +159,11 @@ module _ (op : ℕ → Op) (n : ℕ) (B R : ℕ → ℕ → ℕ) (w : ℕ) (rest
     rows = rows;
     clocks-are = refl;
     along = f;
-    same-length = refl;
-    kept = λ u g. refl;
-    noted = λ g. g;
   }
 
   -- from a record that is no begin on
-  arrives-next :
-      (i : ℕ) (ls ls′ : List ℕ) (r : Walked) → begins op (suc i) ≡ begins op i → length ls′ ≡ length ls →
-      ((u : ℕ) → u < begins op i → getD ls′ u 0 ≡ getD ls u 0) → (Noted op i ls → Noted op (suc i) ls′) → Arrives (suc i) ls′ r → Arrives i ls r
-  arrives-next i ls ls′ r b l k t a = record {
+  pub arrives-next : (i : ℕ) (r : Walked) → begins op (suc i) ≡ begins op i → Arrives (suc i) r → Arrives i r
+  arrives-next i r b a = record {
     later = omega (arith, a .later);
     inside = a .inside;
     none-begun = a .none-begun ∙ b;
@@ -206,9 +171,6 @@ module _ (op : ℕ → Op) (n : ℕ) (B R : ℕ → ℕ → ℕ) (w : ℕ) (rest
     rows = a .rows;
     clocks-are = a .clocks-are;
     along = a .along;
-    same-length = a .same-length ∙ l;
-    kept = λ u h. a .kept u (omega arith) ∙ k u h;
-    noted = λ g. a .noted (t g);
   }
 
 -- a row that has begun is 0 where no chain is taken and past its own number
@@ -220,42 +182,41 @@ module _
     (B R : ℕ → ℕ → ℕ) (w chains : ℕ) (narrow : w ≤ 1024) (rest : List ℕ) where
   -- where k records are left
   pub walked :
-      (k i : ℕ) (rows : ℕ → ℕ → ℕ) (cs ls : List ℕ) → i + k ≡ n → cs ≡ flat w (begins op n) rows ++ rest → Along op B R i rows → ZeroPast op R w chains i →
-      Arrives op n B R w rest i ls (walk op w chains k i cs ls)
+      (k i : ℕ) (rows : ℕ → ℕ → ℕ) (cs : List ℕ) → i + k ≡ n → cs ≡ flat w (begins op n) rows ++ rest → Along op B R i rows → ZeroPast op R w chains i →
+      Arrives op n B R w rest i (walk op w chains k i cs)
   unfolding walk
-  walked zero i rows cs ls z e f s = rw e (arrives-here op n B R w rest i rows ls (omega arith) (λ h. absurd (omega arith)) f)
-  walked (suc k) i rows cs ls z e f s = go (op i) refl (λ rows′ cs′ ls′. walked k (suc i) rows′ cs′ ls′ (omega arith))
+  walked zero i rows cs z e f s = rw e (arrives-here op n B R w rest i rows (omega arith) (λ h. absurd (omega arith)) f)
+  walked (suc k) i rows cs z e f s = go (op i) refl (λ rows′ cs′. walked k (suc i) rows′ cs′ (omega arith))
     where
       h : i < n
       h = omega arith
 
       go : (x : Op) → op i ≡ x →
-          ((rows′ : ℕ → ℕ → ℕ) (cs′ ls′ : List ℕ) → cs′ ≡ flat w (begins op n) rows′ ++ rest → Along op B R (suc i) rows′ → ZeroPast op R w chains (suc i) → Arrives op n B R w rest (suc i) ls′ (walk op w chains k (suc i) cs′ ls′)) →
-          Arrives op n B R w rest i ls (walkOn (stops x) i (mergedBy w chains x cs) (notedBy x ls) (walk op w chains k (suc i)))
+          ((rows′ : ℕ → ℕ → ℕ) (cs′ : List ℕ) → cs′ ≡ flat w (begins op n) rows′ ++ rest → Along op B R (suc i) rows′ → ZeroPast op R w chains (suc i) → Arrives op n B R w rest (suc i) (walk op w chains k (suc i) cs′)) →
+          Arrives op n B R w rest i (walkOn (stops x) i (mergedBy w chains x cs) (walk op w chains k (suc i)))
       go (link p u) x next =
           let b = begins-suc op i (link p u) x in
           let g = link-between op n o i p u h x in
           let z : (c : ℕ) → c < w → (chains ≤ c) ⊎ (p < c) → rows p c ≡ 0 = λ c a d. f .done p c (g .0) ∙ s p c (g .0) a d in
           let m = ap (mergeRow w chains p u) e ∙ merged-row w (begins op n) rest rows chains p u narrow (omega (arith, g .0, g .1)) (within i p u h x) z in
-          arrives-next op n B R w rest i ls (set ls u 1) _ b (length-set ls u 1) (λ v q. getD-set-other ls u v 1 0 (omega (arith, g .1))) (noted-link op i p u ls x)
-          (next (mergeInto rows p u) (mergeRow w chains p u cs) (set ls u 1) m (along-link op B R n o i p u rows h x f) (λ q c a d j. s q c (omega (arith, b)) d j))
-      go (begin u) x next = rw e (arrives-here op n B R w rest i rows ls (omega arith) (λ q. x ∙ ap begin (begin-next op n o i u h x)) f)
+          arrives-next op n B R w rest i _ b (next (mergeInto rows p u) (mergeRow w chains p u cs) m (along-link op B R n o i p u rows h x f) (λ q c a d j. s q c (omega (arith, b)) d j))
+      go (begin u) x next = rw e (arrives-here op n B R w rest i rows (omega arith) (λ q. x ∙ ap begin (begin-next op n o i u h x)) f)
       go other x next =
           let b = begins-suc op i other x in
-          arrives-next op n B R w rest i ls ls _ b refl (λ v q. refl) (noted-other op i ls x) (next rows cs ls e (along-other op B R i rows x f) (λ q c a d j. s q c (omega (arith, b)) d j))
+          arrives-next op n B R w rest i _ b (next rows cs e (along-other op B R i rows x f) (λ q c a d j. s q c (omega (arith, b)) d j))
 
 -- the walk as a loop makes it, from record i up to n
-module _ (op : ℕ → Op) (w chains n i : ℕ) (cs ls : List ℕ) where
-  pub walk-over : n ≤ i → walk op w chains (n - i) i cs ls ≡ record { position = i; clocks = cs; linked = ls }
+module _ (op : ℕ → Op) (w chains n i : ℕ) (cs : List ℕ) where
+  pub walk-over : n ≤ i → walk op w chains (n - i) i cs ≡ record { position = i; clocks = cs }
   unfolding walk
   walk-over h = let e : n - i ≡ 0 = omega arith in rw e
 
   module _ (h : i < n) where
-    pub walk-stop : stops (op i) ≡ true → walk op w chains (n - i) i cs ls ≡ record { position = i; clocks = mergedBy w chains (op i) cs; linked = notedBy (op i) ls }
+    pub walk-stop : stops (op i) ≡ true → walk op w chains (n - i) i cs ≡ record { position = i; clocks = mergedBy w chains (op i) cs }
     unfolding walk
     walk-stop t = let e : n - i ≡ suc (n - suc i) = omega arith in rw (e, t)
 
-    pub walk-next : stops (op i) ≡ false → walk op w chains (n - i) i cs ls ≡ walk op w chains (n - (i + 1)) (i + 1) (mergedBy w chains (op i) cs) (notedBy (op i) ls)
+    pub walk-next : stops (op i) ≡ false → walk op w chains (n - i) i cs ≡ walk op w chains (n - (i + 1)) (i + 1) (mergedBy w chains (op i) cs)
     unfolding walk
     walk-next t =
         let e : n - i ≡ suc (n - suc i) = omega arith in
@@ -264,15 +225,15 @@ module _ (op : ℕ → Op) (w chains n i : ℕ) (cs ls : List ℕ) where
 
 -- past records that say nothing
 pub walk-past :
-    (op : ℕ → Op) (w chains n : ℕ) (cs ls : List ℕ) (k i : ℕ) → i + k ≤ n → ((j : ℕ) → i ≤ j → j < i + k → op j ≡ other) →
-    walk op w chains (n - i) i cs ls ≡ walk op w chains (n - (i + k)) (i + k) cs ls
-walk-past op w chains n cs ls zero i h f = let e : i + 0 ≡ i = omega arith in rw e
-walk-past op w chains n cs ls (suc k) i h f =
+    (op : ℕ → Op) (w chains n : ℕ) (cs : List ℕ) (k i : ℕ) → i + k ≤ n → ((j : ℕ) → i ≤ j → j < i + k → op j ≡ other) →
+    walk op w chains (n - i) i cs ≡ walk op w chains (n - (i + k)) (i + k) cs
+walk-past op w chains n cs zero i h f = let e : i + 0 ≡ i = omega arith in rw e
+walk-past op w chains n cs (suc k) i h f =
     let o = f i (omega arith) (omega arith) in
     let j : i + suc k ≡ (i + 1) + k = omega arith in
-    walk-next op w chains n i cs ls (omega arith) (ap stops o)
-    ∙ (ap₂ (walk op w chains (n - (i + 1)) (i + 1)) (ap (λ x. mergedBy w chains x cs) o) (ap (λ x. notedBy x ls) o)
-    ∙ rw j (walk-past op w chains n cs ls k (i + 1) (omega arith) (λ x a b. f x (omega arith) (omega arith))))
+    walk-next op w chains n i cs (omega arith) (ap stops o)
+    ∙ (ap (walk op w chains (n - (i + 1)) (i + 1)) (ap (λ x. mergedBy w chains x cs) o)
+    ∙ rw j (walk-past op w chains n cs k (i + 1) (omega arith) (λ x a b. f x (omega arith) (omega arith))))
 
 -- a read or a write says nothing of links and begins
 pub access-other : (ranks : ℕ → ℕ) (r : Record) → 5 ≤ r .kind → opOf ranks r ≡ other
@@ -281,15 +242,15 @@ access-other ranks r h = rw (ne-eqb (r .kind) 1 (omega arith), ne-eqb (r .kind) 
 
 -- the walk starts past the accesses
 pub walk-skips :
-    (tr : List Record) (ranks : List ℕ) (w chains from : ℕ) (cs ls : List ℕ) →
-    walk (opBy tr ranks) w chains (length tr - (from + leading tr (length tr - from) from)) (from + leading tr (length tr - from) from) cs ls
-    ≡ walkFrom tr ranks w chains from cs ls
+    (tr : List Record) (ranks : List ℕ) (w chains from : ℕ) (cs : List ℕ) →
+    walk (opBy tr ranks) w chains (length tr - (from + leading tr (length tr - from) from)) (from + leading tr (length tr - from) from) cs
+    ≡ walkFrom tr ranks w chains from cs
 unfolding walkFrom
-walk-skips tr ranks w chains from cs ls = go (decide-lt (length tr) from)
+walk-skips tr ranks w chains from cs = go (decide-lt (length tr) from)
   where
     k : ℕ
     k = leading tr (length tr - from) from
 
-    go : (length tr < from) ⊎ (from ≤ length tr) → walk (opBy tr ranks) w chains (length tr - (from + k)) (from + k) cs ls ≡ walk (opBy tr ranks) w chains (length tr - from) from cs ls
+    go : (length tr < from) ⊎ (from ≤ length tr) → walk (opBy tr ranks) w chains (length tr - (from + k)) (from + k) cs ≡ walk (opBy tr ranks) w chains (length tr - from) from cs
     go (inl h) = let e : from + k ≡ from = leading-over tr (length tr) from (omega arith) in rw e
-    go (inr h) = sym (walk-past (opBy tr ranks) w chains (length tr) cs ls k from (omega (arith, leading-le tr (length tr - from) from)) (λ j a b. access-other (λ e. getD ranks e 0) (at tr j) (leading-accesses tr (length tr - from) from j a b)))
+    go (inr h) = sym (walk-past (opBy tr ranks) w chains (length tr) cs k from (omega (arith, leading-le tr (length tr - from) from)) (λ j a b. access-other (λ e. getD ranks e 0) (at tr j) (leading-accesses tr (length tr - from) from j a b)))

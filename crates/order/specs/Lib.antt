@@ -13,3 +13,4 @@ pub mod Fill
 pub mod PassEnds
 pub mod Prepare
 pub mod Paper
+pub mod ByEvent

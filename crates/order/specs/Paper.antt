@@ -5,6 +5,7 @@ use mathlib.Core.List.{List}
 use lib.ListN.{length}
 use Rattle.records.specs.declared.Record.{Record}
 use Rattle.records.specs.declared.Trace.{Trace}
+use Rattle.trace.specs.declared.Refusal.{Refusal}
 use Rattle.ranks.specs.Ranks.{ranksOf}
 use Rattle.order.specs.declared.Filling.{Filling}
 use Rattle.order.specs.declared.Filling.the-variants.{Filled, Refused}
@@ -14,6 +15,11 @@ use Rattle.order.specs.Prepare.{prepareReply, clocksPrepared, chainsPrep
 abbrev pub fillPaper : Filling → FillReply
 fillPaper (Filled k) = filled k
 fillPaper (Refused f) = refused (f .number) (f .place .0)
+
+-- the refusal in a filling; one that was made has none, number 0
+abbrev pub refusalIn : Filling → Refusal
+refusalIn (Filled k) = record { number = 0; place = record { 0 = 0 } }
+refusalIn (Refused f) = f
 
 -- filling: the answer and the lent clocks
 pub record Fills (b : List ℕ) (width : ℕ) (clocks clocks′ : List ℕ) (r : Filling) : Type 0 where

@@ -1,6 +1,6 @@
 -- The pass over the records that fills all rows, as the code keeps it: lists, and one number. At a link the earlier row is merged into the
 -- later one (`Walk`); at a begin the chain is read off the merged row. Assumes nothing.
-use Prim.Native.Nat.{ℕ, suc, _+_, _*_, _≤_, _<_, max}
+use Prim.Native.Nat.{ℕ, suc, _+_, _*_, _-_, _≤_, _<_, min, max}
 use mathlib.Core.Path.{_≡_}
 use mathlib.Core.Bool.{Bool, true, false}
 use mathlib.Core.List.{List}
@@ -20,7 +20,7 @@ fullAt a cs sizes c = eqb (getD cs (a + c) 0) (getD sizes c 0)
 unfoldable pub chooseIn : ℕ → ℕ → List ℕ → List ℕ → ℕ → ℕ
 chooseIn width u cs sizes chains = first (fullAt (u * width) cs sizes) chains
 
--- no chain is such
+-- none of the first chains is such
 abbrev pub NoneFull : ℕ → List ℕ → List ℕ → ℕ → Type 0
 NoneFull a cs sizes chains = (c : ℕ) → c < chains → getD cs (a + c) 0 ≡ getD sizes c 0 → ⊥
 
@@ -28,7 +28,7 @@ pub record Rows : Type 0 where
   pub clocks : List ℕ
   -- the members of each chain so far
   pub sizes : List ℕ
-  -- the chain of each row that has begun; for any other whether a link has come to it
+  -- the chain of each row that has begun; for any other its hint
   pub of : List ℕ
   -- how many chains are taken; more than the width where the width has none left
   pub chains : ℕ
@@ -57,14 +57,15 @@ pub record RoomToChoose (w u : ℕ) (cs sizes : List ℕ) (chains : ℕ) : Type 
   pub chains-fit : chains ≤ w
   pub sizes-room : w ≤ length sizes
 
--- what the lists must have room for, and that no chain is looked for in vain where no link came
+-- what the lists must have room for, and that no chain below the one that the hint tells has all its members in the row
 pub record RoomToBegin (w u : ℕ) (s : Rows) : Type 0 where
   pub narrow : w ≤ 1024
   pub room : RoomToChoose w u (s .clocks) (s .sizes) (s .chains)
   pub of-room : u < length (s .of)
   pub few-entries : (c : ℕ) → c < w → getD (s .clocks) (u * w + c) 0 < 65535
   pub few-members : (c : ℕ) → c < w → getD (s .sizes) c 0 < 65535
-  pub unlinked : getD (s .of) u 0 ≡ 0 → NoneFull (u * w) (s .clocks) (s .sizes) (s .chains)
+  pub hint-low : getD (s .of) u 0 ≤ 1024
+  pub hinted : NoneFull (u * w) (s .clocks) (s .sizes) (min (s .chains) (1024 - getD (s .of) u 0))
 
 -- lists and number are those of s
 pub record Are (s : Rows) (clocks sizes of : List ℕ) (chains : ℕ) : Type 0 where

@@ -10,10 +10,11 @@ use Rattle.trace.specs.Reading as reading
 use Rattle.trace.specs.Reading.{Reply, recordsIn, readReply}
 use Rattle.ranks.specs.Ranks.{ranksOf}
 use Rattle.clocks.specs.Rows.{spaceFor}
-use Rattle.order.specs.Fill.{FillReply, refused, filled, demand, beginPosition, shortRow, chainsUsed, pickList, clocksAfterTrace, noChains, chainsAfterReply}
+use Rattle.order.specs.Fill.{FillReply, refused, filled, demand, beginPosition}
+use Rattle.order.specs.Fill.{shortRow, chainsUsed, pickList, clocksAfterTrace, noChains, chainsAfterReply}
 
--- All records from the lowest to the highest asked about are in a trace of that many records; from 1 to 0 none is asked about. "11: record
--- number not in the trace."
+-- "11: .. or a record asked about is not in it": all records from the lowest to the highest asked about are in a trace of that many records;
+-- from 1 to 0 none is asked about.
 unfoldable pub asked : ℕ → ℕ → ℕ → Bool
 asked lowest highest records = leb 1 lowest && leb highest records
 

@@ -30,7 +30,8 @@ startOf ch preds R u c = largest (preds u) (λ p. R p c) + bit (eqb (ch u) c)
 -- the seconds of event e from record n on, in trace order: of edges, all of them
 pub data Seconds (t : Setting) (E : ℕ → ℕ → Type 0) (e : ℕ) : ℕ → List ℕ → Type 0 where
   none : {n : ℕ} → ((c d : ℕ) → E c d → t .ev d ≡ e → d < n) → Seconds t E e n []
-  then : {n b : ℕ} {bs : List ℕ} → n ≤ b → b < t .size → t .ev b ≡ e → ((c d : ℕ) → E c d → t .ev d ≡ e → d < b → d < n) → Seconds t E e (suc b) bs → Seconds t E e n (b ∷ bs)
+  then : {n b : ℕ} {bs : List ℕ} → n ≤ b → b < t .size → t .ev b ≡ e → ((c d : ℕ) → E c d → t .ev d ≡ e → d < b → d < n) → Seconds t E e (suc b) bs →
+      Seconds t E e n (b ∷ bs)
 
 -- the records of event e among the k from n on
 unfoldable pub recordsFrom : Setting → ℕ → ℕ → ℕ → List ℕ

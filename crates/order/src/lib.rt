@@ -1,18 +1,20 @@
 // Happens-before, chains and vector clocks.
 mod clear;
+mod linking;
 pub mod links;
 mod merge;
 mod rows;
 
+use records::Operation;
 use records::Trace;
 use records::access;
-use trace::Operation;
 use trace::Reading;
 use trace::Refusal;
 ghost use mathlib.Core.Path.{_≡_};
 ghost use Rattle.trace.specs.Paper.{paper};
+ghost use Rattle.order.specs.Fill.{noChains};
 ghost use Rattle.order.specs.Prepare.{asked, readWithin};
-ghost use Rattle.order.specs.Paper.{Fills, Prepares};
+ghost use Rattle.order.specs.Paper.{refusalIn, Fills, Prepares};
 
 // What filling finds: the number of chains used, or why it is refused.
 pub enum Filling {
@@ -24,6 +26,26 @@ pub enum Filling {
 pub struct Prepared {
     pub answer: Filling,
     pub trace: Trace,
+}
+
+// The refusal of a filling that is refused, for a list or the pair question to pass upward; one that was made has none, number 0.
+pub fn refusal_of(f: Filling) -> Refusal
+    ensures { λ r. ⌜ r ≡ refusalIn f ⌝ }
+{
+    match f {
+        Filling::Refused(why) => why,
+        Filling::Filled(_) => Refusal {
+            number: 0,
+            place: Operation(0),
+        },
+    }
+}
+
+// A table of no chains, for 1,024 rows.
+pub fn no_chains() -> [u16; 1024]
+    ensures { λ r. ⌜ r ≡ noChains ⌝ }
+{
+    [0; 1024]
 }
 
 // Are all records from the lowest to the highest asked about in a trace of that many records? From 1 to 0 none is asked about.
@@ -78,19 +100,19 @@ fn read_within(
 // passes 22.
 pub fn prepare(
     bytes: &[u8],
-    lowest: u16,
-    highest: u16,
+    lowest: Operation,
+    highest: Operation,
     width: usize,
     room: usize,
     clocks: &mut [u16],
     of: &mut [u16; 1024],
     all: &mut [u16; 1025],
 ) -> Prepared
-    ensures { λ r. ⌜ Prepares (now (bytes .entry)) lowest highest width room (now (clocks .entry)) (now (clocks .exit)) (now (of .exit))
+    ensures { λ r. ⌜ Prepares (now (bytes .entry)) (lowest .0) (highest .0) width room (now (clocks .entry)) (now (clocks .exit)) (now (of .exit))
         (now (all .entry)) (now (all .exit)) (r .answer) (r .trace) ⌝ }
 {
     clear::clear(of, 1024);
-    let reading = read_within(bytes, lowest, highest, width, clocks.len(), room);
+    let reading = read_within(bytes, lowest.0, highest.0, width, clocks.len(), room);
     let Reading::Accepted(t) = reading else {
         return rows::unfilled(trace::refusal_of(reading));
     };
@@ -109,8 +131,8 @@ pub fn fill(bytes: &[u8], width: usize, clocks: &mut [u16]) -> Filling
     let Reading::Accepted(t) = reading else {
         return Filling::Refused(trace::refusal_of(reading));
     };
-    let mut of = rows::no_chains();
-    let mut all = rows::no_ranks();
+    let mut of = no_chains();
+    let mut all = ranks::none();
     rows::fill_rows(
         access::records(bytes, t),
         t.events,

@@ -4,15 +4,7 @@ ghost use mathlib.Core.Bool.{false};
 ghost use Prim.Native.Nat.{ℕ, _+_, _-_, _*_, _≤_, _<_};
 ghost use lib.ListN.{length, getD, set};
 ghost use Rattle.order.specs.Chains.{firstFrom};
-ghost use Rattle.order.specs.Pass.{fullAt, chooseIn, RoomToChoose};
-
-// One more at entry c of a row.
-pub(crate) fn add_one(row: &mut [u16], c: usize)
-    requires { ⌜ (c < length (now row)) × (getD (now row) c 0 < 65535) ⌝ }
-    ensures { λ r. ⌜ now (row .exit) ≡ set (now (row .entry)) c (getD (now (row .entry)) c 0 + 1) ⌝ }
-{
-    row[c] += 1;
-}
+ghost use Rattle.order.specs.Pass.{fullAt, chooseIn, NoneFull, RoomToChoose};
 
 // Is one of the sixteen entries from `at` on equal to the size beside it?
 fn among_sixteen(clocks: &[u16], at: usize, sizes: &[u16], c: usize) -> bool
@@ -45,13 +37,20 @@ fn choose_near(clocks: &[u16], a: usize, sizes: &[u16], from: usize, chains: usi
     c
 }
 
-// The lowest chain all of whose members are in the merged row u, or a new one; sixteen entries at a time.
-pub(crate) fn choose(clocks: &[u16], width: usize, u: usize, sizes: &[u16], chains: usize) -> usize
-    requires { ⌜ RoomToChoose width u (now clocks) (now sizes) chains ⌝ }
+// The lowest chain all of whose members are in the merged row u, or a new one, where none below `from` is such; sixteen entries at a time.
+pub(crate) fn choose(
+    clocks: &[u16],
+    width: usize,
+    u: usize,
+    sizes: &[u16],
+    from: usize,
+    chains: usize,
+) -> usize
+    requires { ⌜ RoomToChoose width u (now clocks) (now sizes) chains × (from ≤ chains) × NoneFull (u * width) (now clocks) (now sizes) from ⌝ }
     ensures { λ r. ⌜ r ≡ chooseIn width u (now (clocks .entry)) (now (sizes .entry)) chains ⌝ }
 {
     let a = u * width;
-    let mut c = 0;
+    let mut c = from;
     while c + 16 <= chains {
         if among_sixteen(clocks, a + c, sizes, c) {
             return choose_near(clocks, a, sizes, c, chains);

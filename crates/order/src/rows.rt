@@ -2,19 +2,19 @@
 use crate::Filling;
 use crate::Prepared;
 use crate::clear::clear;
-use crate::links::merge_links;
+use crate::linking::pass_links;
 use crate::merge;
+use clocks::add_one;
 use clocks::clear_rows;
+use records::Operation;
 use records::Trace;
 use records::access;
-use trace::Operation;
 use trace::Refusal;
 ghost use mathlib.Core.Path.{_≡_};
 ghost use mathlib.Core.Bool.{true};
-ghost use Prim.Native.Nat.{_*_};
+ghost use Prim.Native.Nat.{_*_, _-_, _≤_, min};
 ghost use lib.ListN.{length};
 ghost use Rattle.records.specs.Bytes.{decode};
-ghost use Rattle.ranks.specs.Ranks.{noRanks};
 ghost use Rattle.trace.specs.Reading.{Acceptable};
 ghost use Rattle.clocks.specs.Rows.{spaceFor};
 ghost use Rattle.order.specs.Fill.{eventsIn, noChains};
@@ -23,22 +23,24 @@ ghost use Rattle.order.specs.Paper.{FillsTrace};
 ghost use Rattle.order.specs.PassEnds.{Ready, Passes};
 ghost use Rattle.order.specs.Pass.{Rows, chooseIn, NoneFull, beginRow, RoomToChoose, RoomToBegin, Are};
 
-// The chain of row u, to which a link came or not: where none came its row is 0, and no chain ends before it.
-fn choose_linked(
+// The chain of row u, by its hint: no chain below 1,024 less that has all its members in the row.
+fn choose_hinted(
     clocks: &[u16],
     width: usize,
     u: usize,
     sizes: &[u16],
     chains: usize,
-    linked: u16,
+    hint: u16,
 ) -> usize
-    requires { ⌜ RoomToChoose width u (now clocks) (now sizes) chains × (linked ≡ 0 → NoneFull (u * width) (now clocks) (now sizes) chains) ⌝ }
+    requires { ⌜ RoomToChoose width u (now clocks) (now sizes) chains × (hint ≤ 1024)
+        × NoneFull (u * width) (now clocks) (now sizes) (min chains (1024 - hint)) ⌝ }
     ensures { λ r. ⌜ r ≡ chooseIn width u (now (clocks .entry)) (now (sizes .entry)) chains ⌝ }
 {
-    if linked == 0 {
+    let from = 1024 - (hint as usize);
+    if chains <= from {
         return chains;
     }
-    merge::choose(clocks, width, u, sizes, chains)
+    merge::choose(clocks, width, u, sizes, from, chains)
 }
 
 // Row u begins: the chains taken after it, or more than the width where none is left for it.
@@ -54,13 +56,13 @@ fn begin_row(
     ensures { λ r. ⌜ Are (beginRow width u (record { clocks = now (clocks .entry); sizes = now (sizes .entry); of = now (of .entry); chains = chains }))
         (now (clocks .exit)) (now (sizes .exit)) (now (of .exit)) r ⌝ }
 {
-    let c = choose_linked(clocks, width, u, sizes, chains, of[u]);
+    let c = choose_hinted(clocks, width, u, sizes, chains, of[u]);
     if width <= c {
         return width + 1;
     }
     let a = u * width;
     let e = a + width;
-    merge::add_one(&mut clocks[a..e], c);
+    add_one(&mut clocks[a..e], c);
     sizes[c] += 1;
     of[u] = c as u16;
     if chains <= c {
@@ -99,25 +101,13 @@ fn pass(
             };
         }
         chains = next;
-        i = merge_links(recs, ranks, width, chains, clocks, of, i + 1);
+        i = pass_links(recs, ranks, width, chains, clocks, of, i + 1);
         u += 1;
     }
     Passed {
         chains: chains,
         position: i,
     }
-}
-
-pub(crate) fn no_ranks() -> [u16; 1025]
-    ensures { λ r. ⌜ r ≡ noRanks ⌝ }
-{
-    [0; 1025]
-}
-
-pub(crate) fn no_chains() -> [u16; 1024]
-    ensures { λ r. ⌜ r ≡ noChains ⌝ }
-{
-    [0; 1024]
 }
 
 // Refused before the clocks are filled.
@@ -149,7 +139,7 @@ pub(crate) fn fill_rows(
 {
     let rows = events as u16;
     ranks::fill_ranks(recs, all);
-    let mut sizes = no_chains();
+    let mut sizes = crate::no_chains();
     clear_rows(clocks, width, rows);
     let passed = pass(recs, all, clocks, width, &mut sizes, of);
     let position = passed.position;

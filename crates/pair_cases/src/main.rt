@@ -1,6 +1,8 @@
 // Both lists as pair structs, on trace T and two more: the entries by value, and spaces just enough and one short.
 // Each line has the trace, the list, its width and number space, the answer, the four pairs, and the first ten numbers.
-use pair_lists::Few;
+mod four;
+
+use four::Few;
 use pair_lists::Pair;
 use races::Listing;
 use trace::Refusal;
@@ -298,9 +300,9 @@ fn few(
     numbers: &mut [u16],
 ) -> Few {
     if short {
-        return pair_lists::short_list_few(bytes, width, clocks, work, numbers);
+        return four::short_list_few(bytes, width, clocks, work, numbers);
     }
-    pair_lists::all_races_few(bytes, width, clocks, work, numbers)
+    four::all_races_few(bytes, width, clocks, work, numbers)
 }
 
 fn case(name: &[u8], bytes: &[u8], short: bool, width: usize, numbers: &mut [u16]) {

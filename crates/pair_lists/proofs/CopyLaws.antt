@@ -19,7 +19,7 @@ use Rattle.races.specs.Lists.{pairsOf, entry, numbers, ListReply, refused, list
 use Rattle.races.specs.Paper.{listPaper, Lists}
 use Rattle.pair_lists.specs.declared.Pair.{Pair}
 use Rattle.pair_lists.specs.declared.Made.{Made}
-use Rattle.pair_lists.specs.Pairs.{operation, var, pairOf, space, pairsAfter, pairsAfterRead, numbersAfterRead, PairLists}
+use Rattle.pair_lists.specs.Pairs.{noPair, pairOf, space, pairsAfter, pairsAfterRead, numbersAfterRead, PairLists}
 use Rattle.pair_lists.specs.Copying.{countIn, Within, pairAt, puts}
 
 -- ---- the count of a reply, and how it stands to the list and to the space
@@ -54,25 +54,22 @@ module _ (short : Bool) (tr : List Record) (events width clocks work list : ℕ)
   fine-trace = fine-demand pairs-of list _ 21 0 _ (λ _. fine-demand pairs-of list _ 22 0 _ (λ _. fine-demand pairs-of list _ 23 _ _ (λ _. fine-filled)))
 
 -- ---- the pairs are set, place by place
-zero-pair : Pair
-zero-pair = record { first = operation 0; second = operation 0; cell = var 0; shape = 0; mark = 0 }
-
-puts-taken : (ps qs : List Pair) (l : List ℕ) → ((i : ℕ) → i < length qs → pairAt l i ≡ getD qs i zero-pair) → (n : ℕ) → n ≤ length qs → n ≤ length ps → puts ps l n ≡ take n qs ++ drop n ps
+puts-taken : (ps qs : List Pair) (l : List ℕ) → ((i : ℕ) → i < length qs → pairAt l i ≡ getD qs i noPair) → (n : ℕ) → n ≤ length qs → n ≤ length ps → puts ps l n ≡ take n qs ++ drop n ps
 puts-taken ps qs l says zero a b = refl
 puts-taken ps qs l says (suc n) a b =
     let a′ : n ≤ length qs = omega arith in
     let b′ : n ≤ length ps = omega arith in
     let p : n < length qs = omega arith in
     let q : n < length ps = omega arith in
-    ap (λ (xs : List Pair). set xs n (pairAt l n)) (puts-taken ps qs l says n a′ b′ ∙ ap (λ (ys : List Pair). take n qs ++ ys) (drop-cons ps n zero-pair q))
-    ∙ set-at (take n qs) (getD ps n zero-pair) (drop (suc n) ps) (pairAt l n) n (length-take-le n qs a′)
+    ap (λ (xs : List Pair). set xs n (pairAt l n)) (puts-taken ps qs l says n a′ b′ ∙ ap (λ (ys : List Pair). take n qs ++ ys) (drop-cons ps n noPair q))
+    ∙ set-at (take n qs) (getD ps n noPair) (drop (suc n) ps) (pairAt l n) n (length-take-le n qs a′)
     ∙ ap (λ (x : Pair). take n qs ++ x ∷ drop (suc n) ps) (says n p)
-    ∙ sym (append-snoc (take n qs) (getD qs n zero-pair) (drop (suc n) ps))
-    ∙ ap (λ (xs : List Pair). xs ++ drop (suc n) ps) (sym (take-suc qs n zero-pair p))
+    ∙ sym (append-snoc (take n qs) (getD qs n noPair) (drop (suc n) ps))
+    ∙ ap (λ (xs : List Pair). xs ++ drop (suc n) ps) (sym (take-suc qs n noPair p))
 
 module _ (tr : List Record) (rest : List ℕ) where
   -- five numbers of the list say one pair
-  entry-says : (ps : List (ℕ × ℕ)) (i : ℕ) → i < length (map (pairOf tr) ps) → pairAt (numbers tr ps ++ rest) i ≡ getD (map (pairOf tr) ps) i zero-pair
+  pub entry-says : (ps : List (ℕ × ℕ)) (i : ℕ) → i < length (map (pairOf tr) ps) → pairAt (numbers tr ps ++ rest) i ≡ getD (map (pairOf tr) ps) i noPair
   unfolding numbers entry pairOf
   entry-says [] i h = absurd (not-suc-le-zero h)
   entry-says ((a, b) ∷ ps) zero h = refl

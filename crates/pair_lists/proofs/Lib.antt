@@ -1,5 +1,5 @@
 pub mod Again
 pub mod CopyLaws
-pub mod Four
 pub mod Parts
 pub mod Passed
+pub mod ThirdDemand

@@ -3,10 +3,10 @@ use Prim.Native.Nat.{ℕ, _+_, _*_, min}
 use mathlib.Core.Path.{_≡_}
 use mathlib.Core.Bool.{Bool}
 use mathlib.Core.List.{List, _++_, map}
-use lib.ListN.{length, drop, replicate}
+use lib.ListN.{length, drop}
 use Rattle.records.specs.declared.Record.{Record}
-use Rattle.trace.specs.declared.Operation.{Operation}
-use Rattle.trace.specs.declared.Var.{Var}
+use Rattle.records.specs.declared.Operation.{Operation}
+use Rattle.records.specs.declared.Var.{Var}
 use Rattle.records.specs.Records.{at}
 use Rattle.trace.specs.Reading as reading
 use Rattle.trace.specs.Reading.{Reply, recordsIn, readReply}
@@ -46,13 +46,14 @@ numbersAfterRead short b (reading.accepted start n m) width clocks work list num
     listAfter (recordsIn b start n) (listTrace short (recordsIn b start n) m width clocks work list) (pairsOf (recordsIn b start n) short) numbers
 
 -- a list, short or of all races: the answer, the lent clocks, work space and numbers, and the lent pairs
-pub record PairLists (short : Bool) (b : List ℕ) (width : ℕ) (clocks clocks′ work work′ numbers numbers′ : List ℕ) (pairs pairs′ : List Pair) (r : Listing) : Type 0 where
+pub record PairLists (short : Bool) (b : List ℕ) (width : ℕ) (clocks clocks′ work work′ numbers numbers′ : List ℕ) (pairs pairs′ : List Pair)
+    (r : Listing) : Type 0 where
   pub answer : listPaper r ≡ listReply short b width (length clocks) (length work) (space (length numbers) (length pairs))
   pub clocks-after : clocks′ ≡ clocksRead b (readReply b) width (length work) clocks
   pub work-after : work′ ≡ workRead b (readReply b) width (length clocks) work
   pub numbers-after : numbers′ ≡ numbersAfterRead short b (readReply b) width (length clocks) (length work) (space (length numbers) (length pairs)) numbers
   pub pairs-after : pairs′ ≡ pairsAfterRead short b (readReply b) width (length clocks) (length work) (space (length numbers) (length pairs)) pairs
 
--- four pairs of zeros
-abbrev pub noPairs : List Pair
-noPairs = replicate 4 (record { first = operation 0; second = operation 0; cell = var 0; shape = 0; mark = 0 })
+-- a pair of zeros
+abbrev pub noPair : Pair
+noPair = record { first = operation 0; second = operation 0; cell = var 0; shape = 0; mark = 0 }

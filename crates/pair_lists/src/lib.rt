@@ -1,13 +1,13 @@
 // Both lists as pair structs, written into a lent slice: the lists over numbers, and a copy of their entries. Thin: all decisions are made over numbers.
 use races::Listing;
-use trace::Operation;
-use trace::Var;
+use records::Operation;
+use records::Var;
 ghost use mathlib.Core.Path.{_≡_};
 ghost use mathlib.Core.Bool.{true, false};
 ghost use Prim.Native.Nat.{_+_, _*_, _≤_};
 ghost use lib.ListN.{length};
 ghost use Rattle.races.specs.Paper.{Lists};
-ghost use Rattle.pair_lists.specs.Pairs.{space, noPairs, PairLists};
+ghost use Rattle.pair_lists.specs.Pairs.{space, PairLists};
 ghost use Rattle.pair_lists.specs.Copying.{countIn, Within, pairAt, puts};
 
 // An entry of a list: its first and second record, its cell, its shape (1 ww, 2 wr, 3 rw) and its mark (1 open, 0 covered).
@@ -17,12 +17,6 @@ pub struct Pair {
     pub cell: Var,
     pub shape: u16,
     pub mark: u16,
-}
-
-// A list of at most four entries, by value.
-pub struct Few {
-    pub answer: Listing,
-    pub pairs: [Pair; 4],
 }
 
 // What a list over numbers finds, and how many entries it has written.
@@ -58,7 +52,8 @@ fn list_numbers(
     list: &mut [u16],
     short: bool,
 ) -> Listing
-    ensures { λ r. ⌜ Lists short (now (bytes .entry)) width (now (clocks .entry)) (now (clocks .exit)) (now (work .entry)) (now (work .exit)) (now (list .entry)) (now (list .exit)) r ⌝ }
+    ensures { λ r. ⌜ Lists short (now (bytes .entry)) width (now (clocks .entry)) (now (clocks .exit)) (now (work .entry)) (now (work .exit))
+        (now (list .entry)) (now (list .exit)) r ⌝ }
 {
     if short {
         return races::short_list(bytes, width, clocks, work, list);
@@ -76,7 +71,8 @@ fn list_within(
     room: usize,
     short: bool,
 ) -> Made
-    ensures { λ m. ⌜ Within short (now (bytes .entry)) width (now (clocks .entry)) (now (clocks .exit)) (now (work .entry)) (now (work .exit)) (now (numbers .entry)) (now (numbers .exit)) room m ⌝ }
+    ensures { λ m. ⌜ Within short (now (bytes .entry)) width (now (clocks .entry)) (now (clocks .exit)) (now (work .entry)) (now (work .exit))
+        (now (numbers .entry)) (now (numbers .exit)) room m ⌝ }
 {
     let space = space_for(numbers.len(), room);
     let answer = list_numbers(bytes, width, clocks, work, &mut numbers[..space], short);
@@ -123,7 +119,8 @@ fn list_into(
     pairs: &mut [Pair],
     short: bool,
 ) -> Listing
-    ensures { λ r. ⌜ PairLists short (now (bytes .entry)) width (now (clocks .entry)) (now (clocks .exit)) (now (work .entry)) (now (work .exit)) (now (numbers .entry)) (now (numbers .exit)) (now (pairs .entry)) (now (pairs .exit)) r ⌝ }
+    ensures { λ r. ⌜ PairLists short (now (bytes .entry)) width (now (clocks .entry)) (now (clocks .exit)) (now (work .entry)) (now (work .exit))
+        (now (numbers .entry)) (now (numbers .exit)) (now (pairs .entry)) (now (pairs .exit)) r ⌝ }
 {
     let made = list_within(bytes, width, clocks, work, numbers, pairs.len(), short);
     copy_out(pairs, numbers, made.count);
@@ -139,7 +136,8 @@ pub fn all_races_into(
     numbers: &mut [u16],
     pairs: &mut [Pair],
 ) -> Listing
-    ensures { λ r. ⌜ PairLists false (now (bytes .entry)) width (now (clocks .entry)) (now (clocks .exit)) (now (work .entry)) (now (work .exit)) (now (numbers .entry)) (now (numbers .exit)) (now (pairs .entry)) (now (pairs .exit)) r ⌝ }
+    ensures { λ r. ⌜ PairLists false (now (bytes .entry)) width (now (clocks .entry)) (now (clocks .exit)) (now (work .entry)) (now (work .exit))
+        (now (numbers .entry)) (now (numbers .exit)) (now (pairs .entry)) (now (pairs .exit)) r ⌝ }
 {
     list_into(bytes, width, clocks, work, numbers, pairs, false)
 }
@@ -156,52 +154,4 @@ pub fn short_list_into(
     ensures { λ r. ⌜ PairLists true (now (bytes .entry)) width (now (clocks .entry)) (now (clocks .exit)) (now (work .entry)) (now (work .exit)) (now (numbers .entry)) (now (numbers .exit)) (now (pairs .entry)) (now (pairs .exit)) r ⌝ }
 {
     list_into(bytes, width, clocks, work, numbers, pairs, true)
-}
-
-fn no_pairs() -> [Pair; 4]
-    ensures { λ r. ⌜ r ≡ noPairs ⌝ }
-{
-    [Pair {
-        first: Operation(0),
-        second: Operation(0),
-        cell: Var(0),
-        shape: 0,
-        mark: 0,
-    }; 4]
-}
-
-// The list of all races where it has at most four entries, by value: a caller lends no structs, and needs no proof by hand.
-pub fn all_races_few(
-    bytes: &[u8],
-    width: usize,
-    clocks: &mut [u16],
-    work: &mut [u8],
-    numbers: &mut [u16],
-) -> Few
-    ensures { λ r. ⌜ PairLists false (now (bytes .entry)) width (now (clocks .entry)) (now (clocks .exit)) (now (work .entry)) (now (work .exit)) (now (numbers .entry)) (now (numbers .exit)) noPairs (r .pairs) (r .answer) ⌝ }
-{
-    let mut pairs = no_pairs();
-    let answer = all_races_into(bytes, width, clocks, work, numbers, &mut pairs);
-    Few {
-        answer: answer,
-        pairs: pairs,
-    }
-}
-
-// The short list, likewise.
-pub fn short_list_few(
-    bytes: &[u8],
-    width: usize,
-    clocks: &mut [u16],
-    work: &mut [u8],
-    numbers: &mut [u16],
-) -> Few
-    ensures { λ r. ⌜ PairLists true (now (bytes .entry)) width (now (clocks .entry)) (now (clocks .exit)) (now (work .entry)) (now (work .exit)) (now (numbers .entry)) (now (numbers .exit)) noPairs (r .pairs) (r .answer) ⌝ }
-{
-    let mut pairs = no_pairs();
-    let answer = short_list_into(bytes, width, clocks, work, numbers, &mut pairs);
-    Few {
-        answer: answer,
-        pairs: pairs,
-    }
 }

@@ -1,5 +1,5 @@
--- The order question. "The order question takes trace, width and clocks, and compares t's entry at t's chain in both rows. t's chain is taken from the trace. It
--- gives that comparison for any clock contents". Assumes nothing.
+-- The order question. "The order question takes trace, width and clocks, and compares t's entry at t's chain in both rows. t's chain is taken from
+-- the trace. It gives that comparison for any clock contents". Assumes nothing.
 use Prim.Native.Nat.{ℕ, _+_}
 use mathlib.Core.Path.{_≡_}
 use mathlib.Core.Bool.{Bool, true, false, not, _&&_}

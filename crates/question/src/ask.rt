@@ -3,9 +3,9 @@ use crate::Answer;
 use crate::chains::chain_pass;
 use clocks::compare;
 use clocks::has_space;
+use records::EventId;
+use records::Operation;
 use records::access;
-use trace::EventId;
-use trace::Operation;
 use trace::Refusal;
 ghost use mathlib.Core.Path.{_≡_};
 ghost use Rattle.records.specs.Bytes.{decode};
@@ -44,8 +44,8 @@ pub(crate) fn ask(
     ensures { λ r. ⌜ orderPaper r ≡ orderTrace (decode (now (recs .entry))) events width (now (clocks .entry)) (t .0) (u .0) ⌝ }
 {
     let all = ranks::ranks(recs);
-    let first = ranks::rank_of(&all, t.0);
-    let second = ranks::rank_of(&all, u.0);
+    let first = ranks::rank_of(&all, t);
+    let second = ranks::rank_of(&all, u);
     if first == 0 {
         return refused(trace::NOT_IN_TRACE, Operation(0));
     }

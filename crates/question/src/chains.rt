@@ -121,7 +121,8 @@ fn enter_chain(
     c: usize,
 ) -> Taken
     requires { ⌜ (width ≤ 1024) × (u < 1024) × (length (now lasts) ≡ 1024) ⌝ }
-    ensures { λ r. ⌜ AreMembers (enterChain asked width u (record { lasts = now (lasts .entry); chains = taken .chains; own = taken .own }) c) (now (lasts .exit)) (r .chains) (r .own) ⌝ }
+    ensures { λ r. ⌜ AreMembers (enterChain asked width u (record { lasts = now (lasts .entry); chains = taken .chains; own = taken .own }) c)
+        (now (lasts .exit)) (r .chains) (r .own) ⌝ }
 {
     if width <= c {
         return Taken {
@@ -154,8 +155,11 @@ fn turn(
     asked: usize,
     width: usize,
 ) -> Taken
-    requires { ⌜ (width ≤ 1024) × (length (now marks) ≡ 1024) × RoomFor (saidBy (now ranks) (decode (now recs)) i) (record { lasts = now lasts; chains = taken .chains; own = taken .own }) ⌝ }
-    ensures { λ r. ⌜ AreMembers (turnMembers (now (ranks .entry)) (decode (now (recs .entry))) asked width i (saidBy (now (ranks .entry)) (decode (now (recs .entry))) i) (record { lasts = now (lasts .entry); chains = taken .chains; own = taken .own })) (now (lasts .exit)) (r .chains) (r .own) ⌝ }
+    requires { ⌜ (width ≤ 1024) × (length (now marks) ≡ 1024) × RoomFor (saidBy (now ranks) (decode (now recs)) i)
+        (record { lasts = now lasts; chains = taken .chains; own = taken .own }) ⌝ }
+    ensures { λ r. ⌜ AreMembers
+        (turnMembers (now (ranks .entry)) (decode (now (recs .entry))) asked width i (saidBy (now (ranks .entry)) (decode (now (recs .entry))) i)
+        (record { lasts = now (lasts .entry); chains = taken .chains; own = taken .own })) (now (lasts .exit)) (r .chains) (r .own) ⌝ }
 {
     let said = ordering_at(recs, ranks, i);
     match said {

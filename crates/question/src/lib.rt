@@ -2,8 +2,8 @@
 mod ask;
 mod chains;
 
+use records::EventId;
 use records::access;
-use trace::EventId;
 use trace::Reading;
 use trace::Refusal;
 ghost use mathlib.Core.Path.{_≡_};

@@ -26,7 +26,8 @@ use Rattle.coverage.specs.Race.{raceb}
 use Rattle.coverage.specs.Neighbours.{conflicts}
 use Rattle.coverage.proofs.Tests.{decide, both, and, either, or-left, or-right, eq→eqb}
 use Rattle.races.specs.Traces.{isAccess, cellsOf, settingOf}
-use Rattle.races.specs.Candidates.{leastKind, cell, accesses, writes, mayRace, startOf, Upto, lastWrite, Seen, Tables, orderedIn, seenAfter, wayFrom, Past, NextAccess}
+use Rattle.races.specs.Candidates.{cell, accesses, writes, startOf, Upto, lastWrite, Seen, Tables, orderedIn, seenAfter, wayFrom}
+use Rattle.records.specs.Search.{leastKind, mayRace, Past, NextAccess}
 use Rattle.clocks.specs.Rows.{compareIn}
 use Rattle.order.specs.HappensBefore.{rank, happensBefore}
 use Rattle.order.proofs.TraceOrder.{counted, counted-zero, counted-begin, counted-other, ranked, record-begins, begins-rank}
@@ -312,34 +313,6 @@ module _ {tr : List Record} {ranks of : List ℕ} {width : ℕ} {clocks : List �
           record { tells = λ x m k s. laws (f .acceptable) .le-trans _ _ _ (t .tells x m k s) h }
 
 -- From i on past records that may not race with an access of cell c.
-module _ (tr : List Record) (least c : ℕ) where
-  pub past-none : (i : ℕ) → Past tr least c i i
-  past-none i = record { low = omega arith; none = λ x l k t. omega arith }
-
-  pub past-more : {i r q : ℕ} → q ≡ r + 1 → Past tr least c i r → mayRace tr least c r ≡ false → Past tr least c i q
-  past-more {i} {r} e w n = rw (e, add-one r) (record { low = omega (arith, w .low); none = λ x l k t. go x l (near tr k) t })
-    where
-      go : (x : ℕ) → i ≤ x → (x ≡ r) ⊎ (x < r) → T (mayRace tr least c x) → ⊥
-      go x l (inl e) t = subst T n (subst (λ (y : ℕ). T (mayRace tr least c y)) e t)
-      go x l (inr k) t = w .none x l k t
-
-  pub past-on : {i j r : ℕ} → Past tr least c i j → Past tr least c j r → Past tr least c i r
-  past-on {i} {j} {r} v w = record { low = omega (arith, v .low, w .low); none = λ x l k t. go x l k (lt-or-ge x j) t }
-    where
-      go : (x : ℕ) → i ≤ x → x < r → (x < j) ⊎ (j ≤ x) → T (mayRace tr least c x) → ⊥
-      go x l k (inl m) t = v .none x l m t
-      go x l k (inr m) t = w .none x m k t
-
-  pub next-here : {from to r q : ℕ} → q ≡ r → r ≤ to → Past tr least c from r → mayRace tr least c q ≡ true → NextAccess tr least c from to r
-  next-here {from} {to} {r} e h w t = record { high = h; past = w; found = λ l. subst (λ (x : ℕ). T (mayRace tr least c x)) e (subst T (sym t) tt) }
-
-  pub next-none : {from to r : ℕ} → r ≡ to → Past tr least c from r → NextAccess tr least c from to r
-  next-none e w = record { high = omega arith; past = w; found = λ l. absurd (omega arith) }
-
-  pub next-on : {from i to end r : ℕ} → Past tr least c from i → NextAccess tr least c i end r → end ≤ to → (r ≡ end → end ≡ to) → NextAccess tr least c from to r
-  next-on {from} {i} {to} {end} {r} v w l q =
-      let h = w .high in
-      record { high = omega arith; past = past-on v (w .past); found = λ k. w .found (let g : r ≡ end → ⊥ = λ (e : r ≡ end). let z = q e in omega arith in omega (arith, g)) }
 
 -- what races with b is such a record
 pub race-may : (tr : List Record) (a b : ℕ) (least : ℕ) → least ≡ leastKind (at tr b .kind) → T (raceb (settingOf tr) a b) → T (mayRace tr least (cell tr b) a)

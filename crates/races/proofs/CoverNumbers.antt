@@ -1,14 +1,13 @@
 -- The event actions of an acceptable trace, numbered in order of begin: the theory of cover clocks holds of them, over the chains and links of
 -- the order question. Assumes nothing.
-use Prim.Native.Nat.{ℕ, zero, suc, _-_, _≤_, _<_}
+use Prim.Native.Nat.{ℕ, suc, _-_, _≤_, _<_}
 use mathlib.Core.Path.{_≡_, refl, sym, ap, _∙_, subst}
 use mathlib.Core.Logic.{_↔_}
 use mathlib.Core.Bool.{Bool, _&&_}
 use mathlib.Core.List.{List, map, List·Memᴰ}
 use native.Mathlib.Omega.{arith}
 use native.Mathlib.Nat.{suc-inj}
-use native.Mathlib.Decide.{ℕ-discrete}
-use lib.Dec.{T, leb, leb→le, le→leb}
+use lib.Dec.{T}
 use lib.ListN.{length}
 use Rattle.records.specs.declared.Record.{Record}
 use Rattle.records.specs.Records.{at}
@@ -27,77 +26,28 @@ use Rattle.coverage.proofs.Pairs.{in-short}
 use Rattle.coverage.proofs.WholeSteps.{links-direct}
 use Rattle.coverage.proofs.WholeEdges.{taken-test-edges}
 use Rattle.order.specs.Links.{leq}
-use Rattle.order.specs.Chains.{first}
 use Rattle.order.specs.Clocks.{chainOf, entry}
 use Rattle.order.specs.HappensBefore.{Link, rank, traceLinks, happensBefore}
 use Rattle.order.specs.Numbering.{Numbered, InOrder, Preds, Firsts, clockRow, coverRow}
 use Rattle.order.specs.Raising.{rowAfter, rowBefore, startOf, Seconds, recordsFrom}
-use Rattle.order.proofs.CountLaws.{First, first-first}
 use Rattle.order.proofs.OrderLaws.{≼→leq, leq→≼}
 use Rattle.order.proofs.ClockLaws.{chain-≼, clock}
 use Rattle.order.proofs.SetLaws.{row-same, row-count}
 use Rattle.order.proofs.CoverRows.{race-earlier}
 use Rattle.order.proofs.RaisingLaws.{all-seconds, in-seconds, raised, marked}
-use Rattle.order.proofs.TraceOrder.{counted, counted-begin, counted-zero, counted-other, counted-more, counted-passes, ranked, record-begins, begins-rank, begins-at, forward-links, rank-one, link-ranked, linked-named, up, down, happens-before, before-happens}
+use Rattle.order.proofs.TraceOrder.{counted, counted-more, counted-passes, record-begins, begins-rank, begins-at, forward-links, rank-one, link-ranked, linked-named, up, down, happens-before, before-happens}
+pub use Rattle.order.proofs.EventRows.{events, nameOf, named}
+use Rattle.order.proofs.EventRows.{beginOf, begun}
 use Rattle.races.specs.Traces.{settingOf, cellsOf}
 use Rattle.races.proofs.Instance.{laws, links, go-on}
 
-module _ (tr : List Record) where
-  -- how many begin
-  abbrev pub events : ℕ
-  events = counted tr (length tr)
-
-  -- where event action r begins: the first record up to which more than r begin; its event
-  pub beginOf : ℕ → ℕ
-  beginOf r = first (λ i. leb (suc r) (counted tr (suc i))) (length tr)
-
-  abbrev pub nameOf : ℕ → ℕ
-  nameOf r = at tr (beginOf r) .first
-
-  record Begun (r i : ℕ) : Type 0 where
-    inside : i < length tr
-    kind : at tr i .kind ≡ 1
-    number : counted tr i ≡ r
-
-  begun : (r : ℕ) → r < events → Begun r (beginOf r)
-  unfolding beginOf
-  begun r h = record { inside = inside; kind = kind (ℕ-discrete (at tr i .kind) 1); number = number (ℕ-discrete (at tr i .kind) 1) }
-    where
-      i : ℕ
-      i = first (λ i. leb (suc r) (counted tr (suc i))) (length tr)
-
-      f : First (λ i. leb (suc r) (counted tr (suc i))) 0 (length tr) i
-      f = first-first (λ i. leb (suc r) (counted tr (suc i))) (length tr)
-
-      -- before place k, at most r begin
-      few : (k : ℕ) → k ≤ i → counted tr k ≤ r
-      few zero a = omega (arith, counted-zero tr)
-      few (suc k) a = let g : suc r ≤ counted tr (suc k) → ⊥ = λ x. f .none k (omega arith) (omega arith) (le→leb (suc r) (counted tr (suc k)) x) in omega (arith, g)
-
-      inside : i < length tr
-      inside = let g : i ≡ length tr → ⊥ = λ (e : i ≡ length tr). let k = few (length tr) (omega arith) in omega arith in omega (arith, g, f .to)
-
-      many : r < counted tr (suc i)
-      many = leb→le (suc r) (counted tr (suc i)) (f .passes inside)
-
-      kind : Dec (at tr i .kind ≡ 1) → at tr i .kind ≡ 1
-      kind (yes k) = k
-      kind (no n) = absurd (omega (arith, many, few i (omega arith), counted-other tr i n))
-
-      number : Dec (at tr i .kind ≡ 1) → counted tr i ≡ r
-      number (yes k) = omega (arith, many, few i (omega arith), counted-begin tr i k)
-      number (no n) = absurd (omega (arith, many, few i (omega arith), counted-other tr i n))
-
 module _ {tr : List Record} (a : Acceptable tr) where
-  pub named : (r : ℕ) → r < events tr → rank tr (nameOf tr r) ≡ suc r
-  named r h = let b = begun tr r h in ranked a (beginOf tr r) (b .inside) (b .kind) ∙ omega (arith, b .number)
-
   pub numbered : Numbered (settingOf tr) (events tr) (nameOf tr)
   numbered = record {
     place = beginOf tr;
     inside = λ r h. begun tr r h .inside;
     at = λ r h. refl;
-    distinct = λ r s h k e. suc-inj (sym (named r h) ∙ ap (rank tr) e ∙ named s k);
+    distinct = λ r s h k e. suc-inj (sym (named a r h) ∙ ap (rank tr) e ∙ named a s k);
     rising = rising;
   }
     where
@@ -110,12 +60,12 @@ module _ {tr : List Record} (a : Acceptable tr) where
 
   -- happens-before by number
   pub by-number : (s r : ℕ) → s < events tr → r < events tr → T (leq (traceLinks tr) s r) ↔ T (happensBefore tr (nameOf tr s) (nameOf tr r))
-  by-number s r h k = (λ x. happens-before a _ _ (down a (nameOf tr s) (nameOf tr r) (named s h) (named r k) (leq→≼ (traceLinks tr) (forward-links a) s r x)), back)
+  by-number s r h k = (λ x. happens-before a _ _ (down a (nameOf tr s) (nameOf tr r) (named a s h) (named a r k) (leq→≼ (traceLinks tr) (forward-links a) s r x)), back)
     where
       back : T (happensBefore tr (nameOf tr s) (nameOf tr r)) → T (leq (traceLinks tr) s r)
       back x =
-          let (q, e, y) = up a s (named s h) (before-happens a (nameOf tr s) (nameOf tr r) x) in
-          let z : q ≡ r = suc-inj (sym e ∙ named r k) in
+          let (q, e, y) = up a s (named a s h) (before-happens a (nameOf tr s) (nameOf tr r) x) in
+          let z : q ≡ r = suc-inj (sym e ∙ named a r k) in
           ≼→leq (traceLinks tr) (forward-links a) (rw z at y)
 
   pub in-order : InOrder (settingOf tr) (events tr) (nameOf tr) (chainOf (traceLinks tr))
@@ -127,16 +77,16 @@ module _ {tr : List Record} (a : Acceptable tr) where
       linked : (p : ℕ) → List·Memᴰ p (traceLinks tr .preds u) → Link tr (nameOf tr p) (nameOf tr u)
       linked p k =
           let n = linked-named a p u k in
-          let x : n .from-event ≡ nameOf tr p = rank-one a (n .from-event) (nameOf tr p) p (n .from-rank) (named p (omega (arith, forward-links a u p k))) in
-          let y : n .to-event ≡ nameOf tr u = rank-one a (n .to-event) (nameOf tr u) u (n .to-rank) (named u h) in
+          let x : n .from-event ≡ nameOf tr p = rank-one a (n .from-event) (nameOf tr p) p (n .from-rank) (named a p (omega (arith, forward-links a u p k))) in
+          let y : n .to-event ≡ nameOf tr u = rank-one a (n .to-event) (nameOf tr u) u (n .to-rank) (named a u h) in
           subst (Link tr (nameOf tr p)) y (subst (λ (z : ℕ). Link tr z (n .to-event)) x (n .linked))
 
       all : (x : ℕ) → Link tr x (nameOf tr u) → (p : ℕ) × (List·Memᴰ p (traceLinks tr .preds u)) × (nameOf tr p ≡ x)
       all x k =
           let g = link-ranked a k in
-          let e : g .to ≡ u = suc-inj (sym (g .to-rank) ∙ named u h) in
+          let e : g .to ≡ u = suc-inj (sym (g .to-rank) ∙ named a u h) in
           let m = subst (λ (z : ℕ). List·Memᴰ (g .from) (traceLinks tr .preds z)) e (g .linked) in
-          (g .from, m, rank-one a (nameOf tr (g .from)) x (g .from) (named (g .from) (omega (arith, forward-links a u (g .from) m))) (g .from-rank))
+          (g .from, m, rank-one a (nameOf tr (g .from)) x (g .from) (named a (g .from) (omega (arith, forward-links a u (g .from) m))) (g .from-rank))
 
   pub direct : Direct (settingOf tr) (Link tr)
   direct = links-direct (settingOf tr) (laws a) (Link tr) (links a) (go-on a)

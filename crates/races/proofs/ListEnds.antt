@@ -6,6 +6,7 @@ use mathlib.Core.Logic.{_≢_}
 use mathlib.Core.Bool.{Bool, true, false}
 use mathlib.Core.List.{List, [], _∷_, _++_}
 use native.Mathlib.Omega.{arith}
+use native.Mathlib.Nat.{mul-le-mul}
 use borrow.Author.Tests.{le-leb, lt-leb}
 use lib.Dec.{leb, eqb}
 use lib.ListN.{length, drop, replicate}
@@ -26,13 +27,13 @@ use Rattle.order.proofs.PrepareLaws.{none-asked, refused-reply, refused-trace, 
 use Rattle.races.specs.declared.Listing.{Listing}
 use Rattle.races.specs.Lists.{pairsOf, numbers, ListReply, refused, listed, demand, listFilled, listTrace, listRead, listReply, listAfter, clocksRead, workRead, listAfterRead}
 use Rattle.races.specs.Paper.{listPaper, Lists, ListsFilled}
-use Rattle.races.specs.ListPass.{pairsBelow, raws, WritesAll, Counts, ListsAll}
+use Rattle.races.specs.ListPass.{pairsBelow, raws, WritesAll, Ample, Counts, ListsAll}
 use Rattle.races.specs.Raising.{Unmarked, MarksList}
 use Rattle.races.proofs.EntryStores.{raws-length}
 use Rattle.races.specs.Filled.{Filled}
 use Rattle.races.specs.Traces.{cellsOf, settingOf}
 use Rattle.coverage.proofs.Total.{short-total}
-use Rattle.races.proofs.ListLaws.{pairs-below}
+use Rattle.races.proofs.ListLaws.{pairs-below, below-few}
 use Rattle.races.proofs.DemandLaws.{numbers-length}
 use Rattle.races.proofs.PreparedLaws.{after-clocks, after-work, passed, filled-whole, events-are}
 
@@ -68,21 +69,29 @@ pub nonzero : (n : ℕ) → n ≢ 0 → 0 < n
 nonzero zero h = absurd (h refl)
 nonzero (suc n) h = omega arith
 
+pub not-both : (b : Bool) → b ≡ true → b ≡ false → ⊥
+not-both b t f = let z : true ≡ false = sym t ∙ f in let o : _≡_ {A = ℕ} 0 1 = cc in omega arith
+
 -- counted, or known to be few
 module _ (tr : List Record) (short : Bool) (space : ℕ) where
   pub counts-all : {list list′ : List ℕ} {r : ℕ} → WritesAll false tr short list list′ r → Counts tr short space r
   counts-all w = let c = w .count in record { fits = λ l. omega arith; long = λ l. omega arith; none = λ z. omega arith }
 
-  pub counts-few : short ≡ true → 0 < length tr → 2 * length tr ≤ space / 5 → Counts tr short space 1
+  pub counts-few : 1 < length tr → Ample short (length tr) (space / 5) → Counts tr short space 1
   unfolding pairsOf
-  counts-few e n l = record {
-    fits = λ k. few;
-    long = λ k. absurd (omega arith);
+  counts-few n a = record {
+    fits = λ k. few short refl;
+    long = λ k. absurd (some short refl k);
     none = λ z. absurd (omega arith);
   }
     where
-      few : length (pairsBelow tr short (length tr)) ≤ space / 5
-      few = rw (e, pairs-below tr true) (omega (arith, short-total (settingOf tr) (cellsOf tr)))
+      few : (s : Bool) → short ≡ s → length (pairsBelow tr short (length tr)) ≤ space / 5
+      few true e = rw (e, pairs-below tr true) (omega (arith, a .for-short e, short-total (settingOf tr) (cellsOf tr)))
+      few false e = omega (arith, a .for-all e, below-few tr short (length tr))
+
+      some : (s : Bool) → short ≡ s → space / 5 < 1 → ⊥
+      some true e k = omega (arith, a .for-short e)
+      some false e k = let two : 2 ≤ length tr = omega arith in omega (arith, a .for-all e, mul-le-mul two two)
 
 -- All entries are written, and then marked.
 module _ (tr : List Record) (short : Bool) (list : List ℕ) (room : 5 * length (pairsBelow tr short (length tr)) ≤ length list) {list₁ : List ℕ} {found : ℕ} (w : WritesAll true tr short list list₁ found) where

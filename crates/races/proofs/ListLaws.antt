@@ -1,11 +1,12 @@
 -- The lists, second access by second access.
 -- Assumes nothing.
-use Prim.Native.Nat.{ℕ, zero, suc, _+_, _-_, _≤_, _<_}
+use Prim.Native.Nat.{ℕ, zero, suc, _+_, _*_, _-_, _≤_, _<_}
 use mathlib.Core.Path.{_≡_, refl, sym, ap, ap₂, _∙_, subst}
 use mathlib.Core.Bool.{Bool, true, false, not, cond, _&&_, _||_}
 use mathlib.Core.List.{List, [], _∷_, _++_, map}
 use mathlib.Core.Logic.{_⊎_, inl, inr}
 use native.Mathlib.Omega.{arith}
+use native.Mathlib.Nat.{suc-mul, mul-comm}
 use native.Mathlib.Numerals.{add-one}
 use native.Mathlib.Decide.{ℕ-discrete}
 use borrow.Author.Tests.{eq-eqb, le-leb, lt-ltb}
@@ -24,7 +25,8 @@ use Rattle.coverage.proofs.Tests.{same as equal-tests}
 use Rattle.coverage.proofs.Lists.{upto-ext, upto-zero, upto-yes, upto-no, upto-empty}
 use Rattle.races.specs.Traces.{isAccess, cellsOf, settingOf, conflict}
 use Rattle.races.specs.Lists.{pairsOf}
-use Rattle.races.specs.Candidates.{leastKind, cell, accesses, writes, mayRace, Upto, lastWrite, wayFrom, wayTo}
+use Rattle.races.specs.Candidates.{cell, accesses, writes, Upto, lastWrite, wayFrom, wayTo}
+use Rattle.records.specs.Search.{leastKind, mayRace}
 use Rattle.races.specs.ListPass.{fromOf, firsts, withSecond, pairsBelow, Ranges, OneRoom}
 use Rattle.races.specs.Filled.{RowsIn}
 use Rattle.coverage.proofs.Order.{race-of, race-not-le}
@@ -253,6 +255,13 @@ module _ (tr : List Record) where
   pub below-none : (short : Bool) → pairsBelow tr short 0 ≡ []
   unfolding pairsBelow
   below-none short = refl
+
+  -- one for each pair of records at most
+  pub below-few : (short : Bool) (n : ℕ) → 2 * length (pairsBelow tr short n) ≤ n * n
+  below-few short zero = omega (arith, ap length (below-none short))
+  below-few short (suc b) =
+      let e : b + 1 ≡ suc b = omega arith in
+      omega (arith, rw e at (below-length short b), firsts-length (fromOf tr short b) b b, below-few short b, suc-mul b (suc b), mul-comm b (suc b), suc-mul b b)
 
   -- one first access more
   upto-mono : (m d : ℕ) (p : ℕ → Bool) → length (upto m p) ≤ length (upto (m + d) p)

@@ -48,7 +48,7 @@ module _ {tr : List Record} {ranks of : List ℕ} {w : ℕ} {clocks₀ list₀ :
   pub record Before (k row position chains : ℕ) (clocks : List ℕ) : Type 0 where
     pub upto : ℕ
     pub split : Split tr (un .short) k upto
-    pub raises : Raises f (un .short) upto (record { row = row; position = position; chains = chains; clocks = clocks; noted = [] })
+    pub raises : Raises f (un .short) upto (record { row = row; position = position; chains = chains; clocks = clocks })
     pub behind : (d : ℕ) → upto ≤ d → d < length tr → row ≤ number tr d
 
   pub record Marking (k row position chains : ℕ) (clocks list : List ℕ) : Type 0 where
@@ -89,7 +89,7 @@ module _ {tr : List Record} {ranks of : List ℕ} {w : ℕ} {clocks₀ list₀ :
     within = omega arith;
     remarked = remarked-none tr 0 list₀;
     left = left-start;
-    before = λ h. record { upto = 0; split = split-start tr (un .short); raises = raises-start f (un .short) (omega (arith, race-at 0 h .inside)) []; behind = λ d k l. omega arith };
+    before = λ h. record { upto = 0; split = split-start tr (un .short); raises = raises-start f (un .short) (omega (arith, race-at 0 h .inside)); behind = λ d k l. omega arith };
   }
 
   -- the row of a record, by the ranks
@@ -127,7 +127,7 @@ module _ {tr : List Record} {ranks of : List ℕ} {w : ℕ} {clocks₀ list₀ :
   pub record Arrived (k u position chains : ℕ) (clocks : List ℕ) : Type 0 where
     pub upto : ℕ
     pub split : Split tr (un .short) k upto
-    pub raises : Raises f (un .short) upto (record { row = u; position = position; chains = chains; clocks = clocks; noted = [] })
+    pub raises : Raises f (un .short) upto (record { row = u; position = position; chains = chains; clocks = clocks })
     pub row-is : number tr (secondAt tr (un .short) k) ≡ u
 
   module _ {k row position chains : ℕ} {clocks list : List ℕ} (g : Marking k row position chains clocks list) (h : k < count) where
@@ -164,12 +164,12 @@ module _ {tr : List Record} {ranks of : List ℕ} {w : ℕ} {clocks₀ list₀ :
 
       pub arrived : {row′ position′ chains′ : ℕ} {clocks′ : List ℕ} → Went tr ranks of w row position chains clocks u row′ position′ chains′ clocks′ → (row′ ≡ u) × Arrived k u position′ chains′ clocks′
       arrived {row′} {position′} {chains′} {clocks′} v =
-          let s : Place = record { row = row; position = position; chains = chains; clocks = clocks; noted = v .noted } in
+          let s : Place = record { row = row; position = position; chains = chains; clocks = clocks } in
           let r = p .raises in
           let (x, y) = raises-goes f (un .short) (u - row) s (record { rows = r .rows; standing = r .standing; clocks-are = r .clocks-are; chains-are = r .chains-are }) none (omega (arith, reached, known)) in
           let q : row′ ≡ u = sym (ap (λ (z : Place). z .row) (v .goes-on)) ∙ y ∙ omega (arith, reached) in
           let t = rw (v .goes-on) at x in
-          (q, record { upto = p .upto; split = p .split; raises = subst (λ (z : ℕ). Raises f (un .short) (p .upto) (record { row = z; position = position′; chains = chains′; clocks = clocks′; noted = [] })) q (record { rows = t .rows; standing = t .standing; clocks-are = t .clocks-are; chains-are = t .chains-are }); row-is = row-is })
+          (q, record { upto = p .upto; split = p .split; raises = subst (λ (z : ℕ). Raises f (un .short) (p .upto) (record { row = z; position = position′; chains = chains′; clocks = clocks′ })) q (record { rows = t .rows; standing = t .standing; clocks-are = t .clocks-are; chains-are = t .chains-are }); row-is = row-is })
         where
           none : (v : ℕ) → row ≤ v → v < row + (u - row) → NoEdge (f .acceptable) (edge tr (un .short)) (list-edges tr (un .short) (f .acceptable)) v (p .upto)
           none v x y c d t n l =

@@ -51,9 +51,9 @@ module _ {tr : List Record} {ranks of : List ℕ} {w : ℕ} {clocks₀ : List �
     pub clocks-are : s .clocks ≡ flat w (begins (opAt tr) (length tr)) rows ++ f .rest
     pub chains-are : s .chains ≡ used (leq (traceLinks tr)) (suc (s .row))
 
-  pub raises-start : 0 < length tr → (noted : List ℕ) → Raises 0 (record { row = 0; position = 0; chains = 1; clocks = clocks₀; noted = noted })
+  pub raises-start : 0 < length tr → Raises 0 (record { row = 0; position = 0; chains = 1; clocks = clocks₀ })
   unfolding traceClocks clocksOf eventsIn
-  raises-start h noted =
+  raises-start h =
       let a = f .acceptable in
       let b = first-begins a h in
       let l = along-start (opAt tr) (entry (traceLinks tr)) (final tr) (entry (traceLinks tr)) (λ u c. refl) in
@@ -97,21 +97,21 @@ module _ {tr : List Record} {ranks of : List ℕ} {w : ℕ} {clocks₀ : List �
         coming = λ u c k. z .coming u c (omega (arith, b));
       }
 
-      v : Arrives (opAt tr) (length tr) (entry (traceLinks tr)) (final tr) w (f .rest) (suc (s .position)) (s .noted) (walkFrom tr ranks w (s .chains) (s .position + 1) (s .clocks) (s .noted))
-      v = trace-walk a ranks (f .ranks-are) (entry (traceLinks tr)) (final tr) w (s .chains) (f .rest) (f .narrow) i (r .rows) (s .clocks) (s .noted) (z .inside) (r .clocks-are) along (λ p c k q o. final-short tr p c (s .chains) (omega (arith, r .chains-are, used-mono (leq (traceLinks tr)) (suc p) (suc t) (omega (arith, b)))) o)
+      v : Arrives (opAt tr) (length tr) (entry (traceLinks tr)) (final tr) w (f .rest) (suc (s .position)) (walkFrom tr ranks w (s .chains) (s .position + 1) (s .clocks))
+      v = trace-walk a ranks (f .ranks-are) (entry (traceLinks tr)) (final tr) w (s .chains) (f .rest) (f .narrow) i (r .rows) (s .clocks) (z .inside) (r .clocks-are) along (λ p c k q o. final-short tr p c (s .chains) (omega (arith, r .chains-are, used-mono (leq (traceLinks tr)) (suc p) (suc t) (omega (arith, b)))) o)
 
       j : ℕ
-      j = walkFrom tr ranks w (s .chains) (s .position + 1) (s .clocks) (s .noted) .position
+      j = walkFrom tr ranks w (s .chains) (s .position + 1) (s .clocks) .position
 
-      begun : begins (opAt tr) (walkFrom tr ranks w (s .chains) (s .position + 1) (s .clocks) (s .noted) .position) ≡ suc (s .row)
+      begun : begins (opAt tr) (walkFrom tr ranks w (s .chains) (s .position + 1) (s .clocks) .position) ≡ suc (s .row)
       begun = v .none-begun ∙ b
 
-      inside : walkFrom tr ranks w (s .chains) (s .position + 1) (s .clocks) (s .noted) .position < length tr
+      inside : walkFrom tr ranks w (s .chains) (s .position + 1) (s .clocks) .position < length tr
       inside =
           let g : j ≡ length tr → ⊥ = λ (e : j ≡ length tr). omega (arith, events-are a, begun, ap (begins (opAt tr)) e) in
           omega (arith, g, v .inside)
 
-      begins-it : opAt tr (walkFrom tr ranks w (s .chains) (s .position + 1) (s .clocks) (s .noted) .position) ≡ begin (suc (s .row))
+      begins-it : opAt tr (walkFrom tr ranks w (s .chains) (s .position + 1) (s .clocks) .position) ≡ begin (suc (s .row))
       begins-it = v .at-begin inside ∙ ap begin b
 
       more : max (s .chains) (getD of (s .row + 1) 0 + 1) ≡ used (leq (traceLinks tr)) (suc (s .row + 1))

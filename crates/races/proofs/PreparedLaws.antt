@@ -9,6 +9,8 @@ use lib.Dec.{leb, eqb}
 use lib.ListN.{length, drop, replicate}
 use Rattle.records.specs.declared.Record.{Record}
 use Rattle.records.specs.declared.Trace.{Trace}
+use Rattle.records.specs.Marks.{cleared}
+use Rattle.records.proofs.MarkLaws.{cleared-within}
 use Rattle.trace.specs.Reading as reading
 use Rattle.trace.specs.Reading.{Reply, recordsIn, readReply}
 use Rattle.trace.proofs.Accepted.{accepts}
@@ -22,7 +24,7 @@ use Rattle.order.proofs.SpaceLaws.{has-room, cleared-length}
 use Rattle.order.proofs.SpaceLaws.{cleared as cleared-zeros}
 use Rattle.order.proofs.PrepareLaws.{refused-trace, missing-trace, accepted-reply, accepted-trace, accepted-clocks, accepted-chains, accepted-ranks}
 use Rattle.races.specs.Lists.{clocksTrace, workTrace}
-use Rattle.races.specs.ListPass.{Clear}
+use Rattle.races.specs.Filled.{Clear}
 use Rattle.races.specs.Filled.{Filled}
 
 -- clocks are filled only where 21, 22 and 23 are passed
@@ -53,6 +55,10 @@ module _ (work : List ℕ) {b : List ℕ} {lo hi w : ℕ} {cs cs′ of all all�
       go : (r : Reply) → r ≡ readReply b → t .events ≤ length work
       go (reading.refused n i) e = none (refused-trace p n i e)
       go (reading.accepted s n m) e = there s n m e (asked lo hi n) refl
+
+  -- so taking them away leaves zeros there
+  pub marks-cleared : {work′ : List ℕ} → work′ ≡ cleared (t .events) work → work′ ≡ replicate (t .events) 0 ++ drop (t .events) work
+  marks-cleared e = cleared-within work marks-fit e
 
   -- an accepted trace that has the records asked about
   module _ (s n m : ℕ) (e : reading.accepted s n m ≡ readReply b) (h : asked lo hi n ≡ true) where

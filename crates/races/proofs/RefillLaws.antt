@@ -132,8 +132,8 @@ module _ {tr : List Record} {ranks of : List ℕ} {count w : ℕ} {clocks₀ : L
         read : getD clocks (u * w + c) 0 ≡ g .rows u c
         read = ap (λ (xs : List ℕ). getD xs (u * w + c) 0) (g .clocks-are) ∙ flat-read w (begins (opAt tr) (length tr)) (drop (eventsIn tr * w) clocks₀) (g .rows) u c below (omega (arith, own, known .1))
 
-        pub add-room : (u * w + c < length clocks) × (getD clocks (u * w + c) 0 < 65535)
-        add-room = (omega (arith, size, place w (begins (opAt tr) (length tr)) u c below (omega (arith, own, known .1))), omega (arith, read, few c, low))
+        pub add-room : (u * w + w ≤ length clocks) × (c < w) × (getD clocks (u * w + c) 0 < 65535)
+        add-room = (omega (arith, own, known .1, size, place w (begins (opAt tr) (length tr)) u (w - 1) below (omega (arith, own, known .1))), omega (arith, own, known .1), omega (arith, read, few c, low))
 
         ticked : tick w u c clocks ≡ flat w (begins (opAt tr) (length tr)) (addAt (g .rows) u c) ++ drop (eventsIn tr * w) clocks₀
         ticked = ap (tick w u c) (g .clocks-are) ∙ ticked-row w (begins (opAt tr) (length tr)) (drop (eventsIn tr * w) clocks₀) (g .rows) u c below (omega (arith, own, known .1))
@@ -145,8 +145,8 @@ module _ {tr : List Record} {ranks of : List ℕ} {count w : ℕ} {clocks₀ : L
           chains-next : chains′ ≡ used (leq (traceLinks tr)) (suc u)
           chains-next = omega (arith, taken, own, g .chains-are, used-suc (leq (traceLinks tr)) u)
 
-          pub refilling-next : (clocks₁ noted : List ℕ) → clocks₁ ≡ tick w u c clocks → (j : ℕ) (clocks₂ noted₂ : List ℕ) → walkFrom tr ranks w chains′ (i + 1) clocks₁ noted ≡ record { position = j; clocks = clocks₂; linked = noted₂ } → (i < j) × Refilling j (u + 1) chains′ clocks₂
-          refilling-next clocks₁ noted e j clocks₂ noted₂ z = (
+          pub refilling-next : (clocks₁ : List ℕ) → clocks₁ ≡ tick w u c clocks → (j : ℕ) (clocks₂ : List ℕ) → walkFrom tr ranks w chains′ (i + 1) clocks₁ ≡ record { position = j; clocks = clocks₂ } → (i < j) × Refilling j (u + 1) chains′ clocks₂
+          refilling-next clocks₁ e j clocks₂ z = (
             rw (ap (λ (x : Walked). x .position) z) at (v .later),
             record {
               rows = v .rows;
@@ -163,8 +163,8 @@ module _ {tr : List Record} {ranks of : List ℕ} {count w : ℕ} {clocks₀ : L
               short p d k l (inl q) = entry-zero (traceLinks tr) (forward-links (f .acceptable)) p d (omega (arith, chains-next, used-mono (leq (traceLinks tr)) (suc p) (suc u) (omega (arith, next))))
               short p d k l (inr q) = entry-zero (traceLinks tr) (forward-links (f .acceptable)) p d (omega (arith, used-le-self (leq (traceLinks tr)) (suc p)))
 
-              v : Arrives (opAt tr) (length tr) none (entry (traceLinks tr)) w (drop (eventsIn tr * w) clocks₀) (suc i) noted (walkFrom tr ranks w chains′ (i + 1) clocks₁ noted)
-              v = trace-walk (f .acceptable) ranks (f .ranks-are) none (entry (traceLinks tr)) w chains′ (drop (eventsIn tr * w) clocks₀) (f .narrow) i (addAt (g .rows) u c) clocks₁ noted h (e ∙ ticked) filled short
+              v : Arrives (opAt tr) (length tr) none (entry (traceLinks tr)) w (drop (eventsIn tr * w) clocks₀) (suc i) (walkFrom tr ranks w chains′ (i + 1) clocks₁)
+              v = trace-walk (f .acceptable) ranks (f .ranks-are) none (entry (traceLinks tr)) w chains′ (drop (eventsIn tr * w) clocks₀) (f .narrow) i (addAt (g .rows) u c) clocks₁ h (e ∙ ticked) filled short
 
 -- Filled clocks whose rows were overwritten are filled again.
 module _ {tr : List Record} {ranks of : List ℕ} {w : ℕ} {clocks : List ℕ} (f : Filled tr ranks of w clocks) where

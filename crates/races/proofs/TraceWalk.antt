@@ -25,7 +25,7 @@ module _ {tr : List Record} (a : Acceptable tr) (ranks : List ℕ) (are : ranks 
 
   module _ (B R : ℕ → ℕ → ℕ) (w chains : ℕ) (rest : List ℕ) (narrow : w ≤ 1024) where
     pub trace-walk :
-        (i : ℕ) (rows : ℕ → ℕ → ℕ) (cs ls : List ℕ) → i < length tr → cs ≡ flat w (begins (opAt tr) (length tr)) rows ++ rest → Along (opAt tr) B R (suc i) rows →
-        ZeroPast (opAt tr) R w chains (suc i) → Arrives (opAt tr) (length tr) B R w rest (suc i) ls (walkFrom tr ranks w chains (i + 1) cs ls)
+        (i : ℕ) (rows : ℕ → ℕ → ℕ) (cs : List ℕ) → i < length tr → cs ≡ flat w (begins (opAt tr) (length tr)) rows ++ rest → Along (opAt tr) B R (suc i) rows →
+        ZeroPast (opAt tr) R w chains (suc i) → Arrives (opAt tr) (length tr) B R w rest (suc i) (walkFrom tr ranks w chains (i + 1) cs)
     unfolding walkFrom
-    trace-walk i rows cs ls h e f s = rw (ops, add-one i) (walked (opAt tr) (length tr) (ops-ordered a) (link-target a) B R w chains narrow rest (length tr - suc i) (suc i) rows cs ls (omega arith) e f s)
+    trace-walk i rows cs h e f s = rw (ops, add-one i) (walked (opAt tr) (length tr) (ops-ordered a) (link-target a) B R w chains narrow rest (length tr - suc i) (suc i) rows cs (omega arith) e f s)

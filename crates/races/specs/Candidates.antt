@@ -1,5 +1,5 @@
--- Where the first accesses that may race with a second access b are looked for: along the accesses of its cell. `CandidateLaws` and `ListLaws` prove that none is missed.
--- Definitions alone. Assumes nothing.
+-- Where the first accesses that may race with a second access b are looked for: along the accesses of its cell. `CandidateLaws` and `ListLaws` prove
+-- that none is missed. Definitions alone. Assumes nothing.
 use Prim.Native.Nat.{ℕ, zero, suc, _+_, _-_, _≤_, _<_}
 use mathlib.Core.Path.{_≡_}
 use mathlib.Core.Logic.{_≢_}
@@ -13,10 +13,6 @@ use Rattle.clocks.specs.Rows.{compareIn}
 use Rattle.order.specs.HappensBefore.{rank, happensBefore}
 use Rattle.coverage.specs.Race.{raceb}
 use Rattle.races.specs.Traces.{isAccess, settingOf}
-
--- the least kind of record that races with an access of that kind: with a read only a write does
-unfoldable pub leastKind : ℕ → ℕ
-leastKind kind = cond (eqb kind 5) 6 5
 
 -- by the number of a cell: do all its accesses from the start on happen before row u, or belong to it?
 unfoldable pub orderedIn : List ℕ → ℕ → List ℕ → ℕ → ℕ → Bool
@@ -42,10 +38,6 @@ module _ (tr : List Record) where
 
   abbrev pub writes : ℕ → ℕ → Bool
   writes c i = eqb (cell i) c && isWrite (at tr i)
-
-  -- may record i race with an access of cell c, where only a record of that kind or a higher one does?
-  unfoldable pub mayRace : ℕ → ℕ → ℕ → Bool
-  mayRace least c i = eqb (cell i) c && leb least (at tr i .kind)
 
   -- The start of a cell before record i: in the short list the position of its last write; 0 where it has none, and in the list of all races.
   unfoldable pub startOf : Bool → ℕ → ℕ → ℕ
@@ -73,17 +65,6 @@ module _ (tr : List Record) where
     pub written-size : length written ≡ 1025
     pub tells : (c : ℕ) → c < 1025 → Seen short c i (getD seen c 0)
     pub last : (c : ℕ) → c < 1025 → getD written c 0 ≡ lastWrite c i
-
-  -- none of the records from i on, before r, may race with an access of cell c
-  pub record Past (least c i r : ℕ) : Type 0 where
-    pub low : i ≤ r
-    pub none : (x : ℕ) → i ≤ x → x < r → T (mayRace least c x) → ⊥
-
-  -- r is the next record from `from` on, before `to`, that may race with an access of cell c, or `to`
-  pub record NextAccess (least c from to r : ℕ) : Type 0 where
-    pub high : r ≤ to
-    pub past : Past least c from r
-    pub found : r < to → T (mayRace least c r)
 
   -- the way to b goes from `from` on, and from `to` on no record races with b
   pub record Range (b from to : ℕ) : Type 0 where

@@ -2,8 +2,9 @@
 use Prim.Native.Nat.{ℕ, _+_, _*_, _≤_, _<_}
 use mathlib.Core.Path.{_≡_}
 use mathlib.Core.List.{List, _++_}
-use lib.ListN.{length, getD}
+use lib.ListN.{length, getD, drop, replicate}
 use Rattle.records.specs.declared.Record.{Record}
+use Rattle.records.specs.Records.{past, begins}
 use Rattle.trace.specs.Reading.{Acceptable}
 use Rattle.ranks.specs.Ranks.{ranksOf}
 use Rattle.order.specs.Fill.{eventsIn, shortRow, chainTable, traceClocks}
@@ -23,3 +24,13 @@ pub record RowsIn (of : List ℕ) (width : ℕ) (clocks : List ℕ) (t u : ℕ) 
   pub known : t < length of
   pub own : t * width + getD of t 0 < length clocks
   pub other : u * width + getD of t 0 < length clocks
+
+-- one row for each event action
+abbrev pub rows : List Record → ℕ
+rows tr = begins (past tr (length tr))
+
+-- the work space is 0 over one byte for each event action
+pub record Clear (tr : List Record) (events : ℕ) (work : List ℕ) : Type 0 where
+  pub events-are : events ≡ rows tr
+  pub work-room : rows tr ≤ length work
+  pub zeros : work ≡ replicate (rows tr) 0 ++ drop (rows tr) work

@@ -1,14 +1,10 @@
 pub mod Traces
-pub mod Leading
 pub mod Filled
 pub mod Lists
 pub mod Paper
 pub mod Candidates
 pub mod ListPass
-pub mod Kept
 pub mod Marking
-pub mod Pair
-pub mod PairSearch
 pub mod Demand
 pub mod Raising
 pub mod Refilling

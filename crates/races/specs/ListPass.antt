@@ -1,23 +1,21 @@
--- How the lists are made: for each second access, the first accesses from some place on. `ListLaws` proves that this gives the lists. Definitions alone. Assumes
--- nothing.
+-- How the lists are made: for each second access, the first accesses from some place on. `ListLaws` proves that this gives the lists. Definitions
+-- alone. Assumes nothing.
 use Prim.Native.Nat.{ℕ, zero, suc, _+_, _*_, _-_, _/_, _≤_, _<_}
 use mathlib.Core.Path.{_≡_}
 use mathlib.Core.Bool.{Bool, true, false, cond, _&&_}
 use mathlib.Core.List.{List, [], _∷_, _++_, map}
 use lib.Dec.{T, leb}
-use lib.ListN.{length, drop, replicate}
+use lib.ListN.{length}
 use lib.Seq.{sets}
 use Rattle.records.specs.declared.Record.{Record}
 use Rattle.records.specs.Records.{at, eventOf}
-use Rattle.trace.specs.Reading.{Acceptable}
-use Rattle.ranks.specs.Ranks.{ranksOf}
 use Rattle.order.specs.HappensBefore.{rank}
 use Rattle.coverage.specs.Below.{upto}
 use Rattle.coverage.specs.Race.{raceb}
 use Rattle.races.specs.Traces.{isAccess, settingOf}
-use Rattle.races.specs.Leading.{rows, leadingMarks}
 use Rattle.races.specs.Lists.{shapeOf, numbers}
-use Rattle.races.specs.Candidates.{cell, leastKind, mayRace, startOf, Range}
+use Rattle.races.specs.Candidates.{cell, startOf, Range}
+use Rattle.records.specs.Search.{leastKind, mayRace}
 use Rattle.races.specs.Filled.{Filled}
 
 module _ (tr : List Record) where
@@ -44,13 +42,6 @@ module _ (tr : List Record) where
   unfoldable pub raws : List (ℕ × ℕ) → List ℕ
   raws [] = []
   raws ((a, b) ∷ ps) = raw a b ++ raws ps
-
--- the event actions that lead to b are marked
-pub record Marks (tr : List Record) (ranks work : List ℕ) (b : ℕ) : Type 0 where
-  pub acceptable : Acceptable tr
-  pub ranks-are : ranks ≡ ranksOf tr
-  pub inside : b < length tr
-  pub work-is : work ≡ leadingMarks tr b ++ drop (rows tr) work
 
 -- the way to b that the code finds has all that race with it
 pub record Ranges (tr : List Record) (short : Bool) (b from to : ℕ) : Type 0 where
@@ -95,6 +86,11 @@ pub record WritesAll (writing : Bool) (tr : List Record) (short : Bool) (list li
   pub count : r ≡ length (pairsBelow tr short (length tr))
   pub list-is : list′ ≡ cond writing (sets list 0 (raws tr (pairsBelow tr short (length tr)))) list
 
+-- so many entries hold the list of a trace of n records, whatever it is: the short list has at most two for a record
+pub record Ample (short : Bool) (n entries : ℕ) : Type 0 where
+  pub for-short : short ≡ true → 2 * n ≤ entries
+  pub for-all : short ≡ false → n * n / 2 ≤ entries
+
 -- r tells whether a list space holds the entries, and whether there are any
 pub record Counts (tr : List Record) (short : Bool) (space r : ℕ) : Type 0 where
   pub fits : r ≤ space / 5 → length (pairsBelow tr short (length tr)) ≤ space / 5
@@ -105,9 +101,3 @@ pub record Counts (tr : List Record) (short : Bool) (space r : ℕ) : Type 0 whe
 pub record ListsAll (tr : List Record) (short : Bool) (list list′ : List ℕ) (r : ℕ) : Type 0 where
   pub count : r ≡ length (pairsBelow tr short (length tr))
   pub list-is : list′ ≡ sets list 0 (numbers tr (pairsBelow tr short (length tr)))
-
--- the work space is 0 over one byte for each event action
-pub record Clear (tr : List Record) (events : ℕ) (work : List ℕ) : Type 0 where
-  pub events-are : events ≡ rows tr
-  pub work-room : rows tr ≤ length work
-  pub zeros : work ≡ replicate (rows tr) 0 ++ drop (rows tr) work

@@ -62,20 +62,19 @@ module _ (tr : List Record) (ranks : List ℕ) (width chains u : ℕ) (list : Li
   raiseDown k zero clocks = clocks
   raiseDown k (suc d) clocks = let raised = raiseBy (k + d) clocks in rowsIf (eqb (getD list (5 * (k + d) + 3) 0) 3) (raiseDown k d raised) raised
 
--- Where raising stands: at the begin of that row, with the chains taken by it and those before; the clocks, and what the walk along the links has noted.
+-- Where raising stands: at the begin of that row, with the chains taken by it and those before; and the clocks.
 pub record Place : Type 0 where
   pub row : ℕ
   pub position : ℕ
   pub chains : ℕ
   pub clocks : List ℕ
-  pub noted : List ℕ
 
 module _ (tr : List Record) (ranks of : List ℕ) (width : ℕ) where
   -- on to the next row: rows are merged along the links up to its begin
   unfoldable pub onward : Place → Place
   onward s =
-      let r = walkFrom tr ranks width (s .chains) (s .position + 1) (s .clocks) (s .noted) in
-      record { row = s .row + 1; position = r .position; chains = max (s .chains) (getD of (s .row + 1) 0 + 1); clocks = r .clocks; noted = r .linked }
+      let r = walkFrom tr ranks width (s .chains) (s .position + 1) (s .clocks) in
+      record { row = s .row + 1; position = r .position; chains = max (s .chains) (getD of (s .row + 1) 0 + 1); clocks = r .clocks }
 
   -- that many rows on
   unfoldable pub goes : ℕ → Place → Place
@@ -89,15 +88,13 @@ pub record MayGo (tr : List Record) (of : List ℕ) (row position u : ℕ) : Typ
   pub low : u < 65536
   pub inside : position ≤ length tr
 
-abbrev pub placeAt : ℕ → ℕ → ℕ → List ℕ → List ℕ → Place
-placeAt row position chains clocks noted = record { row = row; position = position; chains = chains; clocks = clocks; noted = noted }
+abbrev pub placeAt : ℕ → ℕ → ℕ → List ℕ → Place
+placeAt row position chains clocks = record { row = row; position = position; chains = chains; clocks = clocks }
 
 pub record Went
     (tr : List Record) (ranks of : List ℕ) (width row position chains : ℕ) (clocks : List ℕ)
     (u row′ position′ chains′ : ℕ) (clocks′ : List ℕ) : Type 0 where
-  pub noted : List ℕ
-  pub noted′ : List ℕ
-  pub goes-on : goes tr ranks of width (u - row) (placeAt row position chains clocks noted) ≡ placeAt row′ position′ chains′ clocks′ noted′
+  pub goes-on : goes tr ranks of width (u - row) (placeAt row position chains clocks) ≡ placeAt row′ position′ chains′ clocks′
 
 -- all entries are marked, and what is past the rows is as before
 pub record MarksAll (tr : List Record) (width : ℕ) (clocks clocks′ list list′ : List ℕ) (count : ℕ) : Type 0 where

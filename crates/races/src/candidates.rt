@@ -1,6 +1,5 @@
 // Where the first accesses that may race with a second access are looked for: along the accesses of its cell.
 use crate::racing::comes_before;
-use records::access;
 ghost use mathlib.Core.Path.{_≡_};
 ghost use mathlib.Core.Logic.{_≢_};
 ghost use mathlib.Core.Bool.{cond};
@@ -10,7 +9,8 @@ ghost use lib.ListN.{length, set};
 ghost use Rattle.records.specs.Bytes.{decode};
 ghost use Rattle.records.specs.Marks.{noMarks};
 ghost use Rattle.races.specs.Filled.{RowsIn};
-ghost use Rattle.races.specs.Candidates.{leastKind, mayRace, orderedIn, seenAfter, wayFrom, wayTo, NextAccess};
+ghost use Rattle.races.specs.Candidates.{orderedIn, seenAfter, wayFrom, wayTo};
+ghost use Rattle.records.specs.Search.{leastKind, mayRace, NextAccess};
 
 // A number for each cell, none yet.
 pub(crate) fn no_numbers() -> [u16; 1025]
@@ -19,81 +19,8 @@ pub(crate) fn no_numbers() -> [u16; 1025]
     [0; 1025]
 }
 
-// The least kind of record that races with an access of that kind: with a read only a write does.
-pub(crate) fn least_kind(kind: u8) -> u8
-    ensures { λ r. ⌜ r ≡ leastKind kind ⌝ }
-{
-    if kind == 5 {
-        return 6;
-    }
-    5
-}
-
-// May record i race with an access of cell c, where only a record of that kind or a higher one does?
-fn may_race(recs: &[u8], least: u8, c: u16, i: usize) -> bool
-    ensures { λ r. ⌜ r ≡ mayRace (decode (now (recs .entry))) least c i ⌝ }
-{
-    if access::second_at(recs, i) != c {
-        return false;
-    }
-    least <= access::kind_at(recs, i)
-}
-
-// How many of the four records from i on stand before the first that may race with an access of cell c.
-fn among_four(recs: &[u8], least: u8, c: u16, i: usize) -> usize
-    requires { ⌜ i ≤ 4096 ⌝ }
-    ensures { λ r. ⌜ NextAccess (decode (now (recs .entry))) least c i (i + 4) (i + r) ⌝ }
-{
-    if may_race(recs, least, c, i) {
-        return 0;
-    }
-    if may_race(recs, least, c, i + 1) {
-        return 1;
-    }
-    if may_race(recs, least, c, i + 2) {
-        return 2;
-    }
-    if may_race(recs, least, c, i + 3) {
-        return 3;
-    }
-    4
-}
-
-// From record `from` on the next one that may race with an access of cell c, or `to`.
-fn next_near(recs: &[u8], from: usize, to: usize, c: u16, least: u8) -> usize
-    requires { ⌜ (from ≤ to) × (to ≤ 4096) ⌝ }
-    ensures { λ r. ⌜ NextAccess (decode (now (recs .entry))) least c from to r ⌝ }
-{
-    let mut i = from;
-    while i < to {
-        if may_race(recs, least, c, i) {
-            return i;
-        }
-        i += 1;
-    }
-    i
-}
-
-// The same, four records at a time.
-pub(crate) fn next_access(recs: &[u8], from: usize, to: usize, c: u16, least: u8) -> usize
-    requires { ⌜ (from ≤ to) × (to ≤ length (decode (now recs))) × (length (decode (now recs)) ≤ 4096) ⌝ }
-    ensures { λ r. ⌜ NextAccess (decode (now (recs .entry))) least c from to r ⌝ }
-{
-    if access::count(recs) < to {
-        return to;
-    }
-    let mut i = from;
-    while i + 4 <= to {
-        let k = among_four(recs, least, c, i);
-        if k < 4 {
-            return i + k;
-        }
-        i += 4;
-    }
-    next_near(recs, i, to, c, least)
-}
-
-// By the number of a cell: do all its accesses from the start on happen before row u, or belong to it? It is 0 where there are none, and above 1,024 where no such row is known.
+// By the number of a cell: do all its accesses from the start on happen before row u, or belong to it? It is 0 where there are none, and above 1,024
+// where no such row is known.
 pub(crate) fn is_ordered(of: &[u16], width: usize, clocks: &[u16], seen: u16, u: usize) -> bool
     requires { ⌜ (seen ≢ 0 → seen ≤ 1024 → RowsIn (now of) width (now clocks) (seen - 1) u) ⌝ }
     ensures { λ r. ⌜ r ≡ orderedIn (now (of .entry)) width (now (clocks .entry)) seen u ⌝ }

@@ -1,13 +1,9 @@
-// Races of a trace: the event actions that lead to an access.
+// The races of a trace: the list of all of them, and the short list.
 mod candidates;
-mod cover;
-mod kept;
 mod lists;
-pub mod pair;
 mod racing;
 mod raising;
 mod refilling;
-mod workspace;
 
 use trace::Refusal;
 ghost use mathlib.Core.Bool.{true, false};
@@ -27,8 +23,8 @@ pub enum Listing {
     Refused(Refusal),
 }
 
-// The list of all races of a trace: entries of five numbers, first, second, cell, shape (1 ww, 2 wr, 3 rw) and mark (1 open, 0 covered), ordered by second record,
-// then first.
+// The list of all races of a trace: entries of five numbers, first, second, cell, shape (1 ww, 2 wr, 3 rw) and mark (1 open, 0 covered), ordered by
+// second record, then first.
 pub fn all_races(
     bytes: &[u8],
     width: usize,
@@ -36,7 +32,8 @@ pub fn all_races(
     work: &mut [u8],
     list: &mut [u16],
 ) -> Listing
-    ensures { λ r. ⌜ Lists false (now (bytes .entry)) width (now (clocks .entry)) (now (clocks .exit)) (now (work .entry)) (now (work .exit)) (now (list .entry)) (now (list .exit)) r ⌝ }
+    ensures { λ r. ⌜ Lists false (now (bytes .entry)) width (now (clocks .entry)) (now (clocks .exit)) (now (work .entry)) (now (work .exit))
+        (now (list .entry)) (now (list .exit)) r ⌝ }
 {
     lists::list_races(bytes, width, clocks, work, list, false)
 }
@@ -49,7 +46,8 @@ pub fn short_list(
     work: &mut [u8],
     list: &mut [u16],
 ) -> Listing
-    ensures { λ r. ⌜ Lists true (now (bytes .entry)) width (now (clocks .entry)) (now (clocks .exit)) (now (work .entry)) (now (work .exit)) (now (list .entry)) (now (list .exit)) r ⌝ }
+    ensures { λ r. ⌜ Lists true (now (bytes .entry)) width (now (clocks .entry)) (now (clocks .exit)) (now (work .entry)) (now (work .exit))
+        (now (list .entry)) (now (list .exit)) r ⌝ }
 {
     lists::list_races(bytes, width, clocks, work, list, true)
 }

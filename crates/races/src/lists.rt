@@ -2,32 +2,31 @@
 use crate::Listing;
 use crate::Summary;
 use crate::candidates::is_ordered;
-use crate::candidates::least_kind;
-use crate::candidates::next_access;
 use crate::candidates::no_numbers;
 use crate::candidates::note_access;
 use crate::candidates::way_from;
 use crate::candidates::way_to;
 use crate::racing::comes_before;
-use crate::racing::row_at;
 use crate::raising;
-use crate::workspace;
 use order::Filling;
+use ranks::row_at;
+use records::Operation;
+use records::Var;
 use records::access;
-use trace::Operation;
+use records::marks;
+use records::search;
 use trace::Refusal;
 ghost use mathlib.Core.Path.{_≡_};
-ghost use mathlib.Core.Bool.{true, cond};
+ghost use mathlib.Core.Bool.{cond};
 ghost use Prim.Native.Nat.{_+_, _*_, _/_, _≤_, _<_};
 ghost use lib.Dec.{T, eqb};
 ghost use lib.ListN.{length};
 ghost use lib.Seq.{sets};
 ghost use Rattle.records.specs.Bytes.{decode};
-ghost use Rattle.ranks.specs.Ranks.{noRanks};
-ghost use Rattle.order.specs.Fill.{eventsIn, chainsUsed, noChains};
+ghost use Rattle.order.specs.Fill.{eventsIn, chainsUsed};
 ghost use Rattle.races.specs.Lists.{shapeOf, ListReply};
 ghost use Rattle.races.specs.Paper.{listPaper, ListsFilled, Lists};
-ghost use Rattle.races.specs.ListPass.{fromOf, pairsBelow, raw, Second, OneRoom, OneWrites, RoomIf, Writes, WritesAll, Counts, ListsAll};
+ghost use Rattle.races.specs.ListPass.{fromOf, pairsBelow, raw, Second, OneRoom, OneWrites, RoomIf, Writes, WritesAll, Ample, Counts, ListsAll};
 ghost use Rattle.races.specs.Candidates.{Range, Tables};
 ghost use Rattle.races.specs.Filled.{Filled};
 
@@ -104,12 +103,12 @@ fn list_way(
     ensures { λ r. ⌜ Writes writing (decode (now (recs .entry))) b from k (now (list .entry)) (now (list .exit)) r ⌝ }
 {
     let c = access::second_at(recs, b);
-    let least = least_kind(access::kind_at(recs, b));
+    let least = search::least_kind(access::kind_at(recs, b));
     let mut next = k;
-    let mut a = next_access(recs, from, to, c, least);
+    let mut a = search::next_access(recs, from, to, Var(c), least);
     while a < to {
         next = list_race(recs, ranks, of, width, clocks, a, b, u, list, next, writing);
-        a = next_access(recs, a + 1, to, c, least);
+        a = search::next_access(recs, a + 1, to, Var(c), least);
     }
     next
 }
@@ -184,7 +183,8 @@ fn list_all(
     short: bool,
     writing: bool,
 ) -> usize
-    requires { ⌜ Filled (decode (now recs)) (now ranks) (now of) width (now clocks) × (T writing → 5 * length (pairsBelow (decode (now recs)) short (length (decode (now recs)))) ≤ length (now list)) ⌝ }
+    requires { ⌜ Filled (decode (now recs)) (now ranks) (now of) width (now clocks) ×
+        (T writing → 5 * length (pairsBelow (decode (now recs)) short (length (decode (now recs)))) ≤ length (now list)) ⌝ }
     ensures { λ r. ⌜ WritesAll writing (decode (now (recs .entry))) short (now (list .entry)) (now (list .exit)) r ⌝ }
 {
     let n = access::count(recs);
@@ -220,17 +220,21 @@ fn list_all(
     k
 }
 
-// Does the list space hold the short list, however many entries it has? It has at most two for a record.
+// Does the list space hold the list, however many entries it has? The short list has at most two for a record, the list of all races at most one for
+// each pair of records.
 fn is_ample(short: bool, records: usize, space: usize) -> bool
-    ensures { λ r. ⌜ (T r → (short ≡ true) × (0 < records) × (2 * records ≤ space / 5)) ⌝ }
+    ensures { λ r. ⌜ (T r → (1 < records) × Ample short records (space / 5)) ⌝ }
 {
-    if !short {
+    if records < 2 {
         return false;
     }
-    if records == 0 {
+    if 4096 < records {
         return false;
     }
-    records <= space / 10
+    if short {
+        return records <= space / 10;
+    }
+    records * records / 2 <= space / 5
 }
 
 // How many entries there are, or 1 where there is space for them in any case.
@@ -304,8 +308,10 @@ fn list_filled(
     list: &mut [u16],
     short: bool,
 ) -> Listing
-    requires { ⌜ Filled (decode (now recs)) (now all) (now of) width (now clocks) × (events ≡ eventsIn (decode (now recs))) × (chains ≡ chainsUsed (decode (now recs))) ⌝ }
-    ensures { λ r. ⌜ ListsFilled short (decode (now (recs .entry))) events (now (clocks .entry)) (now (clocks .exit)) (now (list .entry)) (now (list .exit)) r ⌝ }
+    requires { ⌜ Filled (decode (now recs)) (now all) (now of) width (now clocks) × (events ≡ eventsIn (decode (now recs))) ×
+        (chains ≡ chainsUsed (decode (now recs))) ⌝ }
+    ensures { λ r. ⌜ ListsFilled short (decode (now (recs .entry))) events (now (clocks .entry)) (now (clocks .exit)) (now (list .entry))
+        (now (list .exit)) r ⌝ }
 {
     let counted = count_all(recs, all, of, width, clocks, list, short);
     if list.len() / 5 < counted {
@@ -319,18 +325,6 @@ fn list_filled(
     listed(events, records, chains, found)
 }
 
-pub(crate) fn no_ranks() -> [u16; 1025]
-    ensures { λ r. ⌜ r ≡ noRanks ⌝ }
-{
-    [0; 1025]
-}
-
-pub(crate) fn no_chains() -> [u16; 1024]
-    ensures { λ r. ⌜ r ≡ noChains ⌝ }
-{
-    [0; 1024]
-}
-
 // The short list, or the list of all races.
 pub(crate) fn list_races(
     bytes: &[u8],
@@ -340,27 +334,37 @@ pub(crate) fn list_races(
     list: &mut [u16],
     short: bool,
 ) -> Listing
-    ensures { λ r. ⌜ Lists short (now (bytes .entry)) width (now (clocks .entry)) (now (clocks .exit)) (now (work .entry)) (now (work .exit)) (now (list .entry)) (now (list .exit)) r ⌝ }
+    ensures { λ r. ⌜ Lists short (now (bytes .entry)) width (now (clocks .entry)) (now (clocks .exit)) (now (work .entry)) (now (work .exit))
+        (now (list .entry)) (now (list .exit)) r ⌝ }
 {
-    let mut of = no_chains();
-    let mut all = no_ranks();
-    let prepared = order::prepare(bytes, 1, 0, width, work.len(), clocks, &mut of, &mut all);
+    let mut of = order::no_chains();
+    let mut all = ranks::none();
+    let prepared = order::prepare(
+        bytes,
+        Operation(1),
+        Operation(0),
+        width,
+        work.len(),
+        clocks,
+        &mut of,
+        &mut all,
+    );
     let t = prepared.trace;
     let events = t.events;
-    workspace::clear_marks(work, events);
+    marks::clear(work, events);
     let answer = prepared.answer;
-    match answer {
-        Filling::Filled(chains) => list_filled(
-            access::records(bytes, t),
-            events,
-            width,
-            clocks,
-            &of,
-            &all,
-            chains,
-            list,
-            short,
-        ),
-        Filling::Refused(why) => Listing::Refused(why),
-    }
+    let Filling::Filled(chains) = answer else {
+        return Listing::Refused(order::refusal_of(answer));
+    };
+    list_filled(
+        access::records(bytes, t),
+        events,
+        width,
+        clocks,
+        &of,
+        &all,
+        chains,
+        list,
+        short,
+    )
 }

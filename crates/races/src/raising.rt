@@ -1,10 +1,10 @@
 // The marks of a list's entries by the rows of the combined order, happens-before and the races of the list: made in place in the lent clocks, event
 // action by event action.
 use crate::racing::comes_before;
-use crate::racing::row_at;
 use crate::refilling::refill;
 use clocks::merge_row;
 use order::links::merge_links;
+use ranks::row_at;
 ghost use mathlib.Core.Path.{_≡_};
 ghost use Prim.Native.Nat.{ℕ, _+_, _*_, _-_, _≤_, _<_, max};
 ghost use lib.ListN.{length, getD};
@@ -134,12 +134,11 @@ fn go_on(
     ensures { λ r. ⌜ Went (decode (now (recs .entry))) (now (ranks .entry)) (now (of .entry)) width (s .row) (s .position) (s .chains) (now (clocks .entry)) u
         (r .row) (r .position) (r .chains) (now (clocks .exit)) ⌝ }
 {
-    let mut none = [0; 1];
     let mut t = s.row;
     let mut i = s.position;
     let mut chains = s.chains;
     while t < u {
-        i = merge_links(recs, ranks, width, chains, clocks, &mut none, i + 1);
+        i = merge_links(recs, ranks, width, chains, clocks, i + 1);
         t += 1;
         chains = more_chains(of, chains, t);
     }

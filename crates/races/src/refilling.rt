@@ -1,10 +1,11 @@
 // The clock rows once more, where the chain of each row is known.
+use clocks::add_one;
 use clocks::clear_rows;
 use order::links::merge_links;
 use records::access;
 ghost use mathlib.Core.Path.{_≡_};
 ghost use mathlib.Core.List.{_++_};
-ghost use Prim.Native.Nat.{_+_, _*_, _<_};
+ghost use Prim.Native.Nat.{_+_, _*_, _≤_, _<_};
 ghost use lib.ListN.{length, getD, drop};
 ghost use Rattle.records.specs.Bytes.{decode};
 ghost use Rattle.order.specs.Fill.{eventsIn, traceClocks};
@@ -12,11 +13,13 @@ ghost use Rattle.order.specs.Pass.{tick};
 ghost use Rattle.races.specs.Refilling.{Refillable};
 
 // One more at entry c of row u.
-fn add_one(clocks: &mut [u16], width: usize, u: usize, c: usize)
-    requires { ⌜ (u * width + c < length (now clocks)) × (getD (now clocks) (u * width + c) 0 < 65535) ⌝ }
+fn add_to_row(clocks: &mut [u16], width: usize, u: usize, c: usize)
+    requires { ⌜ (u * width + width ≤ length (now clocks)) × (c < width) × (getD (now clocks) (u * width + c) 0 < 65535) ⌝ }
     ensures { λ r. ⌜ now (clocks .exit) ≡ tick width u c (now (clocks .entry)) ⌝ }
 {
-    clocks[u * width + c] += 1;
+    let a = u * width;
+    let e = a + width;
+    add_one(&mut clocks[a..e], c);
 }
 
 // Fills the rows anew, whatever they hold.
@@ -34,17 +37,16 @@ pub(crate) fn refill(
 {
     clear_rows(clocks, width, events as u16);
     let n = access::count(recs);
-    let mut none = [0; 1];
     let mut chains = 0;
     let mut u = 0;
     let mut i = 0;
     while i < n {
         let c = of[u] as usize;
-        add_one(clocks, width, u, c);
+        add_to_row(clocks, width, u, c);
         if chains <= c {
             chains = c + 1;
         }
-        i = merge_links(recs, ranks, width, chains, clocks, &mut none, i + 1);
+        i = merge_links(recs, ranks, width, chains, clocks, i + 1);
         u += 1;
     }
 }

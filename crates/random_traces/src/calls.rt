@@ -10,9 +10,9 @@ use crate::slots::pick;
 use crate::slots::plus;
 use crate::slots::wide;
 use order::Filling;
+use pair::PairAnswer;
 use races::Listing;
-use races::pair::PairAnswer;
-use trace::Operation;
+use records::Operation;
 use trace::Refusal;
 ghost use Prim.Native.Nat.{_≤_};
 
@@ -23,9 +23,9 @@ pub(crate) const ALL_RACES: usize = 1;
 
 pub(crate) const PAIR: usize = 3;
 
-// What is asked: the call, whether it is the pair question of a race, the width, how many clocks, work bytes and list numbers are lent, and two records. What is
-// expected: the group to count it in, a refusal's number (0 for none) and place; how many of the clocks are then as the rows say, or 0; how many work bytes are 0; how
-// many list numbers are those of the list, and how many entries they are. All other lent memory is unchanged.
+// What is asked: the call, whether it is the pair question of a race, the width, how many clocks, work bytes and list numbers are lent, and two
+// records. What is expected: the group to count it in, a refusal's number (0 for none) and place; how many of the clocks are then as the rows say, or
+// 0; how many work bytes are 0; how many list numbers are those of the list, and how many entries they are. All other lent memory is unchanged.
 pub(crate) struct Case {
     pub call: usize,
     pub asks: bool,
@@ -127,7 +127,7 @@ fn call(c: Case, bytes: &[u8], clocks: &mut [u16], work: &mut [u8], list: &mut [
     if c.call == PAIR {
         let a = record_number(c.a);
         let b = record_number(c.b);
-        return of_pair(races::pair::ask_pair(bytes, c.width, clocks, work, list, a, b));
+        return of_pair(pair::ask_pair(bytes, c.width, clocks, work, list, a, b));
     }
     if c.call == ALL_RACES {
         return of_listing(races::all_races(bytes, c.width, clocks, work, list));

@@ -30,7 +30,8 @@ fn choose(table: &[usize], chains: usize, u: usize) -> usize {
     c
 }
 
-// "Event actions take chains in order of begin: the lowest-numbered chain, from 0, whose last member happens before the new one, else a new chain." How many chains.
+// "Event actions take chains in order of begin: the lowest-numbered chain, from 0, whose last member happens before the new one, else a new chain."
+// How many chains.
 pub(crate) fn find_chains(table: &mut [usize], count: usize) -> usize {
     let mut chains = 0;
     let mut t = 0;

@@ -115,8 +115,8 @@ fn lead_turn(recs: &[u8], table: &[usize], set: usize, b: usize, r: usize) -> us
     pick(leads, set | before(table, c), set)
 }
 
-// The event actions t that lead to b: "some races meet the conditions of cover with t for ev(a)". The list is taken from its end: where d's event action leads to b,
-// it does so by races whose second records stand after d.
+// The event actions t that lead to b: "some races meet the conditions of cover with t for ev(a)". The list is taken from its end: where d's event
+// action leads to b, it does so by races whose second records stand after d.
 pub(crate) fn find_leads(recs: &[u8], table: &[usize], races: usize, b: usize) -> usize {
     let mut set = 0;
     let mut r = races;

@@ -7,8 +7,8 @@ use crate::slots::pick;
 use crate::slots::plus;
 use crate::slots::put_byte;
 
-// What a seed settles: how many event actions, at most how many body records each (less 1), how often it joins (of 8), forks and writes (of 16), how many cells,
-// how many bytes of the job file stand before, and a mask for the numbers.
+// What a seed settles: how many event actions, at most how many body records each (less 1), how often it joins (of 8), forks and writes (of 16), how
+// many cells, how many bytes of the job file stand before, and a mask for the numbers.
 pub(crate) struct Shape {
     pub seed: usize,
     pub events: usize,

@@ -1,5 +1,5 @@
-// What each call must answer about an accepted trace, asked in each of these ways: 0 accepted, 1 width 0, 2 width 1,025, 3 a clock too few, 4 a work byte too few, 5 a
-// chain too few, 6 a list number too few, 7 two records that are no race, 8 a record that is not in the trace.
+// What each call must answer about an accepted trace, asked in each of these ways: 0 accepted, 1 width 0, 2 width 1,025, 3 a clock too few, 4 a work
+// byte too few, 5 a chain too few, 6 a list number too few, 7 two records that are no race, 8 a record that is not in the trace.
 use crate::calls::Case;
 use crate::calls::FILL;
 use crate::calls::PAIR;

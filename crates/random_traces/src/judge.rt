@@ -47,7 +47,8 @@ fn has_numbers(recs: &[u8], i: usize) -> bool {
     is_number(first(recs, i)) & is_number(y)
 }
 
-// Record i has its place after the record before it, which has its own: "joins (perhaps none), begin, then forks, reads and writes, then end", all with one first.
+// Record i has its place after the record before it, which has its own: "joins (perhaps none), begin, then forks, reads and writes, then end", all
+// with one first.
 fn has_place(recs: &[u8], i: usize) -> bool {
     let opens = is_kind(recs, i, 1) | is_kind(recs, i, 4);
     if i == 0 {

@@ -9,7 +9,7 @@ use crate::slots::wide;
 use crate::tally;
 use crate::tally::Counts;
 use question::Answer;
-use trace::EventId;
+use records::EventId;
 
 // 1 yes, 0 no, 11 where one has no begin in the trace: refusal 11, place 0.
 fn code(r: Answer) -> usize {

@@ -103,8 +103,8 @@ fn is_kept(recs: &[u8], table: &[usize], kept: usize, b: usize, i: usize) -> boo
     is_in(kept, t)
 }
 
-// Two records against the conditions of an arrangement whose last record is b: "If a ≼ b and b is in it, a is in it earlier", and a race's first record is in it
-// where its second is, or its second is the last record.
+// Two records against the conditions of an arrangement whose last record is b: "If a ≼ b and b is in it, a is in it earlier", and a race's first
+// record is in it where its second is, or its second is the last record.
 fn is_arranged_at(recs: &[u8], table: &[usize], kept: usize, b: usize, x: usize, y: usize) -> bool {
     if is_kept(recs, table, kept, b, x) | !is_kept(recs, table, kept, b, y) {
         return true;

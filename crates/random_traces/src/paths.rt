@@ -1,6 +1,6 @@
-// Event actions and the paths between them, by plain search. An event action is known by its rank, from 1 in order of begin, a record by its position, from 0. What
-// is found of a trace stands in one table: the numbers of the event actions and the sets of those that happen before each, the chains as sets of their members, the
-// ranks by event number, the records and marks of the races, and which of them are in the short list.
+// Event actions and the paths between them, by plain search. An event action is known by its rank, from 1 in order of begin, a record by its
+// position, from 0. What is found of a trace stands in one table: the numbers of the event actions and the sets of those that happen before each, the
+// chains as sets of their members, the ranks by event number, the records and marks of the races, and which of them are in the short list.
 use crate::slots::bit;
 use crate::slots::get;
 use crate::slots::is_in;

@@ -1,4 +1,5 @@
 // The rank of an event: the place of its begin among the begins, counted from 1, and 0 where it has none. An event action's row is its rank less 1.
+use records::EventId;
 use records::access;
 ghost use mathlib.Core.Path.{_≡_};
 ghost use lib.ListN.{length, getD, replicate};
@@ -17,7 +18,8 @@ pub enum Ordering {
     Nothing,
 }
 
-fn none() -> [u16; 1025]
+// A table of no ranks.
+pub fn none() -> [u16; 1025]
     ensures { λ r. ⌜ r ≡ noRanks ⌝ }
 {
     [0; 1025]
@@ -80,7 +82,7 @@ pub fn ranks(recs: &[u8]) -> [u16; 1025]
     all
 }
 
-pub fn rank_of(ranks: &[u16], e: u16) -> u16
+fn rank_at(ranks: &[u16], e: u16) -> u16
     ensures { λ r. ⌜ r ≡ getD (now (ranks .entry)) e 0 ⌝ }
 {
     let at = e as usize;
@@ -88,6 +90,24 @@ pub fn rank_of(ranks: &[u16], e: u16) -> u16
         return ranks[at];
     }
     0
+}
+
+// The rank of event e.
+pub fn rank_of(ranks: &[u16], e: EventId) -> u16
+    ensures { λ r. ⌜ r ≡ getD (now (ranks .entry)) (e .0) 0 ⌝ }
+{
+    rank_at(ranks, e.0)
+}
+
+// The row of record i's event action; 0 where that has none.
+pub fn row_at(recs: &[u8], ranks: &[u16], i: usize) -> usize
+    ensures { λ r. ⌜ r ≡ getD (now (ranks .entry)) (at (decode (now (recs .entry))) i .first) 0 - 1 ⌝ }
+{
+    let rank = rank_at(ranks, access::first_at(recs, i));
+    if rank == 0 {
+        return 0;
+    }
+    (rank - 1) as usize
 }
 
 fn link_of(from: u16, to: u16) -> Ordering
@@ -119,18 +139,18 @@ pub fn ordering_at(recs: &[u8], ranks: &[u16], i: usize) -> Ordering
         return Ordering::Nothing;
     }
     if kind == 1 {
-        return begin_of(rank_of(ranks, access::first_at(recs, i)));
+        return begin_of(rank_at(ranks, access::first_at(recs, i)));
     }
     if kind == 3 {
         return link_of(
-            rank_of(ranks, access::first_at(recs, i)),
-            rank_of(ranks, access::second_at(recs, i)),
+            rank_at(ranks, access::first_at(recs, i)),
+            rank_at(ranks, access::second_at(recs, i)),
         );
     }
     if kind == 4 {
         return link_of(
-            rank_of(ranks, access::second_at(recs, i)),
-            rank_of(ranks, access::first_at(recs, i)),
+            rank_at(ranks, access::second_at(recs, i)),
+            rank_at(ranks, access::first_at(recs, i)),
         );
     }
     Ordering::Nothing

@@ -6,8 +6,7 @@ use mathlib.Core.Bool.{Bool, true, false, cond}
 use mathlib.Core.List.{List, [], _∷_, _++_, append-nil}
 use mathlib.Core.Logic.{_↔_, _⊎_, inl, inr}
 use native.Mathlib.Omega.{arith}
-use borrow.Author.Tests.{le-leb}
-use lib.Dec.{eqb}
+use lib.Dec.{leb, eqb}
 use lib.ListN.{length, drop, drop-of-length-le}
 use lib.Seq.{drop-cons}
 use Rattle.records.specs.declared.Record.{Record}
@@ -48,14 +47,16 @@ late false u q y n p f e = let z : 9 ≡ n = cc in omega arith
 
 later : (start m : ℕ) (rest done : List Record) (n p : ℕ) → walk start m done rest ≡ refuses n p → (9 ≤ n) ⊎ (length done < p)
 unfolding walk ending
-later start m [] done n p e = inl (late (eqb (situation done) between) (eqb (begins done) m) (length done) _ n p (λ n p q. let z : _≡_ {A = ℕ} 0 1 = cc in omega arith) e)
+later start m [] done n p e = inl (late (eqb (situation done) between) (eqb (begins done) m) (length done) _ n p
+    (λ n p q. let z : _≡_ {A = ℕ} 0 1 = cc in omega arith) e)
 later start m (x ∷ rest) done n p e = go (rule done x) e (later start m rest (x ∷ done) n p)
   where
     wider : (9 ≤ n) ⊎ (suc (length done) < p) → (9 ≤ n) ⊎ (length done < p)
     wider (inl l) = inl l
     wider (inr l) = inr (omega arith)
 
-    go : (v : ℕ) → orElse v (length done + 1) (walk start m (x ∷ done) rest) ≡ refuses n p → (walk start m (x ∷ done) rest ≡ refuses n p → (9 ≤ n) ⊎ (suc (length done) < p)) → (9 ≤ n) ⊎ (length done < p)
+    go : (v : ℕ) → orElse v (length done + 1) (walk start m (x ∷ done) rest) ≡ refuses n p
+        → (walk start m (x ∷ done) rest ≡ refuses n p → (9 ≤ n) ⊎ (suc (length done) < p)) → (9 ≤ n) ⊎ (length done < p)
     go zero q f = wider (f (unfold orElse in q))
     go (suc v) q f = let z : length done + 1 ≡ p = unfold orElse in cc in inr (omega arith)
 
@@ -93,23 +94,27 @@ module _ {b : List ℕ} {tr : List Record} {w : List ℕ} {r : Recorder} (c : Re
       ∙ through tr (x ∷ rest) (length p) m (holds c .passes) (length tr) 0 (omega arith)
       ∙ rw (past-length tr (length tr))
 
-  pub refused-alike : (n : ℕ) → n ≤ 8 → (stepLeft w r x .answer ≡ refused n (length tr + 1)) ↔ (readReply (p ++ traceOf (tr ++ x ∷ rest)) ≡ refuses n (length tr + 1))
+  pub refused-alike : (n : ℕ) → n ≤ 8 → (stepLeft w r x .answer ≡ refused n (length tr + 1))
+      ↔ (readReply (p ++ traceOf (tr ++ x ∷ rest)) ≡ refuses n (length tr + 1))
   refused-alike n l =
       let h = holds c in
       let v = rule (past tr (length tr)) x in
       let y = pass w r (full w (length tr)) 0 (stepping w (length tr) x (place (r .situation) (x .kind))) in (
         λ e. reader-says ∙ to-reader w r (length tr) n y onwards v (no-place w r _ (full w (length tr)) n (length tr) refl) (rw (step-is h x) at e),
-        λ e. rw (step-is h x) (to-recorder w r (length tr) n y onwards v (λ q. ahead (later (length p) m rest (x ∷ past tr (length tr)) n (length tr + 1) q)) (sym reader-says ∙ e)),
+        λ e. rw (step-is h x) (to-recorder w r (length tr) n y onwards v (λ q. ahead (later (length p) m rest (x ∷ past tr (length tr)) n (length tr + 1) q))
+            (sym reader-says ∙ e)),
       )
     where
       ahead : (9 ≤ n) ⊎ (suc (length (past tr (length tr))) < length tr + 1) → ⊥
       ahead (inl k) = omega arith
       ahead (inr k) = let q = past-length tr (length tr) in omega arith
 
-nine-answer : (w : List ℕ) (r : Recorder) (t : Bool) (v k : ℕ) (y : Left) → y .answer ≡ closes v → noTrailer w k ≡ 0 → pass w r (cond t 0 9) k (pass w r (noTrailer w k) 0 y) .answer ≡ refused 9 k → t ≡ false
+nine-answer : (w : List ℕ) (r : Recorder) (t u : Bool) (v k : ℕ) (y : Left) → y .answer ≡ closes v
+    → pass w r (cond t 0 9) k (pass w r (cond u 0 25) 0 y) .answer ≡ refused 9 k → t ≡ false
 unfolding pass
-nine-answer w r true v k y a f e = let q : y .answer ≡ refused 9 k = rw f at e in let z : _≡_ {A = ℕ} 0 1 = cc in absurd (omega arith)
-nine-answer w r false v k y a f e = refl
+nine-answer w r true true v k y a e = let z : _≡_ {A = ℕ} 0 1 = cc in absurd (omega arith)
+nine-answer w r true false v k y a e = let z : _≡_ {A = ℕ} 25 9 = cc in absurd (omega arith)
+nine-answer w r false u v k y a e = refl
 
 nine-reply : (t u : Bool) (k s n m : ℕ) → demand t 9 k (demand u 10 0 (accepted s n m)) ≡ refuses 9 k → t ≡ false
 unfolding demand
@@ -123,7 +128,8 @@ module _ {b : List ℕ} {tr : List Record} {w : List ℕ} {r : Recorder} (c : Re
   between-now = eqb (situation (past tr (length tr))) between
 
   reply-now : readReply (p ++ traceOf tr)
-      ≡ demand between-now 9 (length tr) (demand (eqb (begins (past tr (length tr))) (begins (past tr (length tr)))) 10 0 (accepted (length p) (length tr) (begins (past tr (length tr)))))
+      ≡ demand between-now 9 (length tr) (demand (eqb (begins (past tr (length tr))) (begins (past tr (length tr)))) 10 0
+      (accepted (length p) (length tr) (begins (past tr (length tr)))))
   unfolding walk ending past
   reply-now =
       read-narrow tr (holds c .few) p (narrow (holds c))
@@ -138,8 +144,7 @@ module _ {b : List ℕ} {tr : List Record} {w : List ℕ} {r : Recorder} (c : Re
   unfolding stopsInside noTrailer
   closing-left e =
       let h = holds c in
-      let f : noTrailer w (length tr) ≡ 0 = rw (le-leb (5 * length tr + 8) (length w) (h .fits)) in
-      nine-answer w r between-now _ (length tr) (closing w (length tr) r) refl f (rw (← h .stands) (rw (close-is h) at e))
+      nine-answer w r between-now (leb (5 * length tr + 8) (length w)) _ (length tr) (closing w (length tr) r) refl (rw (← h .stands) (rw (close-is h) at e))
 
   pub nine-alike : (closeLeft w r .answer ≡ refused 9 (length tr)) ↔ (readReply (p ++ traceOf tr) ≡ refuses 9 (length tr))
   unfolding demand
@@ -147,5 +152,6 @@ module _ {b : List ℕ} {tr : List Record} {w : List ℕ} {r : Recorder} (c : Re
       let m = begins (past tr (length tr)) in (
         λ e. reply-now ∙ rw (closing-left e),
         λ e. ap (λ (l : Left). l .answer)
-            (close-is (holds c) ∙ pass-out w r (stopsInside r) 8 (length tr) _ (inside-out (nine-reply between-now (eqb m m) (length tr) (length p) (length tr) m (sym reply-now ∙ e)))),
+            (close-is (holds c) ∙ pass-out w r (stopsInside r) 8 (length tr) _
+            (inside-out (nine-reply between-now (eqb m m) (length tr) (length p) (length tr) m (sym reply-now ∙ e)))),
       )

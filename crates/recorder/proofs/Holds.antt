@@ -1,6 +1,6 @@
 -- What a recording keeps: the bytes hold the steps taken, and the recorder stands where they lead.
 -- Assumes nothing.
-use Prim.Native.Nat.{ℕ, zero, suc, _+_, _*_, _<_, _≤_}
+use Prim.Native.Nat.{ℕ, zero, suc, min, _+_, _*_, _<_, _≤_}
 use mathlib.Core.Path.{_≡_, refl, sym, ap, _∙_}
 use mathlib.Core.Bool.{Bool, true, false, cond}
 use mathlib.Core.List.{List, [], _∷_, _++_}
@@ -10,7 +10,7 @@ use native.Mathlib.Nat.{eq-or-lt-of-le, le-of-suc-le-suc, not-suc-le-zero}
 use borrow.Author.Tests.{leb-true, le-leb}
 use lib.Dec.{leb}
 use lib.ListN.{length, take, drop, length-append, length-take, length-drop}
-use lib.Seq.{take-at, drop-at, drop-drop}
+use lib.Seq.{take-at, drop-at}
 use Rattle.records.specs.declared.Record.{Record}
 use Rattle.records.specs.Records.{at, past}
 use Rattle.trace.specs.Place.{between, place}
@@ -20,8 +20,9 @@ use Rattle.trace.specs.Reading.{recordsIn}
 use Rattle.trace.specs.Encoding.{encode}
 use Rattle.trace.proofs.Encoded.{AllNarrow, encode-length, encode-append, decode-encode, passes-narrow}
 use Rattle.recorder.specs.declared.Recorder.{Recorder}
-use Rattle.recorder.specs.Recording.{Outcome, refused, opens, taken, closes, Left, pass, stored, held, before, judged, closedAlready, space, full, stopsInside, noTrailer, openLeft, stepLeft, closeLeft}
-use Rattle.recorder.specs.History.{Recording, opening, step, refused-step, refused-closing}
+use Rattle.recorder.specs.Recording.{Outcome, refused, opens, taken, closes, Left, pass, stored, held, before, judged, closedAlready, space, full}
+use Rattle.recorder.specs.Recording.{stopsInside, noTrailer, openLeft, stepLeft, closeLeft}
+use Rattle.recorder.specs.History.{Unaltered, Recording, opening, lent, step, refused-step, refused-closing}
 use Rattle.recorder.proofs.Left.{refusing, stepping, pass-on, step-open, full-zero, spaced}
 use Rattle.recorder.proofs.Appended.{at-front, past-front, at-seam, past-seam}
 
@@ -56,7 +57,8 @@ module _ (b : List ℕ) (r : Recorder) (p : ℕ) (y : Left) where
   through-closes (suc n) k e = let z : _≡_ {A = ℕ} 0 1 = cc in absurd (omega arith)
 
   -- a refusal leaves recorder and bytes
-  pub through-refused : (n k q : ℕ) → (y .answer ≡ refused k q → y ≡ refusing b r k q) → pass b r n p y .answer ≡ refused k q → pass b r n p y ≡ refusing b r k q
+  pub through-refused : (n k q : ℕ) → (y .answer ≡ refused k q → y ≡ refusing b r k q) → pass b r n p y .answer ≡ refused k q
+      → pass b r n p y ≡ refusing b r k q
   unfolding pass
   through-refused zero k q f e = f e
   through-refused (suc n) k q f e = ap (λ (o : Outcome). record { answer = o; recorder = r; bytes = b }) e
@@ -75,19 +77,17 @@ close-refused b r k q =
     (through-refused b r (held r) _ (stopsInside r) k q
     (through-refused b r 0 _ (noTrailer b (held r)) k q (λ e. let z : _≡_ {A = ℕ} 0 1 = cc in absurd (omega arith))))
 
-pub record Holds (b : List ℕ) (tr : List Record) (w : List ℕ) (r : Recorder) : Type 0 where
+pub record Holds (tr : List Record) (w : List ℕ) (r : Recorder) : Type 0 where
   pub is-open : r .closed ≡ false
   pub counts : r .count ≡ length tr
   pub few : length tr ≤ 4096
-  pub long : length w ≡ length b
-  pub fits : 5 * length tr + 8 ≤ length w
+  pub fits : 5 * length tr ≤ length w
   pub front : take (5 * length tr) w ≡ encode tr
-  pub beyond : drop (5 * length tr) w ≡ drop (5 * length tr) b
   pub passes : (i : ℕ) → i < length tr → rule (past tr i) (at tr i) ≡ 0
   pub stands : r .situation ≡ situation (past tr (length tr))
   pub owns : r .owner .0 ≡ owner (past tr (length tr))
 
-module _ {b : List ℕ} {tr : List Record} {w : List ℕ} {r : Recorder} (h : Holds b tr w r) where
+module _ {tr : List Record} {w : List ℕ} {r : Recorder} (h : Holds tr w r) where
   pub narrow : AllNarrow tr
   narrow i l = passes-narrow (past tr i) (at tr i) (h .passes i l)
 
@@ -108,7 +108,8 @@ module _ {b : List ℕ} {tr : List Record} {w : List ℕ} {r : Recorder} (h : Ho
   unfolding judged rule
   judged-is x = rw (before-is, h .stands, h .owns)
 
-  pub step-is : (x : Record) → stepLeft w r x ≡ pass w r (rule (past tr (length tr)) x) (length tr + 1) (pass w r (full w (length tr)) 0 (stepping w (length tr) x (place (r .situation) (x .kind))))
+  pub step-is : (x : Record) → stepLeft w r x ≡ pass w r (rule (past tr (length tr)) x) (length tr + 1)
+      (pass w r (full w (length tr)) 0 (stepping w (length tr) x (place (r .situation) (x .kind))))
   step-is x = rw (← judged-is x) (step-open w r (h .is-open) (length tr) (sym held-is) x)
 
 -- opening
@@ -119,7 +120,7 @@ pub open-is : (b : List ℕ) → 8 ≤ length b → openLeft b ≡ fresh b
 unfolding openLeft
 open-is b l = rw (le-leb 8 (length b) l)
 
-open-long : (b : List ℕ) → openLeft b .answer ≡ opens → 8 ≤ length b
+pub open-long : (b : List ℕ) → openLeft b .answer ≡ opens → 8 ≤ length b
 unfolding openLeft
 open-long b e = leb-true 8 (length b) (go (leb 8 (length b)) (fresh b) _ refl e)
   where
@@ -127,32 +128,27 @@ open-long b e = leb-true 8 (length b) (go (leb 8 (length b)) (fresh b) _ refl e)
     go true x y q e = refl
     go false x y q e = let z : _≡_ {A = ℕ} 0 1 = cc in absurd (omega arith)
 
-pub opened : (b : List ℕ) → 8 ≤ length b → Holds b [] b (fresh b .recorder)
+pub opened : (b : List ℕ) → Holds [] b (fresh b .recorder)
 unfolding encode situation owner past
-opened b l = record {
+opened b = record {
   is-open = refl;
   counts = refl;
   few = omega arith;
-  long = refl;
   fits = omega arith;
   front = refl;
-  beyond = refl;
   passes = λ i k. absurd (not-suc-le-zero k);
   stands = refl;
   owns = refl;
 }
 
-pub further : (p k : ℕ) (w b : List ℕ) → drop p w ≡ drop p b → drop (p + k) w ≡ drop (p + k) b
-further p k w b e = sym (drop-drop k p w) ∙ ap (drop k) e ∙ drop-drop k p b
-
 -- a step that is taken
-module _ {b : List ℕ} {tr : List Record} {w : List ℕ} {r : Recorder} (h : Holds b tr w r) (x : Record) where
-  record Steps : Type 0 where
-    allowed : rule (past tr (length tr)) x ≡ 0
-    spacious : space w (length tr) ≡ true
-    leaves : stepLeft w r x ≡ stepping w (length tr) x (place (r .situation) (x .kind))
+module _ {tr : List Record} {w : List ℕ} {r : Recorder} (h : Holds tr w r) (x : Record) where
+  pub record Steps : Type 0 where
+    pub allowed : rule (past tr (length tr)) x ≡ 0
+    pub spacious : space w (length tr) ≡ true
+    pub leaves : stepLeft w r x ≡ stepping w (length tr) x (place (r .situation) (x .kind))
 
-  steps : stepLeft w r x .answer ≡ taken → Steps
+  pub steps : stepLeft w r x .answer ≡ taken → Steps
   steps e =
       let q = through-taken w r (length tr + 1) _ (rule (past tr (length tr)) x) (rw (step-is h x) at e) in
       let q2 = through-taken w r 0 _ (full w (length tr)) (q .1) in
@@ -177,7 +173,7 @@ module _ {b : List ℕ} {tr : List Record} {w : List ℕ} {r : Recorder} (h : Ho
       go (inl q) = rw (q, at-seam tr x [], past-front tr (x ∷ []) (length tr) (omega arith)) e
       go (inr l) = rw (at-front tr (x ∷ []) i l, past-front tr (x ∷ []) i (omega arith)) (h .passes i l)
 
-  stepped : rule (past tr (length tr)) x ≡ 0 → space w (length tr) ≡ true → Holds b more bytes last
+  stepped : rule (past tr (length tr)) x ≡ 0 → space w (length tr) ≡ true → Holds more bytes last
   unfolding situation owner
   stepped e f =
       let l = more-length in
@@ -187,23 +183,37 @@ module _ {b : List ℕ} {tr : List Record} {w : List ℕ} {r : Recorder} (h : Ho
       let t : 5 * suc (length tr) ≡ 5 * length tr + length (encode (x ∷ [])) = omega arith in
       let fits : 5 * length tr + length (encode (x ∷ [])) ≤ length w = omega arith in
       let n = stored-length w (5 * length tr) (encode (x ∷ [])) fits in
-      let o = h .long in
       record {
         is-open = refl;
         counts = omega arith;
         few = omega arith;
-        long = n ∙ o;
         fits = omega arith;
         front = rw (l, t, stored-front w (5 * length tr) (encode (x ∷ [])) fits, h .front) (sym (encode-append tr (x ∷ [])));
-        beyond = rw (l, t, stored-beyond w (5 * length tr) (encode (x ∷ [])) fits) (further (5 * length tr) (length (encode (x ∷ []))) w b (h .beyond));
         passes = passes-more e;
         stands = rw (l, p, ← h .stands);
         owns = rw (l, p);
       }
 
+-- other bytes in which the records are unaltered hold the steps too
+lent-holds : {tr : List Record} {w : List ℕ} {r : Recorder} → Holds tr w r → (w′ : List ℕ) → Unaltered r w w′ → Holds tr w′ r
+lent-holds {tr} {w} h w′ u =
+    let f : take (5 * length tr) w′ ≡ encode tr = rw (held-is h) at u ∙ h .front in
+    let l : min (5 * length tr) (length w′) ≡ 5 * length tr = sym (length-take (5 * length tr) w′) ∙ ap length f ∙ encode-length tr in
+    record {
+      is-open = h .is-open;
+      counts = h .counts;
+      few = h .few;
+      fits = omega arith;
+      front = f;
+      passes = h .passes;
+      stands = h .stands;
+      owns = h .owns;
+    }
+
 -- a recording holds its steps
-pub holds : {b : List ℕ} {tr : List Record} {w : List ℕ} {r : Recorder} → Recording b tr w r → Holds b tr w r
-holds {b} (opening e) = let l = open-long b e in rw (open-is b l) (opened b l)
+pub holds : {b : List ℕ} {tr : List Record} {w : List ℕ} {r : Recorder} → Recording b tr w r → Holds tr w r
+holds {b} (opening e) = rw (open-is b (open-long b e)) (opened b)
+holds (lent c w′ u) = lent-holds (holds c) w′ u
 holds (step c x e) = let h = holds c in let s = steps h x e in rw (s .leaves) (stepped h x (s .allowed) (s .spacious))
 holds (refused-step {w = w} {r = r} c x n p e) = rw (step-refused w r x n p e) (holds c)
 holds (refused-closing {w = w} {r = r} c n p e) = rw (close-refused w r n p e) (holds c)

@@ -14,7 +14,8 @@ use Rattle.trace.specs.Place.{between, place}
 use Rattle.trace.specs.Encoding.{encode, trailer}
 use Rattle.trace.specs.Paper.{Verdict, passes, fails, verdict}
 use Rattle.recorder.specs.declared.Recorder.{Recorder}
-use Rattle.recorder.specs.Recording.{refused, taken, closes, Left, pass, stored, held, before, judged, closedAlready, space, full, stopsInside, noTrailer, stepLeft, closeLeft}
+use Rattle.recorder.specs.Recording.{refused, taken, closes, Left, pass, stored, held, before, judged, closedAlready, space, full, stopsInside, noTrailer}
+use Rattle.recorder.specs.Recording.{stepLeft, closeLeft}
 
 abbrev pub refusing : List ℕ → Recorder → ℕ → ℕ → Left
 refusing b r n p = record { answer = refused n p; recorder = r; bytes = b }
@@ -111,7 +112,8 @@ module _ (b : List ℕ) (r : Recorder) where
 
     pub close-short : r .situation ≡ 0 → length b < 5 * n + 8 → refusing b r 25 0 ≡ closeLeft b r
     unfolding noTrailer
-    close-short s l = sym (close-open ∙ pass-on b r (stopsInside r) n _ (outside s) ∙ pass-out b r (noTrailer b n) 24 0 _ (rw (lt-leb (5 * n + 8) (length b) l)))
+    close-short s l = sym (close-open ∙ pass-on b r (stopsInside r) n _ (outside s) ∙ pass-out b r (noTrailer b n) 24 0 _
+        (rw (lt-leb (5 * n + 8) (length b) l)))
 
     pub close-done : r .situation ≡ 0 → 5 * n + 8 ≤ length b → closing b n r ≡ closeLeft b r
     unfolding noTrailer

@@ -4,4 +4,7 @@ pub mod Left
 pub mod Appended
 pub mod Holds
 pub mod Recorded
+pub mod Beyond
+pub mod RoundTrip
 pub mod Alike
+pub mod Cases

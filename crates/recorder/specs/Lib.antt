@@ -1,2 +1,3 @@
 pub mod Recording
 pub mod History
+pub mod RoundTrip

@@ -11,6 +11,7 @@ use Rattle.trace.specs.Place.{between, place}
 use Rattle.trace.specs.Rule.{judge}
 use Rattle.trace.specs.Reading.{recordsIn}
 use Rattle.trace.specs.Encoding.{encode, trailer}
+use Rattle.records.specs.declared.EventId.{EventId}
 use Rattle.recorder.specs.declared.Recorder.{Recorder}
 use Rattle.recorder.specs.declared.Opened.{Opened}
 use Rattle.recorder.specs.declared.Opening.{Opening}
@@ -61,6 +62,10 @@ ofStep n b = left (steppedPaper (n .answer)) (n .recorder) b
 
 abbrev pub ofClosing : Ended → List ℕ → Left
 ofClosing e b = left (closingPaper (e .answer)) (e .recorder) b
+
+-- the recorder that its four numbers say
+abbrev pub ofNumbers : ℕ → ℕ → EventId → Bool → Recorder
+ofNumbers count situation owner closed = record { count = count; situation = situation; owner = owner; closed = closed }
 
 -- "A refused step leaves recorder and bytes unchanged": the refusal with this number and place, or next where the number is 0.
 unfoldable pub pass : List ℕ → Recorder → ℕ → ℕ → Left → Left

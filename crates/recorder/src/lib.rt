@@ -3,14 +3,16 @@
 mod look;
 mod store;
 
+use records::EventId;
+use records::Operation;
 use records::Record;
 use trace::Checked;
-use trace::EventId;
-use trace::Operation;
 use trace::Refusal;
 ghost use mathlib.Core.Path.{_≡_};
+ghost use mathlib.Core.Bool.{false};
 ghost use Prim.Native.Nat.{_≤_};
-ghost use Rattle.recorder.specs.Recording.{steppedPaper, closingPaper, left, ofOpening, ofStep, ofClosing, held, openLeft, stepLeft, closeLeft};
+ghost use Rattle.recorder.specs.Recording.{steppedPaper, closingPaper, left, ofOpening, ofStep, ofClosing, ofNumbers};
+ghost use Rattle.recorder.specs.Recording.{held, openLeft, stepLeft, closeLeft};
 
 // The recorder's one state: how many records are stored, the situation, the open or joining event, and whether the trace is closed.
 pub struct Recorder {
@@ -59,6 +61,21 @@ fn stored_records(r: Recorder) -> usize
         return r.count as usize;
     }
     4096
+}
+
+// After a step that is taken the recorder has these numbers.
+fn step_taken(count: u16, situation: u8, owner: EventId) -> Next
+    ensures { λ n. ⌜ (n .recorder ≡ ofNumbers count situation owner false) × (n .answer ≡ Stepped.Taken) ⌝ }
+{
+    Next {
+        recorder: Recorder {
+            count: count,
+            situation: situation,
+            owner: owner,
+            closed: false,
+        },
+        answer: Stepped::Taken,
+    }
 }
 
 // A refused step leaves the recorder as it was.
@@ -113,45 +130,61 @@ pub fn open_on(bytes: &[u8]) -> Opened
     }
 }
 
-// One step: the record is checked, and stored where there is space for it and a trailer.
-pub fn step_on(bytes: &mut [u8], r: Recorder, rec: Record) -> Next
-    ensures { λ n. ⌜ ofStep n (now (bytes .exit)) ≡ stepLeft (now (bytes .entry)) r rec ⌝ }
+// One step, on bytes and numbers: the record is checked, and stored where there is space for it and a trailer.
+pub fn step_numbers(
+    bytes: &mut [u8],
+    count: u16,
+    situation: u8,
+    owner: EventId,
+    closed: bool,
+    rec: Record,
+) -> Next
+    ensures { λ n. ⌜ ofStep n (now (bytes .exit)) ≡ stepLeft (now (bytes .entry)) (ofNumbers count situation owner closed) rec ⌝ }
 {
-    if r.closed {
+    let r = Recorder {
+        count: count,
+        situation: situation,
+        owner: owner,
+        closed: closed,
+    };
+    if closed {
         return not_taken(r, trace::CLOSED, 0);
     }
     let n = stored_records(r);
     let checked = look::check(bytes, n, r, rec);
     match checked {
         Checked::Refused(f) => not_taken(r, f.number, f.place.0),
-        Checked::Next(situation) => {
+        Checked::Next(next) => {
             if !store::has_space(bytes, n) {
                 return not_taken(r, trace::NO_SPACE, 0);
             }
             store::put_record(bytes, 5 * n, rec);
-            let count = (n + 1) as u16;
-            Next {
-                recorder: Recorder {
-                    count: count,
-                    situation: situation,
-                    owner: EventId(rec.first),
-                    closed: false,
-                },
-                answer: Stepped::Taken,
-            }
+            step_taken((n + 1) as u16, next, EventId(rec.first))
         }
     }
 }
 
-// The trailer is stored, and the recorder is closed.
-pub fn close_on(bytes: &mut [u8], r: Recorder) -> Ended
-    ensures { λ e. ⌜ ofClosing e (now (bytes .exit)) ≡ closeLeft (now (bytes .entry)) r ⌝ }
+// Closing, on bytes and numbers: the trailer is stored, and the recorder is closed.
+pub fn close_numbers(
+    bytes: &mut [u8],
+    count: u16,
+    situation: u8,
+    owner: EventId,
+    closed: bool,
+) -> Ended
+    ensures { λ e. ⌜ ofClosing e (now (bytes .exit)) ≡ closeLeft (now (bytes .entry)) (ofNumbers count situation owner closed) ⌝ }
 {
-    if r.closed {
+    let r = Recorder {
+        count: count,
+        situation: situation,
+        owner: owner,
+        closed: closed,
+    };
+    if closed {
         return not_closed(r, trace::CLOSED, 0);
     }
     let n = stored_records(r);
-    if r.situation != 0 {
+    if situation != 0 {
         return not_closed(r, trace::STOPS_INSIDE, n as u16);
     }
     let at = 5 * n;
@@ -160,11 +193,10 @@ pub fn close_on(bytes: &mut [u8], r: Recorder) -> Ended
     }
     let begins = look::begins(bytes, n);
     store::put_trailer(bytes, at, begins);
-    let owner = r.owner;
     Ended {
         recorder: Recorder {
-            count: r.count,
-            situation: r.situation,
+            count: count,
+            situation: situation,
             owner: owner,
             closed: true,
         },
@@ -172,20 +204,44 @@ pub fn close_on(bytes: &mut [u8], r: Recorder) -> Ended
     }
 }
 
-// One step of the recorder that is lent.
+// One step of the recorder that is lent: its numbers go in, and the recorder that comes back is stored.
 pub fn step(r: &mut Recorder, bytes: &mut [u8], rec: Record) -> Stepped
     ensures { λ a. ⌜ left (steppedPaper a) (now (r .exit)) (now (bytes .exit)) ≡ stepLeft (now (bytes .entry)) (now (r .entry)) rec ⌝ }
 {
-    let next = step_on(bytes, *r, rec);
+    let next = step_numbers(bytes, r.count, r.situation, r.owner, r.closed, rec);
     *r = next.recorder;
     next.answer
 }
 
-// Closes the recorder that is lent.
+// Closes the recorder that is lent, likewise.
 pub fn close(r: &mut Recorder, bytes: &mut [u8]) -> Closing
     ensures { λ a. ⌜ left (closingPaper a) (now (r .exit)) (now (bytes .exit)) ≡ closeLeft (now (bytes .entry)) (now (r .entry)) ⌝ }
 {
-    let ended = close_on(bytes, *r);
+    let ended = close_numbers(bytes, r.count, r.situation, r.owner, r.closed);
     *r = ended.recorder;
     ended.answer
+}
+
+// One step of a recorder given by value, which is lent to `step`: whoever calls this has plain parameters only.
+pub fn step_on(bytes: &mut [u8], r: Recorder, rec: Record) -> Next
+    ensures { λ n. ⌜ ofStep n (now (bytes .exit)) ≡ stepLeft (now (bytes .entry)) r rec ⌝ }
+{
+    let mut kept = r;
+    let answer = step(&mut kept, bytes, rec);
+    Next {
+        recorder: kept,
+        answer: answer,
+    }
+}
+
+// Closes a recorder given by value, which is lent to `close`.
+pub fn close_on(bytes: &mut [u8], r: Recorder) -> Ended
+    ensures { λ e. ⌜ ofClosing e (now (bytes .exit)) ≡ closeLeft (now (bytes .entry)) r ⌝ }
+{
+    let mut kept = r;
+    let answer = close(&mut kept, bytes);
+    Ended {
+        recorder: kept,
+        answer: answer,
+    }
 }

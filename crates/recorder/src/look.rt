@@ -1,10 +1,10 @@
 // Looking back through the records that stand in the bytes.
 use crate::Recorder;
+use records::Operation;
 use records::Record;
 use records::Trace;
 use records::access;
 use trace::Checked;
-use trace::Operation;
 use trace::rule;
 ghost use mathlib.Core.Path.{_≡_};
 ghost use mathlib.Core.Bool.{_&&_, _||_};

@@ -18,7 +18,7 @@ fn record(kind: u8, first: u16, second: u16) -> Record {
     }
 }
 
-fn step_of_t(i: usize) -> Record {
+pub(crate) fn step_of_t(i: usize) -> Record {
     match i {
         0 => record(1, 1, 0),
         1 => record(3, 1, 2),

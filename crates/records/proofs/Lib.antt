@@ -2,3 +2,5 @@ pub mod Records
 pub mod Decoded
 pub mod Positions
 pub mod Leading
+pub mod SearchLaws
+pub mod MarkLaws

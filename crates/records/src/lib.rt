@@ -1,6 +1,16 @@
-// The records of a trace: where they stand in the bytes and what each says, and sets of events as marks.
+// The records of a trace: identifiers, where records stand in the bytes and what each says, and sets of events as marks.
 pub mod access;
 pub mod marks;
+pub mod search;
+
+// An event's number, 1 to 1,024: the source's EventId.
+pub struct EventId(pub u16);
+
+// A cell's number, 1 to 1,024: the source's Var.
+pub struct Var(pub u16);
+
+// A record's number, from 1 in trace order: the source's Operation.
+pub struct Operation(pub u16);
 
 // One record of a trace.
 pub struct Record {

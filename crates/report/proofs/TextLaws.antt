@@ -1,5 +1,5 @@
 -- The lines of the trace program, one after the other. Assumes nothing.
-use Prim.Native.Nat.{ℕ, zero, suc, _+_, _*_, _-_, _≤_, _<_}
+use Prim.Native.Nat.{ℕ, suc, _+_, _*_, _-_, _≤_, _<_}
 use mathlib.Core.Path.{_≡_, refl, sym, ap, ap₂, _∙_, subst}
 use mathlib.Core.Bool.{Bool, true, false, cond}
 use mathlib.Core.List.{List, [], _∷_, _++_, append-assoc}
@@ -18,7 +18,8 @@ use Rattle.clocks.specs.Rows.{spaceFor}
 use Rattle.order.specs.Fill.{beginPosition, shortRow, chainsUsed}
 use Rattle.races.specs.declared.Listing.{Listing}
 use Rattle.races.specs.Paper.{listPaper, Lists}
-use Rattle.races.specs.Lists.{numbers, entry, pairsOf, shapeOf, markOf, listFor, ListReply, refused, listed, demand, listFilled, listTrace, listRead, listReply, listAfter, listAfterRead}
+use Rattle.races.specs.Lists.{numbers, entry, pairsOf, shapeOf, markOf, listFor, ListReply, refused, listed, demand, listFilled, listTrace}
+use Rattle.races.specs.Lists.{listRead, listReply, listAfter, listAfterRead}
 use Rattle.report.specs.Text.{pairLines, replyLines, readLines, linesOf, putLines, afterLines, Prints, entryLine, entryLines, noClocks, noWork, noList}
 
 -- one line, then the rest
@@ -28,7 +29,10 @@ prints-none s at = record { contents = refl; answer = refl }
 
 pub prints-then : {s s₁ s₂ : List ℕ} {at r q : ℕ} {l : List ℕ} {ls : List (List ℕ)} → Printed s at l s₁ r → Prints s₁ r ls s₂ q → Prints s at (l ∷ ls) s₂ q
 unfolding putLines afterLines
-prints-then {ls = ls} p q = record { contents = q .contents ∙ ap₂ (λ x y. putLines x y ls) (p .contents) (p .answer); answer = q .answer ∙ ap₂ (λ x y. afterLines x y ls) (p .contents) (p .answer) }
+prints-then {ls = ls} p q = record {
+  contents = q .contents ∙ ap₂ (λ x y. putLines x y ls) (p .contents) (p .answer);
+  answer = q .answer ∙ ap₂ (λ x y. afterLines x y ls) (p .contents) (p .answer);
+}
 
 pub prints-one : {s s₁ : List ℕ} {at r : ℕ} {l : List ℕ} → Printed s at l s₁ r → Prints s at (l ∷ []) s₁ r
 prints-one {s₁ = s₁} {r = r} p = prints-then p (prints-none s₁ r)
@@ -68,15 +72,21 @@ module _ (list : List ℕ) (count : ℕ) (s₀ : List ℕ) (at₀ : ℕ) where
   unfolding entryLines
   entries-none i h = let e : count - i ≡ 0 = omega arith in rw e refl
 
-  pub printing-next : {s s₁ : List ℕ} {at r i : ℕ} → Printing list count s₀ at₀ s at i → i < count → Printed s at (entryLine list i) s₁ r → Printing list count s₀ at₀ s₁ r (i + 1)
-  printing-next {i = i} p h q = record { low = omega arith; size = printed-size q ∙ p .size; finish = λ s′ r k. p .finish s′ r (rw (entries-more i h) (prints-then q k)) }
+  pub printing-next : {s s₁ : List ℕ} {at r i : ℕ}
+      → Printing list count s₀ at₀ s at i → i < count → Printed s at (entryLine list i) s₁ r → Printing list count s₀ at₀ s₁ r (i + 1)
+  printing-next {i = i} p h q = record {
+    low = omega arith;
+    size = printed-size q ∙ p .size;
+    finish = λ s′ r k. p .finish s′ r (rw (entries-more i h) (prints-then q k));
+  }
 
   pub printing-end : {s : List ℕ} {at i : ℕ} → Printing list count s₀ at₀ s at i → count ≤ i → Prints s₀ at₀ (entryLines list 0 count) s at
   printing-end {s} {at} {i} p h = p .finish s at (rw (entries-none i h) (prints-none s at))
 
 -- The entries of a list that was made, as numbers, give the lines of its pairs.
 module _ (tr : List Record) where
-  five : (before : List ℕ) (a b c d e : ℕ) (more : List ℕ) (i : ℕ) → length before ≡ 5 * i → entryLine (before ++ (a ∷ b ∷ c ∷ d ∷ e ∷ more)) i ≡ pairLine a b c d e
+  five : (before : List ℕ) (a b c d e : ℕ) (more : List ℕ) (i : ℕ)
+      → length before ≡ 5 * i → entryLine (before ++ (a ∷ b ∷ c ∷ d ∷ e ∷ more)) i ≡ pairLine a b c d e
   unfolding entryLine
   five before a b c d e more i h =
       let l = a ∷ b ∷ c ∷ d ∷ e ∷ more in
@@ -85,9 +95,11 @@ module _ (tr : List Record) where
       let q : 5 * i + 2 ≡ length before + 2 = omega arith in
       let r : 5 * i + 3 ≡ length before + 3 = omega arith in
       let s : 5 * i + 4 ≡ length before + 4 = omega arith in
-      rw (p, q, r, s, z, getD-append-add before l 0 0, getD-append-add before l 1 0, getD-append-add before l 2 0, getD-append-add before l 3 0, getD-append-add before l 4 0) refl
+      let nth : (k : ℕ) → getD (before ++ l) (length before + k) 0 ≡ getD l k 0 = λ k. getD-append-add before l k 0 in
+      rw (p, q, r, s, z, nth 0, nth 1, nth 2, nth 3, nth 4) refl
 
-  pub entries-lines : (ps : List (ℕ × ℕ)) (before rest : List ℕ) (i : ℕ) → length before ≡ 5 * i → entryLines (before ++ (numbers tr ps ++ rest)) i (length ps) ≡ pairLines tr ps
+  pub entries-lines : (ps : List (ℕ × ℕ)) (before rest : List ℕ) (i : ℕ)
+      → length before ≡ 5 * i → entryLines (before ++ (numbers tr ps ++ rest)) i (length ps) ≡ pairLines tr ps
   unfolding entryLines pairLines numbers entry
   entries-lines [] before rest i h = refl
   entries-lines ((a, b) ∷ ps) before rest i h =
@@ -124,7 +136,8 @@ module _ (b clocks′ work′ list′ : List ℕ) (r : Listing) (h : length b �
 
   -- a trace that is listed
   module _ (tr : List Record) (m : ℕ) where
-    traced : (q : ListReply) → listTrace true tr m 32 32768 1024 40960 ≡ q → isListed q ≡ true → (countOf q ≡ length (pairsOf tr true)) × (length (pairsOf tr true) ≤ 8192)
+    traced : (q : ListReply) → listTrace true tr m 32 32768 1024 40960 ≡ q → isListed q ≡ true
+        → (countOf q ≡ length (pairsOf tr true)) × (length (pairsOf tr true) ≤ 8192)
     unfolding listTrace listFilled demand
     traced q e y = go (spaceFor 32 m 32768) (leb m 1024) (eqb (shortRow tr 32) m) (listFor (length (pairsOf tr true)) 40960) refl e y
       where
@@ -132,7 +145,8 @@ module _ (b clocks′ work′ list′ : List ℕ) (r : Listing) (h : length b �
         strange z = subst T (sym z) tt
 
         go : (x₁ x₂ x₃ x₄ : Bool) → listFor (length (pairsOf tr true)) 40960 ≡ x₄
-            → demand x₁ 21 0 (demand x₂ 22 0 (demand x₃ 23 (beginPosition tr (shortRow tr 32) + 1) (demand x₄ 24 0 (listed m (length tr) (chainsUsed tr) (length (pairsOf tr true)))))) ≡ q
+            → demand x₁ 21 0 (demand x₂ 22 0 (demand x₃ 23 (beginPosition tr (shortRow tr 32) + 1)
+            (demand x₄ 24 0 (listed m (length tr) (chainsUsed tr) (length (pairsOf tr true)))))) ≡ q
             → isListed q ≡ true → (countOf q ≡ length (pairsOf tr true)) × (length (pairsOf tr true) ≤ 8192)
         go true true true true f e y = (ap countOf (sym e), leb-true (length (pairsOf tr true)) 8192 f)
         go true true true false f e y = absurd (strange (ap isListed e ∙ y))
@@ -153,12 +167,15 @@ module _ (b clocks′ work′ list′ : List ℕ) (r : Listing) (h : length b �
     unfolding listRead readLines replyLines listAfterRead listAfter
     listed-lines = short-input ∙ go (readReply b) (sym answer ∙ p) list-after
       where
-        go : (q : Reply) → listRead true b q 32 32768 1024 40960 ≡ listed e n c k → list′ ≡ listAfterRead true b q 32 32768 1024 noList → readLines b q ≡ headerLine e n c k ∷ entryLines list′ 0 k
+        go : (q : Reply) → listRead true b q 32 32768 1024 40960 ≡ listed e n c k → list′ ≡ listAfterRead true b q 32 32768 1024 noList
+            → readLines b q ≡ headerLine e n c k ∷ entryLines list′ 0 k
         go (reading.refused x y) f a = absurd (subst T (sym (ap isListed f)) tt)
         go (reading.accepted start x m) f a =
             let tr = recordsIn b start x in
             let (g, w) = traced tr m (listed e n c k) f refl in
-            rw f (ap (λ ls. headerLine e n c k ∷ ls) (sym (ap₂ (λ i j. entryLines i 0 j) (a ∙ rw (spaces .2, f) refl) g ∙ entries-lines tr (pairsOf tr true) [] (drop (5 * length (pairsOf tr true)) noList) 0 refl)))
+            let ps = pairsOf tr true in
+            let lines = entries-lines tr ps [] (drop (5 * length ps) noList) 0 refl in
+            rw f (ap (λ ls. headerLine e n c k ∷ ls) (sym (ap₂ (λ i j. entryLines i 0 j) (a ∙ rw (spaces .2, f) refl) g ∙ lines)))
 
   pub refused-lines : (n p : ℕ) → listPaper r ≡ refused n p → linesOf b ≡ refusedLine n p ∷ []
   unfolding listRead readLines replyLines
@@ -173,5 +190,9 @@ unfolding linesOf
 long-input b h = rw (lt-ltb 32768 (length b) h) refl
 
 -- the call over spaces of zeros
-pub over-zeros : {b clocks clocks′ work work′ list list′ : List ℕ} {r : Listing} → clocks ≡ noClocks → work ≡ noWork → list ≡ noList → Lists true b 32 clocks clocks′ work work′ list list′ r → Lists true b 32 noClocks clocks′ noWork work′ noList list′ r
-over-zeros {b} {clocks} {clocks′} {work} {work′} {list} {list′} {r} p q s l = subst (λ (x : List ℕ). Lists true b 32 noClocks clocks′ noWork work′ x list′ r) s (subst (λ (x : List ℕ). Lists true b 32 noClocks clocks′ x work′ list list′ r) q (subst (λ (x : List ℕ). Lists true b 32 x clocks′ work work′ list list′ r) p l))
+pub over-zeros : {b clocks clocks′ work work′ list list′ : List ℕ} {r : Listing} → clocks ≡ noClocks → work ≡ noWork → list ≡ noList
+    → Lists true b 32 clocks clocks′ work work′ list list′ r → Lists true b 32 noClocks clocks′ noWork work′ noList list′ r
+over-zeros {b} {clocks} {clocks′} {work} {work′} {list} {list′} {r} p q s l =
+    subst (λ (x : List ℕ). Lists true b 32 noClocks clocks′ noWork work′ x list′ r) s
+    (subst (λ (x : List ℕ). Lists true b 32 noClocks clocks′ x work′ list list′ r) q
+    (subst (λ (x : List ℕ). Lists true b 32 x clocks′ work work′ list list′ r) p l))

@@ -1,7 +1,6 @@
--- The text stands whole in a space of 262,144 bytes, for every input. Assumes nothing.
-use Prim.Native.Nat.{ℕ, zero, suc, _+_, _*_, _≤_, _<_}
-use mathlib.Core.Path.{_≡_, refl, sym, ap, ap₂, _∙_, subst}
-use mathlib.Core.Bool.{Bool, true, false, cond}
+-- Lines that fit the space stand in it whole, one after the other. Assumes nothing.
+use Prim.Native.Nat.{ℕ, _+_, _≤_}
+use mathlib.Core.Path.{_≡_, refl, sym, ap, _∙_}
 use mathlib.Core.List.{List, [], _∷_, _++_, append-assoc}
 use native.Mathlib.Omega.{arith}
 use borrow.Author.Tests.{le-leb}
@@ -28,17 +27,21 @@ module _ where
   unfolding text
   text-then l ls = refl
 
-  put-all : (ls : List (List ℕ)) (before s : List ℕ) → length (text ls) ≤ length s → putLines (before ++ s) (length before) ls ≡ before ++ (text ls ++ drop (length (text ls)) s)
+  put-all : (ls : List (List ℕ)) (before s : List ℕ) → length (text ls) ≤ length s
+      → putLines (before ++ s) (length before) ls ≡ before ++ (text ls ++ drop (length (text ls)) s)
   unfolding putLines text
   put-all [] before s h = refl
   put-all (l ∷ ls) before s h =
       let k = length-append l (text ls) in
       let a : length l ≤ length s = omega (arith, k) in
       let d : length (text ls) ≤ length (drop (length l) s) = omega (arith, k, length-drop (length l) s) in
-      let e : drop (length (text ls)) (drop (length l) s) ≡ drop (length (l ++ text ls)) s = drop-drop (length (text ls)) (length l) s ∙ ap (λ n. drop n s) (sym k) in
-      rw (put-next before s l a, after-next before s l a) (put-all ls (before ++ l) (drop (length l) s) d ∙ rw e (append-assoc before l (text ls ++ drop (length (l ++ text ls)) s) ∙ ap (λ x. before ++ x) (sym (append-assoc l (text ls) (drop (length (l ++ text ls)) s)))))
+      let past = drop (length (l ++ text ls)) s in
+      let e : drop (length (text ls)) (drop (length l) s) ≡ past = drop-drop (length (text ls)) (length l) s ∙ ap (λ n. drop n s) (sym k) in
+      let joined = append-assoc before l (text ls ++ past) ∙ ap (λ x. before ++ x) (sym (append-assoc l (text ls) past)) in
+      rw (put-next before s l a, after-next before s l a) (put-all ls (before ++ l) (drop (length l) s) d ∙ rw e joined)
 
-  after-all : (ls : List (List ℕ)) (before s : List ℕ) → length (text ls) ≤ length s → afterLines (before ++ s) (length before) ls ≡ length before + length (text ls)
+  after-all : (ls : List (List ℕ)) (before s : List ℕ) → length (text ls) ≤ length s
+      → afterLines (before ++ s) (length before) ls ≡ length before + length (text ls)
   unfolding afterLines text
   after-all [] before s h = omega arith
   after-all (l ∷ ls) before s h =
@@ -48,5 +51,8 @@ module _ where
       rw (put-next before s l a, after-next before s l a) (after-all ls (before ++ l) (drop (length l) s) d ∙ omega (arith, k, length-append before l))
 
 -- Lines that fit stand one after the other from the first byte on; the answer is their length, and the bytes past them are as before.
-pub prints-whole : {s s′ : List ℕ} {ls : List (List ℕ)} {r : ℕ} → Prints s 0 ls s′ r → length (text ls) ≤ length s → (s′ ≡ text ls ++ drop (length (text ls)) s) × (r ≡ length (text ls))
-prints-whole {s} {ls = ls} p h = (p .contents ∙ put-all ls [] s h, let z : 0 + length (text ls) ≡ length (text ls) = omega arith in p .answer ∙ after-all ls [] s h ∙ z)
+pub prints-whole : {s s′ : List ℕ} {ls : List (List ℕ)} {r : ℕ} → Prints s 0 ls s′ r → length (text ls) ≤ length s
+    → (s′ ≡ text ls ++ drop (length (text ls)) s) × (r ≡ length (text ls))
+prints-whole {s} {ls = ls} p h =
+    let z : 0 + length (text ls) ≡ length (text ls) = omega arith in
+    (p .contents ∙ put-all ls [] s h, p .answer ∙ after-all ls [] s h ∙ z)

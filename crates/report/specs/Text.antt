@@ -1,10 +1,10 @@
 -- What the trace program prints, as lines of bytes, for every input. Assumes nothing.
-use Prim.Native.Nat.{ℕ, zero, suc, _+_, _*_}
+use Prim.Native.Nat.{ℕ, zero, suc, _+_, _*_, _≤_}
 use mathlib.Core.Path.{_≡_}
 use mathlib.Core.Bool.{true, cond}
 use mathlib.Core.List.{List, [], _∷_, _++_}
 use lib.Dec.{ltb}
-use lib.ListN.{length, getD, replicate}
+use lib.ListN.{length, getD, drop, replicate}
 use Rattle.records.specs.declared.Record.{Record}
 use Rattle.records.specs.Records.{at}
 use Rattle.trace.specs.Reading as reading
@@ -26,6 +26,11 @@ replyLines tr (listed e r c k) = headerLine e r c k ∷ pairLines tr (pairsOf tr
 unfoldable pub readLines : List ℕ → Reply → List (List ℕ)
 readLines b (reading.refused n p) = refusedLine n p ∷ []
 readLines b (reading.accepted start n m) = replyLines (recordsIn b start n) (listTrace true (recordsIn b start n) m 32 32768 1024 40960)
+
+-- the sentence as a theorem, which adds that 21 is never given either: an accepted trace is refused by 23 alone
+abbrev pub SpacesSuffice : Type 0
+SpacesSuffice = (b : List ℕ) (start n m : ℕ) → readReply b ≡ reading.accepted start n m
+    → (k p : ℕ) → listTrace true (recordsIn b start n) m 32 32768 1024 40960 ≡ refused k p → k ≡ 23
 
 -- "13: program only, more than 32,768 bytes."; "Order: 13, 1, 2, 3, .."
 unfoldable pub linesOf : List ℕ → List (List ℕ)
@@ -66,3 +71,12 @@ noWork = replicate 1024 0
 
 unfoldable pub noList : List ℕ
 noList = replicate 40960 0
+
+-- The whole text stands from the first byte on, the bytes after it are as before, and the answer is its length.
+pub record Whole (b s s′ : List ℕ) (r : ℕ) : Type 0 where
+  pub contents : s′ ≡ text (linesOf b) ++ drop (length (text (linesOf b))) s
+  pub answer : r ≡ length (text (linesOf b))
+
+-- In 262,144 bytes, the space that the trace program lends, no line of any input's text is left out.
+abbrev pub WholeForEveryInput : Type 0
+WholeForEveryInput = (b s s′ : List ℕ) (r : ℕ) → 262144 ≤ length s → Prints s 0 (linesOf b) s′ r → Whole b s s′ r

@@ -1,5 +1,7 @@
 // The whole text that the trace program prints, for every input.
 use races::Listing;
+use records::Operation;
+use records::Var;
 ghost use mathlib.Core.Path.{_≡_};
 ghost use Prim.Native.Nat.{_*_, _≤_};
 ghost use lib.ListN.{getD};
@@ -45,9 +47,9 @@ fn put_entry(list: &[u16], i: usize, text: &mut [u8], at: usize) -> usize
     listing::put_pair(
         text,
         at,
-        number_at(list, from),
-        number_at(list, from + 1),
-        number_at(list, from + 2),
+        Operation(number_at(list, from)),
+        Operation(number_at(list, from + 1)),
+        Var(number_at(list, from + 2)),
         number_at(list, from + 3),
         number_at(list, from + 4),
     )
@@ -72,7 +74,7 @@ pub fn report(input: &[u8], text: &mut [u8]) -> usize
     ensures { λ r. ⌜ Prints (now (text .entry)) 0 (linesOf (now (input .entry))) (now (text .exit)) r ⌝ }
 {
     if LONGEST < input.len() {
-        return listing::put_refusal(text, 0, 13, 0);
+        return listing::put_refusal(text, 0, 13, Operation(0));
     }
     let mut clocks = no_clocks();
     let mut work = no_work();
@@ -83,6 +85,6 @@ pub fn report(input: &[u8], text: &mut [u8]) -> usize
             let at = listing::put_header(text, 0, s.events, s.records, s.chains, s.count);
             put_entries(&list, s.count, text, at)
         }
-        Listing::Refused(f) => listing::put_refusal(text, 0, f.number as usize, f.place.0 as usize),
+        Listing::Refused(f) => listing::put_refusal(text, 0, f.number as usize, f.place),
     }
 }

@@ -17,7 +17,7 @@ use Rattle.records.specs.Records.{begins as begin-count}
 use Rattle.trace.specs.Place.{place}
 use Rattle.trace.specs.Rule.{situation, numbered, rule}
 use Rattle.trace.specs.Reading.{Reply, refused, accepted, demand, closing, walk, distance, trailerReply, frameReply, recordsIn, recordsReply, readReply, Acceptable}
-use Rattle.trace.specs.Encoding.{low, high, encode, trailer, traceOf}
+use Rattle.trace.specs.Encoding.{Bytes, low, high, encode, trailer, traceOf}
 use Rattle.records.proofs.Records.{past-length}
 use Rattle.trace.proofs.Accepted.{passed, passed-record, part-length, records-length, accepts, accepted-of}
 use Rattle.trace.proofs.Marked.{formed}
@@ -33,10 +33,6 @@ pub record Narrow (r : Record) : Type 0 where
 
 abbrev pub AllNarrow : List Record → Type 0
 AllNarrow tr = (i : ℕ) → i < length tr → Narrow (at tr i)
-
--- every element is a byte
-abbrev pub Bytes : List ℕ → Type 0
-Bytes b = (i : ℕ) → i < length b → getD b i 0 < 256
 
 pub encode-length : (tr : List Record) → length (encode tr) ≡ 5 * length tr
 unfolding encode

@@ -9,4 +9,4 @@ pub mod PlaceRule
 pub mod Blocks
 pub mod Encoded
 pub mod Events
-pub mod Cases
+pub mod Examples

@@ -1,10 +1,14 @@
 -- The bytes of a trace, from record 1 to the end of the trailer.
 -- Assumes nothing.
-use Prim.Native.Nat.{ℕ, _*_, _/_, _%_}
+use Prim.Native.Nat.{ℕ, _*_, _/_, _%_, _<_}
 use mathlib.Core.List.{List, [], _∷_, _++_}
-use lib.ListN.{length}
+use lib.ListN.{length, getD}
 use Rattle.records.specs.declared.Record.{Record}
 use Rattle.records.specs.Records.{past, begins}
+
+-- every element is a byte
+abbrev pub Bytes : List ℕ → Type 0
+Bytes b = (i : ℕ) → i < length b → getD b i 0 < 256
 
 -- "fields are unsigned, low byte first"
 abbrev pub low : ℕ → ℕ

@@ -1,25 +1,17 @@
-// Traces of event actions: identifiers, and the reader, which checks a trace record by record.
+// Traces of event actions: the refusals, and the reader, which checks a trace record by record.
 mod frame;
 mod place;
 pub mod rule;
 mod scan;
 mod status;
 
+use records::Operation;
 use records::Trace;
 use records::access;
 ghost use mathlib.Core.Path.{_≡_};
 ghost use Prim.Native.Nat.{_≤_};
 ghost use Rattle.trace.specs.Reading.{refused, accepted, readReply};
 ghost use Rattle.trace.specs.Paper.{paper, refusalIn};
-
-// An event's number, 1 to 1,024: the source's EventId.
-pub struct EventId(pub u16);
-
-// A cell's number, 1 to 1,024: the source's Var.
-pub struct Var(pub u16);
-
-// A record's number, from 1 in trace order: the source's Operation.
-pub struct Operation(pub u16);
 
 // A refusal: its number and a record number, 0 where no record is concerned.
 pub struct Refusal {

@@ -1,9 +1,9 @@
 // The rules for one record, 4 to 8, given the situation, the open or joining event, and what has begun and ended before.
 use crate::Checked;
-use crate::EventId;
-use crate::Operation;
 use crate::Refusal;
 use crate::place;
+use records::EventId;
+use records::Operation;
 use records::Record;
 ghost use mathlib.Core.Path.{_≡_};
 ghost use mathlib.Core.Bool.{cond, not};
@@ -108,8 +108,8 @@ fn is_early(r: Record, second_ended: bool) -> bool
     !second_ended
 }
 
-// The number of the first of refusals 4 to 8 that applies to record r, or 0, where next is the table's entry for it. The three facts: its first has begun, its second has
-// begun, its second has ended.
+// The number of the first of refusals 4 to 8 that applies to record r, or 0, where next is the table's entry for it. The three facts: its first has
+// begun, its second has begun, its second has ended.
 fn fault(
     next: u8,
     situation: u8,

@@ -1,11 +1,11 @@
 // Every record checked in turn, and then the end of the trace.
-use crate::EventId;
 use crate::Reading;
 use crate::accept;
 use crate::place;
 use crate::refuse;
 use crate::rule;
 use crate::status;
+use records::EventId;
 use records::Record;
 use records::access::count;
 use records::access::record_at;
@@ -38,10 +38,11 @@ fn finish(records: usize, start: usize, events: usize, now_in: u8, found: usize)
     accept(start, records, found)
 }
 
-// The number of the first of refusals 7 and 8 that applies to record r, or 0, by what has begun and ended before. A begin or an end that passes is noted in its event's
-// status.
+// The number of the first of refusals 7 and 8 that applies to record r, or 0, by what has begun and ended before. A begin or an end that passes is
+// noted in its event's status.
 fn admit(status: &mut [u8; 1025], r: Record) -> u16
-    ensures { λ n. ⌜ (n ≡ cond (again r (hasBegun (now (status .entry)) (r .first)) (hasBegun (now (status .entry)) (r .second))) 7 (cond (early r (hasEnded (now (status .entry)) (r .second))) 8 0)) × (n ≡ 0 → now (status .exit) ≡ noted (now (status .entry)) r) ⌝ }
+    ensures { λ n. ⌜ (n ≡ cond (again r (hasBegun (now (status .entry)) (r .first)) (hasBegun (now (status .entry)) (r .second))) 7
+        (cond (early r (hasEnded (now (status .entry)) (r .second))) 8 0)) × (n ≡ 0 → now (status .exit) ≡ noted (now (status .entry)) r) ⌝ }
 {
     let kind = r.kind;
     if kind == 1 {

@@ -1,7 +1,7 @@
 -- `job_order::jco_ask_pair` meets its contract.
 -- Assumes nothing.
 use mathlib.Core.Path.{ap, _∙_}
-use Rattle.races.specs.Pair.{PairReply}
+use Rattle.pair.specs.Pair.{PairReply}
 use Rattle.job_order.specs.Calls.{pairNumbers}
 use borrow.Author.Needs.{needs}
 use Rattle.job_order.proofs.jco_ask_pair.Statement.{statement}

@@ -7,6 +7,15 @@ use borrow.Author.Needs.{needs}
 use Rattle.listing.proofs.put_pair.Statement.{statement}
 use Rattle.listing.proofs.put_pair.Tie as tie
 
+cast-a : tie.Need-cast-a
+cast-a c = search needs
+
+cast-b : tie.Need-cast-b
+cast-b c = search needs
+
+cast-c : tie.Need-cast-c
+cast-c c = search needs
+
 room-requires : tie.Need-room-requires
 room-requires c κs = search needs
 
@@ -50,6 +59,9 @@ pub put-pair-spec : {M : Type 1} → statement M
 put-pair-spec =
     tie.close
     (tie.spec
+    cast-a
+    cast-b
+    cast-c
     room-requires
     pair-width-requires
     returns

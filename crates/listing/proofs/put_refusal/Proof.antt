@@ -8,6 +8,9 @@ use borrow.Author.Needs.{needs}
 use Rattle.listing.proofs.put_refusal.Statement.{statement}
 use Rattle.listing.proofs.put_refusal.Tie as tie
 
+cast-p : tie.Need-cast-p
+cast-p c = search needs
+
 width-requires : tie.Need-width-requires
 width-requires c κs = search needs
 
@@ -49,6 +52,7 @@ pub put-refusal-spec : {M : Type 1} → statement M
 put-refusal-spec =
     tie.close
     (tie.spec
+    cast-p
     width-requires
     add-len
     width-requires-2

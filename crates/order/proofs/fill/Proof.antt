@@ -33,8 +33,8 @@ returns c =
 no-chains-requires : tie.Need-no-chains-requires
 no-chains-requires c κs = search needs
 
-no-ranks-requires : tie.Need-no-ranks-requires
-no-ranks-requires c κs = search needs
+none-requires : tie.Need-none-requires
+none-requires c κs = search needs
 
 records-requires : tie.Need-records-requires
 records-requires c κs = search needs
@@ -75,7 +75,7 @@ fill-spec =
     refusal-of-requires
     returns
     no-chains-requires
-    no-ranks-requires
+    none-requires
     records-requires
     slice-aggregate-fill-rows
     fill-rows-requires

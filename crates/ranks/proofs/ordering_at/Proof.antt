@@ -23,8 +23,8 @@ returns c =
 first-at-requires : tie.Need-first-at-requires
 first-at-requires c κs = search needs
 
-rank-of-requires : tie.Need-rank-of-requires
-rank-of-requires c κs = search needs
+rank-at-requires : tie.Need-rank-at-requires
+rank-at-requires c κs = search needs
 
 begin-of-requires : tie.Need-begin-of-requires
 begin-of-requires c κs = search needs
@@ -33,19 +33,19 @@ returns-2 : tie.Need-returns-2
 unfolding opOf
 returns-2 c =
     let at-kind-at = c .before .before .before .before .before in
-    c .begin-of .ensures ∙ simp (← at-kind-at .kind-at .ensures, eq-eqb _ _ (c .before .before .before .if2 .taken), c .before .rank-of .ensures, c .before .before .first-at .ensures)
+    c .begin-of .ensures ∙ simp (← at-kind-at .kind-at .ensures, eq-eqb _ _ (c .before .before .before .if2 .taken), c .before .rank-at .ensures, c .before .before .first-at .ensures)
 
 first-at-requires-2 : tie.Need-first-at-requires-2
 first-at-requires-2 c κs = search needs
 
-rank-of-requires-2 : tie.Need-rank-of-requires-2
-rank-of-requires-2 c κs = search needs
+rank-at-requires-2 : tie.Need-rank-at-requires-2
+rank-at-requires-2 c κs = search needs
 
 second-at-requires : tie.Need-second-at-requires
 second-at-requires c κs = search needs
 
-rank-of-requires-3 : tie.Need-rank-of-requires-3
-rank-of-requires-3 c κs = search needs
+rank-at-requires-3 : tie.Need-rank-at-requires-3
+rank-at-requires-3 c κs = search needs
 
 link-of-requires : tie.Need-link-of-requires
 link-of-requires c κs = search needs
@@ -57,19 +57,19 @@ returns-3 c =
     let at-if3 = at-first-at2 .before in
     let at-if2 = at-if3 .before in
     let at-kind-at = at-if2 .before .before in
-    c .link-of .ensures ∙ simp (← at-kind-at .kind-at .ensures, ne-eqb _ _ (at-if2 .if2 .left), eq-eqb _ _ (at-if3 .if3 .taken), c .before .before .before .rank-of2 .ensures, at-first-at2 .first-at2 .ensures, c .before .rank-of3 .ensures, c .before .before .second-at .ensures)
+    c .link-of .ensures ∙ simp (← at-kind-at .kind-at .ensures, ne-eqb _ _ (at-if2 .if2 .left), eq-eqb _ _ (at-if3 .if3 .taken), c .before .before .before .rank-at2 .ensures, at-first-at2 .first-at2 .ensures, c .before .rank-at3 .ensures, c .before .before .second-at .ensures)
 
 second-at-requires-2 : tie.Need-second-at-requires-2
 second-at-requires-2 c κs = search needs
 
-rank-of-requires-4 : tie.Need-rank-of-requires-4
-rank-of-requires-4 c κs = search needs
+rank-at-requires-4 : tie.Need-rank-at-requires-4
+rank-at-requires-4 c κs = search needs
 
 first-at-requires-3 : tie.Need-first-at-requires-3
 first-at-requires-3 c κs = search needs
 
-rank-of-requires-5 : tie.Need-rank-of-requires-5
-rank-of-requires-5 c κs = search needs
+rank-at-requires-5 : tie.Need-rank-at-requires-5
+rank-at-requires-5 c κs = search needs
 
 link-of-requires-2 : tie.Need-link-of-requires-2
 link-of-requires-2 c κs = search needs
@@ -82,7 +82,7 @@ returns-4 c =
     let at-if3 = at-if4 .before in
     let at-if2 = at-if3 .before in
     let at-kind-at = at-if2 .before .before in
-    c .link-of2 .ensures ∙ simp (← at-kind-at .kind-at .ensures, ne-eqb _ _ (at-if2 .if2 .left), ne-eqb _ _ (at-if3 .if3 .left), eq-eqb _ _ (at-if4 .if4 .taken), c .before .before .before .rank-of4 .ensures, at-second-at2 .second-at2 .ensures, c .before .rank-of5 .ensures, c .before .before .first-at3 .ensures)
+    c .link-of2 .ensures ∙ simp (← at-kind-at .kind-at .ensures, ne-eqb _ _ (at-if2 .if2 .left), ne-eqb _ _ (at-if3 .if3 .left), eq-eqb _ _ (at-if4 .if4 .taken), c .before .before .before .rank-at4 .ensures, at-second-at2 .second-at2 .ensures, c .before .rank-at5 .ensures, c .before .before .first-at3 .ensures)
 
 returns-5 : tie.Need-returns-5
 unfolding opOf
@@ -97,19 +97,19 @@ ordering-at-spec =
     kind-at-requires
     returns
     first-at-requires
-    rank-of-requires
+    rank-at-requires
     begin-of-requires
     returns-2
     first-at-requires-2
-    rank-of-requires-2
+    rank-at-requires-2
     second-at-requires
-    rank-of-requires-3
+    rank-at-requires-3
     link-of-requires
     returns-3
     second-at-requires-2
-    rank-of-requires-4
+    rank-at-requires-4
     first-at-requires-3
-    rank-of-requires-5
+    rank-at-requires-5
     link-of-requires-2
     returns-4
     returns-5)

@@ -1,23 +1,14 @@
 -- `ranks::rank_of` meets its contract.
 -- Assumes nothing.
-use lib.ListN.{List·getD-eq-default}
-use mathlib.Core.Path.{sym}
-use denote.Ref.{now}
 use borrow.Author.Needs.{needs}
 use Rattle.ranks.proofs.rank_of.Statement.{statement}
 use Rattle.ranks.proofs.rank_of.Tie as tie
 
-mul-result : tie.Need-mul-result
-mul-result c = search needs
-
-shared-slice-read-result : tie.Need-shared-slice-read-result
-shared-slice-read-result c = search needs
+rank-at-requires : tie.Need-rank-at-requires
+rank-at-requires c κs = search needs
 
 returns : tie.Need-returns
-returns c = search needs
-
-returns-2 : tie.Need-returns-2
-returns-2 c = sym (List·getD-eq-default (now (c .before .args .ranks)) 0 {n = c .before .args .e} (c .if1 .left))
+returns c = c .rank-at .ensures
 
 pub rank-of-spec : {M : Type 1} → statement M
-rank-of-spec = tie.close (tie.spec mul-result shared-slice-read-result returns returns-2)
+rank-of-spec = tie.close (tie.spec rank-at-requires returns)

@@ -1,3 +1,5 @@
+-- `report::no_clocks` meets its contract.
+-- Assumes nothing.
 use mathlib.Core.Path.{refl}
 use Rattle.report.specs.Text.{noClocks}
 use Rattle.report.proofs.no_clocks.Statement.{statement}

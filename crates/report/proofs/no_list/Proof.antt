@@ -1,3 +1,5 @@
+-- `report::no_list` meets its contract.
+-- Assumes nothing.
 use mathlib.Core.Path.{refl}
 use Rattle.report.specs.Text.{noList}
 use Rattle.report.proofs.no_list.Statement.{statement}

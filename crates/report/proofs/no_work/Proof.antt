@@ -1,3 +1,5 @@
+-- `report::no_work` meets its contract.
+-- Assumes nothing.
 use mathlib.Core.Path.{refl}
 use Rattle.report.specs.Text.{noWork}
 use Rattle.report.proofs.no_work.Statement.{statement}

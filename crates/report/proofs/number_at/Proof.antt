@@ -1,3 +1,5 @@
+-- `report::number_at` meets its contract.
+-- Assumes nothing.
 use lib.ListN.{List·getD-eq-default}
 use mathlib.Core.Path.{sym}
 use denote.Ref.{now}

@@ -1,3 +1,5 @@
+-- `report::put_entries` meets its contract.
+-- Assumes nothing.
 use native.Mathlib.Omega.{arith}
 use Prim.Native.Nat.{_-_}
 use Rattle.report.proofs.TextLaws.{Printing, printing-start, printing-next, printing-end}
@@ -14,16 +16,21 @@ loop-holds : tie.Need-loop-holds Inv-loop μ-loop
 loop-holds c = printing-start _ _ _ _
 
 put-entry-requires : tie.Need-put-entry-requires Inv-loop μ-loop
-put-entry-requires c κs = omega (arith, c .before .loop-test .taken, c .before .before .before .before .before .pre)
+put-entry-requires c κs = let s4 = c .before .before .before .before in omega (arith, c .before .loop-test .taken, s4 .before .pre)
 
 add-i : tie.Need-add-i Inv-loop μ-loop
-add-i c = omega (arith, c .before .before .before .before .loop-test .taken, c .before .before .before .before .before .before .before .before .pre)
+add-i c =
+    let s4 = c .before .before .before .before in
+    let s7 = s4 .before .before .before in
+    omega (arith, s4 .loop-test .taken, s7 .before .pre)
 
 loop-less : tie.Need-loop-less Inv-loop μ-loop
-loop-less c = omega (arith, c .before .before .before .before .loop-test .taken)
+loop-less c = let s4 = c .before .before .before .before in omega (arith, s4 .loop-test .taken)
 
 loop-again : tie.Need-loop-again Inv-loop μ-loop
-loop-again c = printing-next _ _ _ _ (c .before .before .before .before .before .loop .inv) (c .before .before .before .before .loop-test .taken) (c .before .before .put-entry .ensures)
+loop-again c =
+    let s4 = c .before .before .before .before in
+    printing-next _ _ _ _ (s4 .before .loop .inv) (s4 .loop-test .taken) (c .before .before .put-entry .ensures)
 
 same-length : tie.Need-same-length Inv-loop μ-loop
 same-length c = c .before .loop .inv .size

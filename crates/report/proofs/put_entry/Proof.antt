@@ -1,3 +1,5 @@
+-- `report::put_entry` meets its contract.
+-- Assumes nothing.
 use Rattle.report.specs.Text.{entryLine}
 use borrow.Author.Needs.{needs}
 use Rattle.report.proofs.put_entry.Statement.{statement}
@@ -41,7 +43,11 @@ same-length c = search needs
 
 returns : tie.Need-returns
 unfolding entryLine
-returns c = rw (← c .before .before .before .before .before .before .before .number-at .ensures, ← c .before .before .before .before .before .before .number-at2 .ensures, ← c .before .before .before .before .before .number-at3 .ensures, ← c .before .before .before .before .number-at4 .ensures, ← c .before .before .before .number-at5 .ensures) (c .before .before .put-pair .ensures)
+returns c =
+    let s4 = c .before .before .before .before in
+    let s7 = s4 .before .before .before in
+    rw (← s7 .number-at .ensures, ← s4 .before .before .number-at2 .ensures, ← s4 .before .number-at3 .ensures)
+    (rw (← s4 .number-at4 .ensures, ← c .before .before .before .number-at5 .ensures) (c .before .before .put-pair .ensures))
 
 pub put-entry-spec : {M : Type 1} → statement M
 put-entry-spec =

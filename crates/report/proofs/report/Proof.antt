@@ -1,3 +1,5 @@
+-- `report::report` meets its contract.
+-- Assumes nothing.
 use mathlib.Core.Path.{ap}
 use denote.Ref.{now}
 use Rattle.races.specs.Paper.{listPaper}
@@ -13,7 +15,9 @@ same-length : tie.Need-same-length
 same-length c = search needs
 
 returns : tie.Need-returns
-returns c = rw (long-input (now (c .before .before .before .before .before .before .before .args .input)) (c .before .before .before .before .if1 .taken)) (prints-one (c .before .before .put-refusal .ensures))
+returns c =
+    let s4 = c .before .before .before .before in
+    rw (long-input (now (s4 .before .before .before .args .input)) (s4 .if1 .taken)) (prints-one (c .before .before .put-refusal .ensures))
 
 no-clocks-requires : tie.Need-no-clocks-requires
 no-clocks-requires c κs = search needs
@@ -46,16 +50,23 @@ slice-aggregate-put-entries : tie.Need-slice-aggregate-put-entries
 slice-aggregate-put-entries c = search needs
 
 put-entries-requires : tie.Need-put-entries-requires
-put-entries-requires c κs = listed-few (now (c .before .before .before .before .before .before .before .before .before .before .before .before .before .before .before .before .before .before .before .before .before .before .args .input)) _ _ _ _ (c .before .before .before .before .before .before .before .before .before .before .before .before .before .before .before .before .before .before .before .if1 .left) (over-zeros (c .before .before .before .before .before .before .before .before .before .before .before .before .before .before .before .before .before .before .no-clocks .ensures) (c .before .before .before .before .before .before .before .before .before .before .before .before .before .before .before .before .before .no-work .ensures) (c .before .before .before .before .before .before .before .before .before .before .before .before .before .before .before .before .no-list .ensures) (c .before .before .before .before .before .before .before .before .before .before .before .before .short-list .ensures)) _ _ _ _ (ap listPaper (c .before .before .before .before .before .before .before .found .given .1))
+put-entries-requires c κs =
+    let s4 = c .before .before .before .before in
+    let found = s4 .before .before .before in
+    let called = found .before .before .before .before .before in
+    let spaces = called .before .before .before .before in
+    let start = spaces .before .before .before .before in
+    let input = now (start .before .before .args .input) in
+    let short = spaces .before .before .before .if1 .left in
+    let zeros = over-zeros (spaces .before .before .no-clocks .ensures) (spaces .before .no-work .ensures) (spaces .no-list .ensures) in
+    let lists = zeros (called .short-list .ensures) in
+    listed-few input _ _ _ _ short lists _ _ _ _ (ap listPaper (found .found .given .1))
 
 enum-known-found-2 : tie.Need-enum-known-found-2
 enum-known-found-2 c = search needs
 
 cast-put-refusal : tie.Need-cast-put-refusal
 cast-put-refusal c = search needs
-
-cast-put-refusal-2 : tie.Need-cast-put-refusal-2
-cast-put-refusal-2 c = search needs
 
 put-refusal-requires-2 : tie.Need-put-refusal-requires-2
 put-refusal-requires-2 c κs = search needs
@@ -64,13 +75,34 @@ same-length-2 : tie.Need-same-length-2
 same-length-2 c = search needs
 
 returns-2 : tie.Need-returns-2
-returns-2 c = rw (listed-lines (now (c .before .before .before .before .before .before .before .before .before .before .before .before .before .before .before .before .before .before .before .before .before .before .before .before .before .args .input)) _ _ _ _ (c .before .before .before .before .before .before .before .before .before .before .before .before .before .before .before .before .before .before .before .before .before .before .if1 .left) (over-zeros (c .before .before .before .before .before .before .before .before .before .before .before .before .before .before .before .before .before .before .before .before .before .no-clocks .ensures) (c .before .before .before .before .before .before .before .before .before .before .before .before .before .before .before .before .before .before .before .before .no-work .ensures) (c .before .before .before .before .before .before .before .before .before .before .before .before .before .before .before .before .before .before .before .no-list .ensures) (c .before .before .before .before .before .before .before .before .before .before .before .before .before .before .before .short-list .ensures)) _ _ _ _ (ap listPaper (c .before .before .before .before .before .before .before .before .before .before .found .given .1))) (prints-then (c .before .before .before .before .before .before .before .put-header .ensures) (c .before .before .put-entries .ensures))
+returns-2 c =
+    let s4 = c .before .before .before .before in
+    let s7 = s4 .before .before .before in
+    let found = s7 .before .before .before in
+    let called = found .before .before .before .before .before in
+    let spaces = called .before .before .before .before in
+    let start = spaces .before .before .before .before in
+    let input = now (start .before .before .args .input) in
+    let short = spaces .before .before .before .if1 .left in
+    let zeros = over-zeros (spaces .before .before .no-clocks .ensures) (spaces .before .no-work .ensures) (spaces .no-list .ensures) in
+    let lists = zeros (called .short-list .ensures) in
+    rw (listed-lines input _ _ _ _ short lists _ _ _ _ (ap listPaper (found .found .given .1)))
+    (prints-then (s7 .put-header .ensures) (c .before .before .put-entries .ensures))
 
 same-length-3 : tie.Need-same-length-3
 same-length-3 c = search needs
 
 returns-3 : tie.Need-returns-3
-returns-3 c = rw (refused-lines (now (c .before .before .before .before .before .before .before .before .before .before .before .before .before .before .before .before .before .before .before .before .before .before .args .input)) _ _ _ _ (c .before .before .before .before .before .before .before .before .before .before .before .before .before .before .before .before .before .before .before .if1 .left) (over-zeros (c .before .before .before .before .before .before .before .before .before .before .before .before .before .before .before .before .before .before .no-clocks .ensures) (c .before .before .before .before .before .before .before .before .before .before .before .before .before .before .before .before .before .no-work .ensures) (c .before .before .before .before .before .before .before .before .before .before .before .before .before .before .before .before .no-list .ensures) (c .before .before .before .before .before .before .before .before .before .before .before .before .short-list .ensures)) _ _ (ap listPaper (c .before .before .before .before .before .before .before .found2 .given .1))) (prints-one (c .before .before .put-refusal2 .ensures))
+returns-3 c =
+    let found = c .before .before .before .before .before .before in
+    let called = found .before .before .before .before .before in
+    let spaces = called .before .before .before .before in
+    let start = spaces .before .before .before .before in
+    let input = now (start .before .before .args .input) in
+    let short = spaces .before .before .before .if1 .left in
+    let zeros = over-zeros (spaces .before .before .no-clocks .ensures) (spaces .before .no-work .ensures) (spaces .no-list .ensures) in
+    let lists = zeros (called .short-list .ensures) in
+    rw (refused-lines input _ _ _ _ short lists _ _ (ap listPaper (found .found2 .given .1))) (prints-one (c .before .before .put-refusal2 .ensures))
 
 pub report-spec : {M : Type 1} → statement M
 report-spec =
@@ -92,7 +124,6 @@ report-spec =
     put-entries-requires
     enum-known-found-2
     cast-put-refusal
-    cast-put-refusal-2
     put-refusal-requires-2
     same-length-2
     returns-2

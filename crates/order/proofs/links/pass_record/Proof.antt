@@ -16,9 +16,6 @@ enum-known-said c = search needs
 merge-row-requires : tie.Need-merge-row-requires
 merge-row-requires c κs = search needs
 
-note-requires : tie.Need-note-requires
-note-requires c κs = search needs
-
 enum-told : tie.Need-enum-told
 enum-told c = search needs
 
@@ -28,23 +25,21 @@ enum-told-2 c = search needs
 same-length : tie.Need-same-length
 same-length c = search needs
 
-same-length-2 : tie.Need-same-length-2
-same-length-2 c = search needs
-
 returns : tie.Need-returns
 returns c =
-    rw (sym (c .before .before .before .before .before .before .before .before .before .before .before .ordering-at .ensures) ∙ ap says (c .before .before .before .before .before .before .before .before .before .said .given .1))
-    (record { stopped-is = refl; clocks-are = c .before .before .before .before .before .before .merge-row .ensures; linked-are = c .before .before .note .ensures })
+    let s5 = c .before .before .before .before .before in
+    rw (sym (s5 .before .before .ordering-at .ensures) ∙ ap says (s5 .said .given .1))
+    (record { stopped-is = refl; clocks-are = c .before .before .merge-row .ensures })
 
 returns-2 : tie.Need-returns-2
 returns-2 c =
     rw (sym (c .before .before .ordering-at .ensures) ∙ begin-said (c .before .before .ordering-at .result) (c .before .match .keys2) .1)
-    (record { stopped-is = refl; clocks-are = refl; linked-are = refl })
+    (record { stopped-is = refl; clocks-are = refl })
 
 returns-3 : tie.Need-returns-3
 returns-3 c =
     rw (sym (c .before .before .ordering-at .ensures) ∙ nothing-said (c .before .before .ordering-at .result) (c .before .match .keys3))
-    (record { stopped-is = refl; clocks-are = refl; linked-are = refl })
+    (record { stopped-is = refl; clocks-are = refl })
 
 pub pass-record-spec : {M : Type 1} → statement M
 pass-record-spec =
@@ -53,11 +48,9 @@ pass-record-spec =
     ordering-at-requires
     enum-known-said
     merge-row-requires
-    note-requires
     enum-told
     enum-told-2
     same-length
-    same-length-2
     returns
     returns-2
     returns-3)

@@ -1,6 +1,8 @@
 -- `order::merge::choose` meets its contract: searching on from c finds what the whole search finds.
 -- Assumes nothing.
-use Prim.Native.Nat.{_-_, _≤_}
+use Prim.Native.Nat.{ℕ, _+_, _*_, _-_, _≤_, _<_}
+use mathlib.Core.Bool.{false}
+use denote.Ref.{now}
 use mathlib.Core.Path.{_≡_, sym, _∙_}
 use native.Mathlib.Omega.{arith}
 use native.Mathlib.Nat.{add-assoc}
@@ -12,17 +14,23 @@ use Rattle.order.proofs.merge.choose.Statement.{statement}
 use Rattle.order.proofs.merge.choose.Tie as tie
 
 abbrev Inv-loop : tie.InvT-loop
-Inv-loop clocks width u sizes chains a c₀ c = (c ≤ chains) × (firstFrom (fullAt a clocks sizes) c (chains - c) ≡ chooseIn width u clocks sizes chains)
+Inv-loop clocks width u sizes from chains a c₀ c = (c ≤ chains) × (firstFrom (fullAt a clocks sizes) c (chains - c) ≡ chooseIn width u clocks sizes chains)
 
 abbrev μ-loop : tie.MeasureT-loop
-μ-loop clocks width u sizes chains a c₀ c = chains - c
+μ-loop clocks width u sizes from chains a c₀ c = chains - c
 
 mul-a : tie.Need-mul-a Inv-loop μ-loop
 mul-a c = omega arith
 
 loop-holds : tie.Need-loop-holds Inv-loop μ-loop
 unfolding chooseIn
-loop-holds c = (omega arith, let e : c .before .before .args .chains - 0 ≡ c .before .before .args .chains = omega arith in rw e)
+loop-holds c =
+    let s = c .before .before in
+    let e : s .args .chains - 0 ≡ s .args .chains = omega arith in
+    let z : 0 + s .args .from ≡ s .args .from = omega arith in
+    let q = fullAt (s .args .u * s .args .width) (now (s .args .clocks)) (now (s .args .sizes)) in
+    let low : (j : ℕ) → j < s .args .from → q (0 + j) ≡ false = λ j h. let k : 0 + j ≡ j = omega arith in rw k (ne-eqb _ _ (s .pre .2 j h)) in
+    (s .pre .1, sym (rw z at (first-past q (s .args .chains) (s .args .from) 0 (omega (arith, s .pre .1)) low)) ∙ rw e)
 
 add-loop : tie.Need-add-loop Inv-loop μ-loop
 add-loop c = omega arith

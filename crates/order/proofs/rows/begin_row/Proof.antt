@@ -2,6 +2,7 @@
 -- Assumes nothing.
 use Rattle.order.specs.Pass.{enterRow}
 use Rattle.order.proofs.FlatLaws.{part-entry, ticked-part}
+use Rattle.clocks.proofs.RowLaws.{one-more}
 use borrow.Author.Tests.{le-leb, lt-leb}
 use native.Mathlib.Omega.{arith}
 use mathlib.Core.Path.{refl}
@@ -10,14 +11,14 @@ use borrow.Author.Needs.{needs}
 use Rattle.order.proofs.rows.begin_row.Statement.{statement}
 use Rattle.order.proofs.rows.begin_row.Tie as tie
 
-mul-choose-linked : tie.Need-mul-choose-linked
-mul-choose-linked c = search needs
+mul-choose-hinted : tie.Need-mul-choose-hinted
+mul-choose-hinted c = search needs
 
-slice-read-choose-linked : tie.Need-slice-read-choose-linked
-slice-read-choose-linked c = search needs
+slice-read-choose-hinted : tie.Need-slice-read-choose-hinted
+slice-read-choose-hinted c = search needs
 
-choose-linked-requires : tie.Need-choose-linked-requires
-choose-linked-requires c κs = search needs
+choose-hinted-requires : tie.Need-choose-hinted-requires
+choose-hinted-requires c κs = search needs
 
 add-result : tie.Need-add-result
 add-result c = search needs
@@ -30,7 +31,7 @@ same-length-2 c = search needs
 
 returns : tie.Need-returns
 unfolding enterRow
-returns c = rw (← c .before .choose-linked .ensures, le-leb _ _ (c .if1 .taken)) (record { clocks-are = refl; sizes-are = refl; of-are = refl; chains-are = omega arith })
+returns c = rw (← c .before .choose-hinted .ensures, le-leb _ _ (c .if1 .taken)) (record { clocks-are = refl; sizes-are = refl; of-are = refl; chains-are = omega arith })
 
 mul-a : tie.Need-mul-a
 mul-a c = search needs
@@ -51,12 +52,7 @@ part-add-one-end : tie.Need-part-add-one-end
 part-add-one-end c = search needs
 
 add-one-requires : tie.Need-add-one-requires
-add-one-requires c κs =
-    let a = c .before .before .before .before .before .before .before .before .before in
-    let q = c .before .before .choose-linked .result in
-    let f = c .before .if1 .left in
-    let e = part-entry (a .args .width) (a .args .u) q (now (a .args .clocks)) (a .pre .room .row) f in
-    (e .0, rw (e .1) (a .pre .few-entries q f))
+add-one-requires c κs = search needs
 
 mul-sizes : tie.Need-mul-sizes
 mul-sizes c = search needs
@@ -66,7 +62,7 @@ slice-read-sizes c = search needs
 
 add-sizes : tie.Need-add-sizes
 add-sizes c =
-    let f = c .before .before .before .before .before .before .before .before .before .before .before .before .before .pre .few-members (c .before .before .before .before .before .before .choose-linked .result) (c .before .before .before .before .before .if1 .left) in
+    let f = c .before .before .before .before .before .before .before .before .before .before .before .before .before .pre .few-members (c .before .before .before .before .before .before .choose-hinted .result) (c .before .before .before .before .before .if1 .left) in
     omega arith
 
 slice-write-sizes : tie.Need-slice-write-sizes
@@ -96,12 +92,14 @@ same-length-5 c = search needs
 returns-2 : tie.Need-returns-2
 unfolding enterRow
 returns-2 c =
-    let q = c .before .before .before .before .before .before .before .choose-linked in
+    let q = c .before .before .before .before .before .before .before .choose-hinted in
     let f = c .before .before .before .before .before .before .if1 .left in
     let a = c .before .before .before .before .before .before .before .before .before .before .before .before .before .before in
+    let p = part-entry (a .args .width) (a .args .u) (q .result) (now (a .args .clocks)) (a .pre .room .row) f in
     rw (← q .ensures, lt-leb _ _ f)
     (record {
-      clocks-are = ticked-part (a .args .width) (a .args .u) (q .result) (now (a .args .clocks)) _ (a .pre .room .row) f (c .before .before .before .before .add-one .ensures);
+      clocks-are = ticked-part (a .args .width) (a .args .u) (q .result) (now (a .args .clocks)) _ (a .pre .room .row) f
+          (one-more _ (q .result) (p .0) (rw (p .1) (a .pre .few-entries (q .result) f)) (c .before .before .before .before .add-one .ensures));
       sizes-are = refl;
       of-are = refl;
       chains-are = omega arith;
@@ -119,12 +117,14 @@ same-length-8 c = search needs
 returns-3 : tie.Need-returns-3
 unfolding enterRow
 returns-3 c =
-    let q = c .before .before .before .before .before .before .before .choose-linked in
+    let q = c .before .before .before .before .before .before .before .choose-hinted in
     let f = c .before .before .before .before .before .before .if1 .left in
     let a = c .before .before .before .before .before .before .before .before .before .before .before .before .before .before in
+    let p = part-entry (a .args .width) (a .args .u) (q .result) (now (a .args .clocks)) (a .pre .room .row) f in
     rw (← q .ensures, lt-leb _ _ f)
     (record {
-      clocks-are = ticked-part (a .args .width) (a .args .u) (q .result) (now (a .args .clocks)) _ (a .pre .room .row) f (c .before .before .before .before .add-one .ensures);
+      clocks-are = ticked-part (a .args .width) (a .args .u) (q .result) (now (a .args .clocks)) _ (a .pre .room .row) f
+          (one-more _ (q .result) (p .0) (rw (p .1) (a .pre .few-entries (q .result) f)) (c .before .before .before .before .add-one .ensures));
       sizes-are = refl;
       of-are = refl;
       chains-are = omega arith;
@@ -134,9 +134,9 @@ pub begin-row-spec : {M : Type 1} → statement M
 begin-row-spec =
     tie.close
     (tie.spec
-    mul-choose-linked
-    slice-read-choose-linked
-    choose-linked-requires
+    mul-choose-hinted
+    slice-read-choose-hinted
+    choose-hinted-requires
     add-result
     same-length
     same-length-2

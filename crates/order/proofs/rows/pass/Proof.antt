@@ -43,11 +43,11 @@ returns c =
     let less : c .before .before .before .before .before .before .before .before .before .before .before .before .loop .i < length (decode (now (c .before .before .before .before .before .before .before .before .before .before .before .before .before .before .before .before .before .before .before .args .recs))) = omega (arith, c .before .before .before .before .before .before .before .before .before .before .before .before .before .count .ensures) in
     going-stop _ _ _ _ (c .before .before .before .before .before .before .before .before .before .before .before .before .loop .inv .0) less _ _ _ _ (c .before .before .before .before .before .before .before .begin-row .ensures) (c .if1 .taken)
 
-add-merge-links : tie.Need-add-merge-links Inv-loop μ-loop
-add-merge-links c = omega arith
+add-pass-links : tie.Need-add-pass-links Inv-loop μ-loop
+add-pass-links c = omega arith
 
-merge-links-requires : tie.Need-merge-links-requires Inv-loop μ-loop
-merge-links-requires c κs = search needs
+pass-links-requires : tie.Need-pass-links-requires Inv-loop μ-loop
+pass-links-requires c κs = search needs
 
 add-u : tie.Need-add-u Inv-loop μ-loop
 add-u c =
@@ -57,15 +57,15 @@ add-u c =
 loop-less : tie.Need-loop-less Inv-loop μ-loop
 loop-less c =
     let less : c .before .before .before .before .before .before .before .before .before .before .before .before .before .before .before .before .before .before .before .loop .i < length (decode (now (c .before .before .before .before .before .before .before .before .before .before .before .before .before .before .before .before .before .before .before .before .before .before .before .before .before .before .args .recs))) = omega (arith, c .before .before .before .before .before .before .before .before .before .before .before .before .before .before .before .before .before .before .before .before .count .ensures) in
-    omega (arith, going-on _ _ _ _ (c .before .before .before .before .before .before .before .before .before .before .before .before .before .before .before .before .before .before .before .loop .inv .0) less _ _ _ _ (c .before .before .before .before .before .before .before .before .before .before .before .before .before .before .begin-row .ensures) (c .before .before .before .before .before .before .before .if1 .left) _ _ _ (c .before .before .before .before .merge-links .ensures), c .before .before .before .before .before .before .before .before .before .before .before .before .before .before .before .before .before .before .before .before .count .ensures)
+    omega (arith, going-on _ _ _ _ (c .before .before .before .before .before .before .before .before .before .before .before .before .before .before .before .before .before .before .before .loop .inv .0) less _ _ _ _ (c .before .before .before .before .before .before .before .before .before .before .before .before .before .before .begin-row .ensures) (c .before .before .before .before .before .before .before .if1 .left) _ _ _ (c .before .before .before .before .pass-links .ensures), c .before .before .before .before .before .before .before .before .before .before .before .before .before .before .before .before .before .before .before .before .count .ensures)
 
 loop-again : tie.Need-loop-again Inv-loop μ-loop
 loop-again c =
     let less : c .before .before .before .before .before .before .before .before .before .before .before .before .before .before .before .before .before .before .before .loop .i < length (decode (now (c .before .before .before .before .before .before .before .before .before .before .before .before .before .before .before .before .before .before .before .before .before .before .before .before .before .before .args .recs))) = omega (arith, c .before .before .before .before .before .before .before .before .before .before .before .before .before .before .before .before .before .before .before .before .count .ensures) in (
-      going-next _ _ _ _ (c .before .before .before .before .before .before .before .before .before .before .before .before .before .before .before .before .before .before .before .loop .inv .0) less _ _ _ _ (c .before .before .before .before .before .before .before .before .before .before .before .before .before .before .begin-row .ensures) (c .before .before .before .before .before .before .before .if1 .left) _ _ _ (c .before .before .before .before .merge-links .ensures),
-      c .before .before .before .before .merge-links .kept .1 .1 .1 .1 .0 ∙ (c .before .before .before .before .before .before .before .before .before .before .before .before .before .before .begin-row .kept .0 ∙ c .before .before .before .before .before .before .before .before .before .before .before .before .before .before .before .before .before .before .before .loop .inv .1),
+      going-next _ _ _ _ (c .before .before .before .before .before .before .before .before .before .before .before .before .before .before .before .before .before .before .before .loop .inv .0) less _ _ _ _ (c .before .before .before .before .before .before .before .before .before .before .before .before .before .before .begin-row .ensures) (c .before .before .before .before .before .before .before .if1 .left) _ _ _ (c .before .before .before .before .pass-links .ensures),
+      c .before .before .before .before .pass-links .kept .1 .1 .1 .1 .0 ∙ (c .before .before .before .before .before .before .before .before .before .before .before .before .before .before .begin-row .kept .0 ∙ c .before .before .before .before .before .before .before .before .before .before .before .before .before .before .before .before .before .before .before .loop .inv .1),
       c .before .before .before .before .before .before .before .before .before .before .before .before .before .before .begin-row .kept .1 .1 .1 .0 ∙ c .before .before .before .before .before .before .before .before .before .before .before .before .before .before .before .before .before .before .before .loop .inv .2,
-      c .before .before .before .before .merge-links .kept .1 .1 .1 .1 .1 .0 ∙ (c .before .before .before .before .before .before .before .before .before .before .before .before .before .before .begin-row .kept .1 .1 .1 .1 .0 ∙ c .before .before .before .before .before .before .before .before .before .before .before .before .before .before .before .before .before .before .before .loop .inv .3),
+      c .before .before .before .before .pass-links .kept .1 .1 .1 .1 .1 .0 ∙ (c .before .before .before .before .before .before .before .before .before .before .before .before .before .before .begin-row .kept .1 .1 .1 .1 .0 ∙ c .before .before .before .before .before .before .before .before .before .before .before .before .before .before .before .before .before .before .before .loop .inv .3),
     )
 
 same-length-4 : tie.Need-same-length-4 Inv-loop μ-loop
@@ -95,8 +95,8 @@ pass-spec =
     same-length-2
     same-length-3
     returns
-    add-merge-links
-    merge-links-requires
+    add-pass-links
+    pass-links-requires
     add-u
     loop-less
     loop-again

@@ -1,4 +1,5 @@
 use Rattle.races.proofs.ListEnds.{counts-few}
+use Rattle.races.specs.ListPass.{Ample}
 use Rattle.records.specs.Bytes.{decode}
 use denote.Ref.{now}
 use lib.Dec.{T}
@@ -16,7 +17,13 @@ is-ample-requires : tie.Need-is-ample-requires
 is-ample-requires c κs = search needs
 
 returns : tie.Need-returns
-returns c = let q = c .before .is-ample .ensures (subst T (sym (c .if1 .taken)) tt) in let n = c .before .before .count .ensures in (counts-few (decode (now (c .before .before .before .before .before .before .before .before .args .recs))) (c .before .before .before .before .before .before .before .before .args .short) (length (now (c .before .before .before .before .before .before .before .before .args .list))) (q .0) (subst (λ (x : ℕ). 0 < x) n (q .1)) (subst (λ (x : ℕ). 2 * x ≤ length (now (c .before .before .before .before .before .before .before .before .args .list)) / 5) n (q .2)), refl)
+returns c =
+    let a = c .before .before .before .before .before .before .before .before in
+    let q = c .before .is-ample .ensures (subst T (sym (c .if1 .taken)) tt) in
+    let n = c .before .before .count .ensures in (
+      counts-few (decode (now (a .args .recs))) (a .args .short) (length (now (a .args .list))) (subst (λ (x : ℕ). 1 < x) n (q .0)) (subst (λ (x : ℕ). Ample (a .args .short) x (length (now (a .args .list)) / 5)) n (q .1)),
+      refl,
+    )
 
 list-all-requires : tie.Need-list-all-requires
 list-all-requires c κs = search needs

@@ -1,9 +1,10 @@
 -- `races::lists::list_races` meets its contract.
 -- Assumes nothing.
 use Rattle.races.proofs.ListEnds.{not-listed, listable}
-use Rattle.races.proofs.PreparedLaws.{marks-fit}
+use Rattle.races.proofs.PreparedLaws.{marks-cleared}
 use Rattle.races.proofs.FilledLaws.{of-length, ranks-length}
 use Rattle.order.specs.Paper.{fillPaper}
+use Rattle.order.proofs.Upward.{upward}
 use mathlib.Core.Path.{refl, sym, ap}
 use denote.Ref.{now}
 use borrow.Author.Needs.{needs}
@@ -13,32 +14,23 @@ use Rattle.races.proofs.lists.list_races.Tie as tie
 no-chains-requires : tie.Need-no-chains-requires
 no-chains-requires c κs = search needs
 
-no-ranks-requires : tie.Need-no-ranks-requires
-no-ranks-requires c κs = search needs
+none-requires : tie.Need-none-requires
+none-requires c κs = search needs
 
 prepare-requires : tie.Need-prepare-requires
 prepare-requires c κs = search needs
 
-clear-marks-requires : tie.Need-clear-marks-requires
-clear-marks-requires c κs = marks-fit (now (c .before .before .before .before .before .before .before .before .before .before .before .before .before .before .args .work)) (c .before .before .before .before .prepare .ensures)
+clear-requires : tie.Need-clear-requires
+clear-requires c κs = search needs
 
 enum-known-answer : tie.Need-enum-known-answer
 enum-known-answer c = search needs
 
-records-requires : tie.Need-records-requires
-records-requires c κs = search needs
+enum-told : tie.Need-enum-told
+enum-told c = search needs
 
-slice-aggregate-list-filled : tie.Need-slice-aggregate-list-filled
-slice-aggregate-list-filled c = sym (of-length (listable (now (c .before .before .before .before .before .before .before .before .before .before .before .before .before .before .before .before .before .before .before .before .before .before .before .args .bytes)) (c .before .before .before .before .before .before .before .before .before .before .before .before .before .before .before .before .before .before .before .before .before .before .before .args .short) (c .before .before .before .before .before .before .before .before .before .before .before .before .before .before .before .before .before .before .before .before .before .before .before .args .width) (now (c .before .before .before .before .before .before .before .before .before .before .before .before .before .before .before .before .before .before .before .before .before .before .before .args .clocks)) _ (now (c .before .before .before .before .before .before .before .before .before .before .before .before .before .before .before .before .before .before .before .before .before .before .before .args .work)) _ _ (now (c .before .before .before .before .before .before .before .before .before .before .before .before .before .before .before .before .before .before .before .before .before .before .before .args .list)) _ _ (c .before .before .before .before .before .before .before .before .before .before .before .before .before .prepare .ensures) (c .before .before .before .before .before .before .before .before .clear-marks .ensures) _ (ap fillPaper (c .before .before .before .before .answer .given .1)) _ (c .before .before .records .ensures) .filled))
-
-slice-aggregate-list-filled-2 : tie.Need-slice-aggregate-list-filled-2
-slice-aggregate-list-filled-2 c = sym (ranks-length (listable (now (c .before .before .before .before .before .before .before .before .before .before .before .before .before .before .before .before .before .before .before .before .before .before .before .before .args .bytes)) (c .before .before .before .before .before .before .before .before .before .before .before .before .before .before .before .before .before .before .before .before .before .before .before .before .args .short) (c .before .before .before .before .before .before .before .before .before .before .before .before .before .before .before .before .before .before .before .before .before .before .before .before .args .width) (now (c .before .before .before .before .before .before .before .before .before .before .before .before .before .before .before .before .before .before .before .before .before .before .before .before .args .clocks)) _ (now (c .before .before .before .before .before .before .before .before .before .before .before .before .before .before .before .before .before .before .before .before .before .before .before .before .args .work)) _ _ (now (c .before .before .before .before .before .before .before .before .before .before .before .before .before .before .before .before .before .before .before .before .before .before .before .before .args .list)) _ _ (c .before .before .before .before .before .before .before .before .before .before .before .before .before .before .prepare .ensures) (c .before .before .before .before .before .before .before .before .before .clear-marks .ensures) _ (ap fillPaper (c .before .before .before .before .before .answer .given .1)) _ (c .before .before .before .records .ensures) .filled))
-
-list-filled-requires : tie.Need-list-filled-requires
-list-filled-requires c κs = let l = listable (now (c .before .before .before .before .before .before .before .before .before .before .before .before .before .before .before .before .before .before .before .before .before .before .before .before .before .args .bytes)) (c .before .before .before .before .before .before .before .before .before .before .before .before .before .before .before .before .before .before .before .before .before .before .before .before .before .args .short) (c .before .before .before .before .before .before .before .before .before .before .before .before .before .before .before .before .before .before .before .before .before .before .before .before .before .args .width) (now (c .before .before .before .before .before .before .before .before .before .before .before .before .before .before .before .before .before .before .before .before .before .before .before .before .before .args .clocks)) _ (now (c .before .before .before .before .before .before .before .before .before .before .before .before .before .before .before .before .before .before .before .before .before .before .before .before .before .args .work)) _ _ (now (c .before .before .before .before .before .before .before .before .before .before .before .before .before .before .before .before .before .before .before .before .before .before .before .before .before .args .list)) _ _ (c .before .before .before .before .before .before .before .before .before .before .before .before .before .before .before .prepare .ensures) (c .before .before .before .before .before .before .before .before .before .before .clear-marks .ensures) _ (ap fillPaper (c .before .before .before .before .before .before .answer .given .1)) _ (c .before .before .before .before .records .ensures) in (l .filled, l .events-are, l .chains-used)
-
-enum-known-answer-2 : tie.Need-enum-known-answer-2
-enum-known-answer-2 c = search needs
+refusal-of-requires : tie.Need-refusal-of-requires
+refusal-of-requires c κs = search needs
 
 same-length : tie.Need-same-length
 same-length c = search needs
@@ -46,11 +38,42 @@ same-length c = search needs
 same-length-2 : tie.Need-same-length-2
 same-length-2 c = search needs
 
+returns : tie.Need-returns
+returns c =
+    let s = c .before .before .before .before .before .before .before .before .before .before .before .before .before .before .before .before .before .before .before .before in
+    let p = c .before .before .before .before .before .before .before .before .before .before .prepare .ensures in
+    let w = marks-cleared _ p (c .before .before .before .before .before .clear .ensures) in
+    not-listed (now (s .args .bytes)) (s .args .short) (s .args .width) (now (s .args .clocks)) _ (now (s .args .work)) _ _ (now (s .args .list)) _ _ p w _ _ (upward (c .before .before .before .before .before .before .before .before .before .before .prepare .result .answer) (c .before .before .match .keys2)) _ (simp (c .refusal-of .ensures))
+
+records-requires : tie.Need-records-requires
+records-requires c κs = search needs
+
+slice-aggregate-list-filled : tie.Need-slice-aggregate-list-filled
+slice-aggregate-list-filled c =
+    let s = c .before .before .before .before .before .before .before .before .before .before .before .before .before .before .before .before .before .before .before .before .before .before .before in
+    let p = c .before .before .before .before .before .before .before .before .before .before .before .before .before .prepare .ensures in
+    let w = marks-cleared _ p (c .before .before .before .before .before .before .before .before .clear .ensures) in
+    let l = listable (now (s .args .bytes)) (s .args .short) (s .args .width) (now (s .args .clocks)) _ (now (s .args .work)) _ _ (now (s .args .list)) _ _ p w _ (ap fillPaper (c .before .before .before .before .answer .given .1)) _ (c .before .before .records .ensures) in
+    sym (of-length (l .filled))
+
+slice-aggregate-list-filled-2 : tie.Need-slice-aggregate-list-filled-2
+slice-aggregate-list-filled-2 c =
+    let s = c .before .before .before .before .before .before .before .before .before .before .before .before .before .before .before .before .before .before .before .before .before .before .before .before in
+    let p = c .before .before .before .before .before .before .before .before .before .before .before .before .before .before .prepare .ensures in
+    let w = marks-cleared _ p (c .before .before .before .before .before .before .before .before .before .clear .ensures) in
+    let l = listable (now (s .args .bytes)) (s .args .short) (s .args .width) (now (s .args .clocks)) _ (now (s .args .work)) _ _ (now (s .args .list)) _ _ p w _ (ap fillPaper (c .before .before .before .before .before .answer .given .1)) _ (c .before .before .before .records .ensures) in
+    sym (ranks-length (l .filled))
+
+list-filled-requires : tie.Need-list-filled-requires
+list-filled-requires c κs =
+    let s = c .before .before .before .before .before .before .before .before .before .before .before .before .before .before .before .before .before .before .before .before .before .before .before .before .before in
+    let p = c .before .before .before .before .before .before .before .before .before .before .before .before .before .before .before .prepare .ensures in
+    let w = marks-cleared _ p (c .before .before .before .before .before .before .before .before .before .before .clear .ensures) in
+    let l = listable (now (s .args .bytes)) (s .args .short) (s .args .width) (now (s .args .clocks)) _ (now (s .args .work)) _ _ (now (s .args .list)) _ _ p w _ (ap fillPaper (c .before .before .before .before .before .before .answer .given .1)) _ (c .before .before .before .before .records .ensures) in
+    (l .filled, l .events-are, l .chains-used)
+
 same-length-3 : tie.Need-same-length-3
 same-length-3 c = search needs
-
-returns : tie.Need-returns
-returns c = listable (now (c .before .before .before .before .before .before .before .before .before .before .before .before .before .before .before .before .before .before .before .before .before .before .before .before .before .before .before .before .before .before .args .bytes)) (c .before .before .before .before .before .before .before .before .before .before .before .before .before .before .before .before .before .before .before .before .before .before .before .before .before .before .before .before .before .before .args .short) (c .before .before .before .before .before .before .before .before .before .before .before .before .before .before .before .before .before .before .before .before .before .before .before .before .before .before .before .before .before .before .args .width) (now (c .before .before .before .before .before .before .before .before .before .before .before .before .before .before .before .before .before .before .before .before .before .before .before .before .before .before .before .before .before .before .args .clocks)) _ (now (c .before .before .before .before .before .before .before .before .before .before .before .before .before .before .before .before .before .before .before .before .before .before .before .before .before .before .before .before .before .before .args .work)) _ _ (now (c .before .before .before .before .before .before .before .before .before .before .before .before .before .before .before .before .before .before .before .before .before .before .before .before .before .before .before .before .before .before .args .list)) _ _ (c .before .before .before .before .before .before .before .before .before .before .before .before .before .before .before .before .before .before .before .before .prepare .ensures) (c .before .before .before .before .before .before .before .before .before .before .before .before .before .before .before .clear-marks .ensures) _ (ap fillPaper (c .before .before .before .before .before .before .before .before .before .before .before .answer .given .1)) _ (c .before .before .before .before .before .before .before .before .before .records .ensures) .done _ _ _ (c .before .before .before .before .list-filled .ensures)
 
 same-length-4 : tie.Need-same-length-4
 same-length-4 c = search needs
@@ -59,26 +82,32 @@ same-length-5 : tie.Need-same-length-5
 same-length-5 c = search needs
 
 returns-2 : tie.Need-returns-2
-returns-2 c = not-listed (now (c .before .before .before .before .before .before .before .before .before .before .before .before .before .before .before .before .before .before .before .before .args .bytes)) (c .before .before .before .before .before .before .before .before .before .before .before .before .before .before .before .before .before .before .before .before .args .short) (c .before .before .before .before .before .before .before .before .before .before .before .before .before .before .before .before .before .before .before .before .args .width) (now (c .before .before .before .before .before .before .before .before .before .before .before .before .before .before .before .before .before .before .before .before .args .clocks)) _ (now (c .before .before .before .before .before .before .before .before .before .before .before .before .before .before .before .before .before .before .before .before .args .work)) _ _ (now (c .before .before .before .before .before .before .before .before .before .before .before .before .before .before .before .before .before .before .before .before .args .list)) _ _ (c .before .before .before .before .before .before .before .before .before .before .prepare .ensures) (c .before .before .before .before .before .clear-marks .ensures) _ _ (ap fillPaper (c .before .answer2 .given .1)) _ refl
+returns-2 c =
+    let s = c .before .before .before .before .before .before .before .before .before .before .before .before .before .before .before .before .before .before .before .before .before .before .before .before .before .before .before .before .before .before in
+    let p = c .before .before .before .before .before .before .before .before .before .before .before .before .before .before .before .before .before .before .before .before .prepare .ensures in
+    let w = marks-cleared _ p (c .before .before .before .before .before .before .before .before .before .before .before .before .before .before .before .clear .ensures) in
+    let l = listable (now (s .args .bytes)) (s .args .short) (s .args .width) (now (s .args .clocks)) _ (now (s .args .work)) _ _ (now (s .args .list)) _ _ p w _ (ap fillPaper (c .before .before .before .before .before .before .before .before .before .before .before .answer .given .1)) _ (c .before .before .before .before .before .before .before .before .before .records .ensures) in
+    l .done _ _ _ (c .before .before .before .before .list-filled .ensures)
 
 pub list-races-spec : {M : Type 1} → statement M
 list-races-spec =
     tie.close
     (tie.spec
     no-chains-requires
-    no-ranks-requires
+    none-requires
     prepare-requires
-    clear-marks-requires
+    clear-requires
     enum-known-answer
+    enum-told
+    refusal-of-requires
+    same-length
+    same-length-2
+    returns
     records-requires
     slice-aggregate-list-filled
     slice-aggregate-list-filled-2
     list-filled-requires
-    enum-known-answer-2
-    same-length
-    same-length-2
     same-length-3
-    returns
     same-length-4
     same-length-5
     returns-2)

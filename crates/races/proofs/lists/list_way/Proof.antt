@@ -1,5 +1,7 @@
+-- `races::lists::list_way` meets its contract.
+-- Assumes nothing.
 use borrow.Author.Needs.{needs}
-use Rattle.races.specs.Candidates.{leastKind, mayRace}
+use Rattle.records.specs.Search.{leastKind, mayRace}
 use mathlib.Core.Path.{ap, _∙_}
 use Rattle.races.proofs.CandidateLaws.{past-quiet}
 use Rattle.races.proofs.ListLaws.{may-found}
@@ -28,10 +30,15 @@ least-kind-requires : tie.Need-least-kind-requires Inv-loop μ-loop
 least-kind-requires c κs = search needs
 
 next-access-requires : tie.Need-next-access-requires Inv-loop μ-loop
-next-access-requires c κs = (c .before .before .before .before .before .before .before .before .pre .0 .1 .low, omega (arith, c .before .before .before .before .before .before .before .before .pre .0 .1 .high, c .before .before .before .before .before .before .before .before .pre .0 .0 .inside), c .before .before .before .before .before .before .before .before .pre .0 .0 .filled .acceptable .few)
+next-access-requires c κs = search needs
 
 loop-holds : tie.Need-loop-holds Inv-loop μ-loop
-loop-holds c = let g = c .before .before .before .before .before .before .before .before .before .pre .0 .1 in let n = c .next-access .ensures in let w = writing-start (c .before .before .before .before .before .before .before .before .before .args .writing) (decode (now (c .before .before .before .before .before .before .before .before .before .args .recs))) (c .before .before .before .before .before .before .before .before .before .args .b) (c .before .before .before .before .before .before .before .before .before .args .from) (c .before .before .before .before .before .before .before .before .before .args .k) (now (c .before .before .before .before .before .before .before .before .before .args .list)) (omega (arith, g .low, g .high)) in (writing-past w (n .past .low) (omega (arith, n .high, g .high)) (past-quiet _ (c .before .before .before .before .before .before .before .before .before .args .b) (c .before .before .before .second-at .ensures) (c .before .least-kind .ensures ∙ ap leastKind (c .before .before .kind-at .ensures)) (n .past)), n .high, n .found)
+loop-holds c =
+    let s = c .before .before .before .before .before .before .before .before .before in
+    let g = s .pre .0 .1 in
+    let n = c .next-access .ensures .next (g .low) (omega (arith, g .high, s .pre .0 .0 .inside)) in
+    let w = writing-start (s .args .writing) (decode (now (s .args .recs))) (s .args .b) (s .args .from) (s .args .k) (now (s .args .list)) (omega (arith, g .low, g .high)) in
+    (writing-past w (n .past .low) (omega (arith, n .high, g .high)) (past-quiet _ (s .args .b) (c .before .before .before .second-at .ensures) (c .before .least-kind .ensures ∙ ap leastKind (c .before .before .kind-at .ensures)) (n .past)), n .high, n .found)
 
 list-race-requires : tie.Need-list-race-requires Inv-loop μ-loop
 list-race-requires c κs = let g = c .before .before .before .before .before .before .before .before .before .before .before .before .pre .0 .1 in let i = c .before .before .loop .inv in let h : c .before .before .loop .a < c .before .before .before .before .before .before .before .before .before .before .before .before .args .b = omega (arith, g .high, c .before .loop-test .taken) in record { second = c .before .before .before .before .before .before .before .before .before .before .before .before .pre .0 .0; earlier = h; may = may-found _ (c .before .before .loop .a) (c .before .before .before .before .before .before .before .before .before .before .before .before .args .b) (c .before .before .before .before .before .before .second-at .ensures) (c .before .before .before .before .least-kind .ensures ∙ ap leastKind (c .before .before .before .before .before .kind-at .ensures)) (i .2 (c .before .loop-test .taken)); few = writing-few (i .0) (c .before .before .before .before .before .before .before .before .before .before .before .before .pre .1 .few); space = writing-room (i .0) h (c .before .before .before .before .before .before .before .before .before .before .before .before .pre .1) }
@@ -40,13 +47,23 @@ add-next-access : tie.Need-add-next-access Inv-loop μ-loop
 add-next-access c = omega (arith, c .before .before .before .before .loop-test .taken, c .before .before .before .before .before .before .before .before .before .before .before .before .before .before .before .pre .0 .1 .high, c .before .before .before .before .before .before .before .before .before .before .before .before .before .before .before .pre .0 .0 .inside, c .before .before .before .before .before .before .before .before .before .before .before .before .before .before .before .pre .0 .0 .filled .acceptable .few)
 
 next-access-requires-2 : tie.Need-next-access-requires-2 Inv-loop μ-loop
-next-access-requires-2 c κs = (omega (arith, c .before .before .before .before .loop-test .taken), omega (arith, c .before .before .before .before .before .before .before .before .before .before .before .before .before .before .before .pre .0 .1 .high, c .before .before .before .before .before .before .before .before .before .before .before .before .before .before .before .pre .0 .0 .inside), c .before .before .before .before .before .before .before .before .before .before .before .before .before .before .before .pre .0 .0 .filled .acceptable .few)
+next-access-requires-2 c κs = search needs
 
 loop-less : tie.Need-loop-less Inv-loop μ-loop
-loop-less c = omega (arith, c .next-access2 .ensures .past .low, c .before .before .before .before .before .loop-test .taken, c .next-access2 .ensures .high)
+loop-less c =
+    let s = c .before .before .before .before .before .before .before .before .before .before .before .before .before .before .before .before in
+    let t = c .before .before .before .before .before .loop-test .taken in
+    let n = c .next-access2 .ensures .next (omega (arith, t)) (omega (arith, s .pre .0 .1 .high, s .pre .0 .0 .inside)) in
+    omega (arith, n .past .low, t, n .high)
 
 loop-again : tie.Need-loop-again Inv-loop μ-loop
-loop-again c = let g = c .before .before .before .before .before .before .before .before .before .before .before .before .before .before .before .before .pre .0 .1 in let n = c .next-access2 .ensures in let h : c .before .before .before .before .before .before .loop .a < c .before .before .before .before .before .before .before .before .before .before .before .before .before .before .before .before .args .b = omega (arith, g .high, c .before .before .before .before .before .loop-test .taken) in (writing-past (writing-one (c .before .before .before .before .before .before .loop .inv .0) h _ _ (c .before .before .before .list-race .ensures)) (n .past .low) (omega (arith, n .high, g .high)) (past-quiet _ (c .before .before .before .before .before .before .before .before .before .before .before .before .before .before .before .before .args .b) (c .before .before .before .before .before .before .before .before .before .before .second-at .ensures) (c .before .before .before .before .before .before .before .before .least-kind .ensures ∙ ap leastKind (c .before .before .before .before .before .before .before .before .before .kind-at .ensures)) (n .past)), n .high, n .found)
+loop-again c =
+    let s = c .before .before .before .before .before .before .before .before .before .before .before .before .before .before .before .before in
+    let g = s .pre .0 .1 in
+    let t = c .before .before .before .before .before .loop-test .taken in
+    let n = c .next-access2 .ensures .next (omega (arith, t)) (omega (arith, g .high, s .pre .0 .0 .inside)) in
+    let h : c .before .before .before .before .before .before .loop .a < s .args .b = omega (arith, g .high, c .before .before .before .before .before .loop-test .taken) in
+    (writing-past (writing-one (c .before .before .before .before .before .before .loop .inv .0) h _ _ (c .before .before .before .list-race .ensures)) (n .past .low) (omega (arith, n .high, g .high)) (past-quiet _ (s .args .b) (c .before .before .before .before .before .before .before .before .before .before .second-at .ensures) (c .before .before .before .before .before .before .before .before .least-kind .ensures ∙ ap leastKind (c .before .before .before .before .before .before .before .before .before .kind-at .ensures)) (n .past)), n .high, n .found)
 
 same-length : tie.Need-same-length Inv-loop μ-loop
 same-length c = writing-size (c .before .loop .inv .0)

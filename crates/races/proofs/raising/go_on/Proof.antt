@@ -13,19 +13,21 @@ use Rattle.races.proofs.raising.go_on.Statement.{statement}
 use Rattle.races.proofs.raising.go_on.Tie as tie
 
 abbrev Inv-loop : tie.InvT-loop
-Inv-loop recs ranks of width clocks₀ u none₀ t₀ i₀ chains₀ clocks none t i chains = Going (decode recs) ranks of width (record { row = t₀; position = i₀; chains = chains₀; clocks = clocks₀; noted = none₀ }) u t i chains clocks none × (length none ≡ 1)
+Inv-loop recs ranks of width clocks₀ u t₀ i₀ chains₀ clocks t i chains =
+    Going (decode recs) ranks of width (record { row = t₀; position = i₀; chains = chains₀; clocks = clocks₀ }) u t i chains clocks
 
 abbrev μ-loop : tie.MeasureT-loop
-μ-loop recs ranks of width clocks₀ u none₀ t₀ i₀ chains₀ clocks none t i chains = u - t
+μ-loop recs ranks of width clocks₀ u t₀ i₀ chains₀ clocks t i chains = u - t
 
 loop-holds : tie.Need-loop-holds Inv-loop μ-loop
-loop-holds c = let pre = c .before .before .before .before .pre in (going-start _ _ _ _ _ _ pre, refl)
-
-slice-aggregate-merge-links : tie.Need-slice-aggregate-merge-links Inv-loop μ-loop
-slice-aggregate-merge-links c = search needs
+loop-holds c = let pre = c .before .before .before .before .pre in going-start _ _ _ _ _ _ pre
 
 add-merge-links : tie.Need-add-merge-links Inv-loop μ-loop
-add-merge-links c = let loop = c .before .before .before .loop in let pre = c .before .before .before .before .before .before .before .before .pre in let args = c .before .before .before .before .before .before .before .before .args in record { fits = omega (arith, loop .inv .0 .inside, loop .inv .0 .to, pre .low, decoded-length (now (args .recs))) }
+add-merge-links c =
+    let s2 = c .before .before in
+    let inv = s2 .loop .inv in
+    let start = s2 .before .before .before .before .before in
+    record { fits = omega (arith, inv .inside, inv .to, start .pre .low, decoded-length (now (start .args .recs))) }
 
 merge-links-requires : tie.Need-merge-links-requires Inv-loop μ-loop
 merge-links-requires c κs = search needs
@@ -40,13 +42,17 @@ loop-less : tie.Need-loop-less Inv-loop μ-loop
 loop-less c = search needs
 
 loop-again : tie.Need-loop-again Inv-loop μ-loop
-loop-again c = let loop = c .before .before .before .before .before .before .before .before .loop in let loop-test = c .before .before .before .before .before .before .before .loop-test in let merge-links = c .before .before .before .before .merge-links in let more-chains = c .more-chains in (going-next _ _ _ _ _ _ (loop .inv .0) (loop-test .taken) _ _ _ (merge-links .ensures) (merge-links .kept .1 .1 .1 .1 .0) _ (more-chains .ensures), merge-links .kept .1 .1 .1 .1 .1 .0 ∙ loop .inv .1)
+loop-again c =
+    let s3 = c .before .before .before in
+    let s5 = s3 .before .before in
+    let walked = s3 .merge-links in
+    going-next _ _ _ _ _ _ (s5 .before .loop .inv) (s5 .loop-test .taken) _ _ (walked .ensures) (walked .kept .1 .1 .1 .1 .0) _ (c .more-chains .ensures)
 
 same-length : tie.Need-same-length Inv-loop μ-loop
 same-length c = search needs
 
 returns : tie.Need-returns Inv-loop μ-loop
-returns c = let loop = c .before .loop in let loop-test = c .loop-test in going-end _ _ _ _ _ _ (loop .inv .0) (loop-test .left)
+returns c = let loop = c .before .loop in let loop-test = c .loop-test in going-end _ _ _ _ _ _ (loop .inv) (loop-test .left)
 
 pub go-on-spec : {M : Type 1} → statement M
 go-on-spec =
@@ -55,7 +61,6 @@ go-on-spec =
     Inv-loop
     μ-loop
     loop-holds
-    slice-aggregate-merge-links
     add-merge-links
     merge-links-requires
     add-t

@@ -17,10 +17,10 @@ use Rattle.races.proofs.refilling.refill.Statement.{statement}
 use Rattle.races.proofs.refilling.refill.Tie as tie
 
 abbrev Inv-loop : tie.InvT-loop
-Inv-loop recs ranks of events width clocks₀ n none₀ chains₀ u₀ i₀ clocks none chains u i = (f : Refillable (decode recs) ranks of events width clocks₀) × Refilling f i u chains clocks × (n ≡ length (decode recs)) × (length clocks ≡ length clocks₀) × (length none ≡ 1)
+Inv-loop recs ranks of events width clocks₀ n chains₀ u₀ i₀ clocks chains u i = (f : Refillable (decode recs) ranks of events width clocks₀) × Refilling f i u chains clocks × (n ≡ length (decode recs)) × (length clocks ≡ length clocks₀)
 
 abbrev μ-loop : tie.MeasureT-loop
-μ-loop recs ranks of events width clocks₀ n none₀ chains₀ u₀ i₀ clocks none chains u i = n - i
+μ-loop recs ranks of events width clocks₀ n chains₀ u₀ i₀ clocks chains u i = n - i
 
 cast-clear-rows : tie.Need-cast-clear-rows Inv-loop μ-loop
 cast-clear-rows c = let pre = c .before .before .before .before .before .pre in record { fits = omega (arith, pre .events-are, events-few (pre .acceptable)) }
@@ -32,7 +32,7 @@ count-requires : tie.Need-count-requires Inv-loop μ-loop
 count-requires c κs = search needs
 
 loop-holds : tie.Need-loop-holds Inv-loop μ-loop
-loop-holds c = let pre = c .before .before .before .before .before .before .before .before .before .pre in let clear-rows = c .before .before .before .clear-rows in let count = c .count in (cleared-refillable pre _ (clear-rows .ensures), refilling-start (cleared-refillable pre _ (clear-rows .ensures)) (cleared-zeros pre _ (clear-rows .ensures)), count .ensures, refl, refl)
+loop-holds c = let pre = c .before .before .before .before .before .before .before .before .before .pre in let clear-rows = c .before .before .before .clear-rows in let count = c .count in (cleared-refillable pre _ (clear-rows .ensures), refilling-start (cleared-refillable pre _ (clear-rows .ensures)) (cleared-zeros pre _ (clear-rows .ensures)), count .ensures, refl)
 
 mul-c : tie.Need-mul-c Inv-loop μ-loop
 mul-c c = let loop = c .before .loop in let loop-test = c .loop-test in let h = of-room (loop .inv .0) (loop .inv .1) (omega (arith, loop .inv .2, loop-test .taken)) in search needs
@@ -43,14 +43,11 @@ shared-slice-read-c c = let loop = c .before .before .loop in let loop-test = c 
 cast-c : tie.Need-cast-c Inv-loop μ-loop
 cast-c c = let shared-slice-known4 = c .shared-slice-known4 in let loop = c .before .before .loop in record { fits = omega (arith, shared-slice-known4 .given (loop .u) .fits) }
 
-add-one-requires : tie.Need-add-one-requires Inv-loop μ-loop
-add-one-requires c κs = let loop = c .before .before .before .loop in let loop-test = c .before .before .loop-test in add-room (loop .inv .0) (loop .inv .1) (omega (arith, loop .inv .2, loop-test .taken)) _ refl
+add-to-row-requires : tie.Need-add-to-row-requires Inv-loop μ-loop
+add-to-row-requires c κs = let loop = c .before .before .before .loop in let loop-test = c .before .before .loop-test in add-room (loop .inv .0) (loop .inv .1) (omega (arith, loop .inv .2, loop-test .taken)) _ refl
 
 add-chains : tie.Need-add-chains Inv-loop μ-loop
 add-chains c = let shared-slice-known4 = c .before .before .before .before .before .shared-slice-known4 in let loop = c .before .before .before .before .before .before .before .loop in record { fits = omega (arith, shared-slice-known4 .given (loop .u) .fits) }
-
-slice-aggregate-merge-links : tie.Need-slice-aggregate-merge-links Inv-loop μ-loop
-slice-aggregate-merge-links c = search needs
 
 add-merge-links : tie.Need-add-merge-links Inv-loop μ-loop
 add-merge-links c = search needs
@@ -59,13 +56,40 @@ merge-links-requires : tie.Need-merge-links-requires Inv-loop μ-loop
 merge-links-requires c κs = search needs
 
 add-u : tie.Need-add-u Inv-loop μ-loop
-add-u c = let loop = c .before .before .before .before .before .before .before .before .before .before .before .before .before .loop in let loop-test = c .before .before .before .before .before .before .before .before .before .before .before .before .loop-test in let h = of-room (loop .inv .0) (loop .inv .1) (omega (arith, loop .inv .2, loop-test .taken)) in search needs
+add-u c =
+    let loop = c .before .before .before .before .before .before .before .before .before .before .before .loop in
+    let h = of-room (loop .inv .0) (loop .inv .1) (omega (arith, loop .inv .2, c .before .before .before .before .before .before .before .before .before .before .loop-test .taken)) in
+    search needs
 
 loop-less : tie.Need-loop-less Inv-loop μ-loop
-loop-less c = let loop = c .before .before .before .before .before .before .before .before .before .before .before .before .before .loop in let args = c .before .before .before .before .before .before .before .before .before .before .before .before .before .before .before .before .before .before .before .before .before .before .before .args in let loop-test = c .before .before .before .before .before .before .before .before .before .before .before .before .loop-test in let if1 = c .before .before .before .before .before .before .if1 in let add-one = c .before .before .before .before .before .before .before .before .before .add-one in let merge-links = c .before .before .before .merge-links in let h : loop .i < length (decode (now (args .recs))) = omega (arith, loop .inv .2, loop-test .taken) in let m : if1 .chains ≡ max (loop .chains) (getD (now (args .of)) (loop .u) 0 + 1) = ⊎-elim (λ w. omega (arith, w .0 .taken, w .1)) (λ w. omega (arith, w .0 .left, w .1)) (if1 .came) in let t = refilling-next (loop .inv .0) (loop .inv .1) h _ refl _ m _ _ (add-one .ensures) _ _ _ (merge-links .ensures) in omega (arith, t .0, loop-test .taken)
+loop-less c =
+    let s4 = c .before .before .before .before in
+    let s7 = s4 .before .before .before in
+    let s10 = s7 .before .before .before in
+    let loop = s10 .before .loop in
+    let args = s10 .before .before .before .before .before .before .before .before .before .before .before .args in
+    let filled = s4 .if1 .chains in
+    let walked = c .before .before .merge-links in
+    let h : loop .i < length (decode (now (args .recs))) = omega (arith, loop .inv .2, s10 .loop-test .taken) in
+    let m : filled ≡ max (loop .chains) (getD (now (args .of)) (loop .u) 0 + 1) =
+    ⊎-elim (λ w. omega (arith, w .0 .taken, w .1)) (λ w. omega (arith, w .0 .left, w .1)) (s4 .if1 .came) in
+    let t = refilling-next (loop .inv .0) (loop .inv .1) h _ refl _ m _ (s7 .add-to-row .ensures) _ _ (walked .ensures) in
+    omega (arith, t .0, s10 .loop-test .taken)
 
 loop-again : tie.Need-loop-again Inv-loop μ-loop
-loop-again c = let loop = c .before .before .before .before .before .before .before .before .before .before .before .before .before .loop in let args = c .before .before .before .before .before .before .before .before .before .before .before .before .before .before .before .before .before .before .before .before .before .before .before .args in let loop-test = c .before .before .before .before .before .before .before .before .before .before .before .before .loop-test in let if1 = c .before .before .before .before .before .before .if1 in let add-one = c .before .before .before .before .before .before .before .before .before .add-one in let merge-links = c .before .before .before .merge-links in let h : loop .i < length (decode (now (args .recs))) = omega (arith, loop .inv .2, loop-test .taken) in let m : if1 .chains ≡ max (loop .chains) (getD (now (args .of)) (loop .u) 0 + 1) = ⊎-elim (λ w. omega (arith, w .0 .taken, w .1)) (λ w. omega (arith, w .0 .left, w .1)) (if1 .came) in let t = refilling-next (loop .inv .0) (loop .inv .1) h _ refl _ m _ _ (add-one .ensures) _ _ _ (merge-links .ensures) in (loop .inv .0, t .1, loop .inv .2, merge-links .kept .1 .1 .1 .1 .0 ∙ add-one .kept .0 ∙ loop .inv .3, merge-links .kept .1 .1 .1 .1 .1 .0 ∙ loop .inv .4)
+loop-again c =
+    let s4 = c .before .before .before .before in
+    let s7 = s4 .before .before .before in
+    let s10 = s7 .before .before .before in
+    let loop = s10 .before .loop in
+    let args = s10 .before .before .before .before .before .before .before .before .before .before .before .args in
+    let filled = s4 .if1 .chains in
+    let walked = c .before .before .merge-links in
+    let h : loop .i < length (decode (now (args .recs))) = omega (arith, loop .inv .2, s10 .loop-test .taken) in
+    let m : filled ≡ max (loop .chains) (getD (now (args .of)) (loop .u) 0 + 1) =
+    ⊎-elim (λ w. omega (arith, w .0 .taken, w .1)) (λ w. omega (arith, w .0 .left, w .1)) (s4 .if1 .came) in
+    let t = refilling-next (loop .inv .0) (loop .inv .1) h _ refl _ m _ (s7 .add-to-row .ensures) _ _ (walked .ensures) in
+    (loop .inv .0, t .1, loop .inv .2, walked .kept .1 .1 .1 .1 .0 ∙ s7 .add-to-row .kept .0 ∙ loop .inv .3)
 
 same-length : tie.Need-same-length Inv-loop μ-loop
 same-length c = search needs
@@ -86,9 +110,8 @@ refill-spec =
     mul-c
     shared-slice-read-c
     cast-c
-    add-one-requires
+    add-to-row-requires
     add-chains
-    slice-aggregate-merge-links
     add-merge-links
     merge-links-requires
     add-u

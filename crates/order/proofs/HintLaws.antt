@@ -1,0 +1,267 @@
+-- The walk that fills, record by record: where the rows are as they should be, a link that copies merges; and what the hints tell.
+-- Assumes nothing.
+use Prim.Native.Nat.{ℕ, zero, suc, _+_, _*_, _-_, _≤_, _<_, max}
+use mathlib.Core.Path.{_≡_, refl, sym, _∙_, ap, ap₂}
+use mathlib.Core.Logic.{_≢_, _⊎_, inl, inr}
+use mathlib.Core.Bool.{Bool, true, false}
+use mathlib.Core.List.{List, [], _∷_, _++_, List·Memᴰ·head}
+use native.Mathlib.Omega.{arith}
+use borrow.Author.Tests.{eq-eqb, ne-eqb}
+use lib.Dec.{eqb}
+use lib.ListN.{length, getD, set, length-set}
+use lib.Seq.{getD-set-same, getD-set-other}
+use Rattle.records.specs.declared.Record.{Record}
+use Rattle.records.specs.Records.{at, leading}
+use Rattle.records.proofs.Leading.{leading-le, leading-accesses, leading-over}
+use Rattle.ranks.specs.Said.{Op, link, begin, other}
+use Rattle.clocks.specs.Rows.{rowsIf, mergeRow, copyRow}
+use Rattle.clocks.proofs.RowLaws.{copy-merges}
+use Rattle.order.specs.Clocks.{largest, flat}
+use Rattle.order.specs.Schedule.{begins, linked, Ordered}
+use Rattle.order.specs.Walk.{FillWalked, stops, fillOn, linkedBy, hintedBy, fillWalk, opBy}
+use Rattle.coverage.proofs.Tests.{decide-eq}
+use Rattle.order.proofs.Tests.{decide-lt}
+use Rattle.order.proofs.ScheduleLaws.{begins-suc, begins-mono, linked-exact, begin-next, link-between}
+use Rattle.order.proofs.FlatLaws.{mergeInto, merged-row, flat-read}
+use Rattle.order.proofs.WalkLaws.{Along, along-link, along-other, Arrives, arrives-here, arrives-next, ZeroPast, access-other}
+
+abbrev sourceOf : Op → ℕ
+sourceOf (link p u) = suc p
+sourceOf (begin u) = 0
+sourceOf other = 0
+
+abbrev targetOf : Op → ℕ
+targetOf (link p u) = u
+targetOf (begin u) = 0
+targetOf other = 0
+
+module _ (op : ℕ → Op) where
+  -- a link among the first records and one more
+  last-or : (i j p u : ℕ) (x : Op) → op i ≡ x → j < suc i → op j ≡ link p u → (j < i) ⊎ (x ≡ link p u)
+  last-or i j p u x e h k = go (decide-lt j i)
+    where
+      go : (j < i) ⊎ (i ≤ j) → (j < i) ⊎ (x ≡ link p u)
+      go (inl l) = inl l
+      go (inr l) = let same : i ≡ j = omega arith in inr (sym e ∙ (ap op same ∙ k))
+
+  -- The list after the first i records: the chain of each that has begun, and for any other a number by which no link came from a lower chain
+  -- than 1,024 less that.
+  module _ (C : ℕ → ℕ) where
+    pub record Hinted (i : ℕ) (hs : List ℕ) : Type 0 where
+      pub chains : (p : ℕ) → p < begins op i → getD hs p 0 ≡ C p
+      pub hints : (u p j : ℕ) → begins op i ≤ u → u < length hs → j < i → op j ≡ link p u → 1024 - C p ≤ getD hs u 0
+      pub low : (u : ℕ) → u < length hs → getD hs u 0 ≤ 1024
+
+    hinted-other : (i : ℕ) (hs : List ℕ) → op i ≡ other → Hinted i hs → Hinted (suc i) hs
+    hinted-other i hs e f = record {
+      chains = λ p h. f .chains p (omega (arith, b));
+      hints = λ u p j a k h x. go u p j a k x (last-or i j p u other e h x);
+      low = f .low;
+    }
+      where
+        b : begins op (suc i) ≡ begins op i
+        b = begins-suc op i other e
+
+        go : (u p j : ℕ) → begins op (suc i) ≤ u → u < length hs → op j ≡ link p u → (j < i) ⊎ (other ≡ link p u) → 1024 - C p ≤ getD hs u 0
+        go u p j a k x (inl h) = f .hints u p j (omega (arith, b)) k h x
+        go u p j a k x (inr h) = absurd (omega (arith, ap sourceOf h))
+
+    hinted-link :
+        (i p v : ℕ) (hs : List ℕ) → op i ≡ link p v → p < begins op i → begins op i ≤ v → Hinted i hs →
+        Hinted (suc i) (set hs v (max (getD hs v 0) (1024 - getD hs p 0)))
+    hinted-link i p v hs e before after f = record {
+      chains = λ q h. getD-set-other hs v q x 0 (omega (arith, b)) ∙ f .chains q (omega (arith, b));
+      hints = λ u q j a k h y. each u q j (omega (arith, b)) (omega (arith, size)) y (last-or i j q u (link p v) e h y) (decide-eq u v);
+      low = λ u h. high u (omega (arith, size)) (decide-eq u v);
+    }
+      where
+        x : ℕ
+        x = max (getD hs v 0) (1024 - getD hs p 0)
+
+        b : begins op (suc i) ≡ begins op i
+        b = begins-suc op i (link p v) e
+
+        size : length (set hs v x) ≡ length hs
+        size = length-set hs v x
+
+        own : v < length hs → getD (set hs v x) v 0 ≡ x
+        own h = getD-set-same hs v x 0 h
+
+        each :
+            (u q j : ℕ) → begins op i ≤ u → u < length hs → op j ≡ link q u → (j < i) ⊎ (link p v ≡ link q u) → (u ≡ v) ⊎ (u ≢ v) →
+            1024 - C q ≤ getD (set hs v x) u 0
+        each u q j a k y (inl h) (inl m) = rw m (omega (arith, own (rw m at k), f .hints v q j (rw m at a) (rw m at k) h (rw m at y)))
+        each u q j a k y (inl h) (inr m) = rw (getD-set-other hs v u x 0 m) (f .hints u q j a k h y)
+        each u q j a k y (inr h) (inl m) =
+            let s = ap sourceOf h in
+            let same : p ≡ q = omega arith in
+            rw m (omega (arith, own (rw m at k), f .chains p before, ap C same))
+        each u q j a k y (inr h) (inr m) = absurd (m (sym (ap targetOf h)))
+
+        high : (u : ℕ) → u < length hs → (u ≡ v) ⊎ (u ≢ v) → getD (set hs v x) u 0 ≤ 1024
+        high u h (inl m) = rw m (omega (arith, own (rw m at h), f .low v (rw m at h)))
+        high u h (inr m) = rw (getD-set-other hs v u x 0 m) (f .low u h)
+
+    pub hinted-begin : (i v : ℕ) (hs : List ℕ) → op i ≡ begin v → v ≡ begins op i → v < length hs → C v ≤ 1024 → Hinted i hs → Hinted (suc i) (set hs v (C v))
+    hinted-begin i v hs e next inside top f = record {
+      chains = λ q h. chain q (omega (arith, b)) (decide-eq q v);
+      hints = λ u q j a k h y. each u q j (omega (arith, b)) (omega (arith, size)) y (last-or i j q u (begin v) e h y);
+      low = λ u h. high u (omega (arith, size)) (decide-eq u v);
+    }
+      where
+        b : begins op (suc i) ≡ suc v
+        b = begins-suc op i (begin v) e ∙ ap suc (sym next)
+
+        size : length (set hs v (C v)) ≡ length hs
+        size = length-set hs v (C v)
+
+        chain : (q : ℕ) → q < suc v → (q ≡ v) ⊎ (q ≢ v) → getD (set hs v (C v)) q 0 ≡ C q
+        chain q h (inl m) = rw m (getD-set-same hs v (C v) 0 inside)
+        chain q h (inr m) = getD-set-other hs v q (C v) 0 m ∙ f .chains q (omega arith)
+
+        each : (u q j : ℕ) → suc v ≤ u → u < length hs → op j ≡ link q u → (j < i) ⊎ (begin v ≡ link q u) → 1024 - C q ≤ getD (set hs v (C v)) u 0
+        each u q j a k y (inl h) = rw (getD-set-other hs v u (C v) 0 (omega arith)) (f .hints u q j (omega arith) k h y)
+        each u q j a k y (inr h) = absurd (omega (arith, ap sourceOf h))
+
+        high : (u : ℕ) → u < length hs → (u ≡ v) ⊎ (u ≢ v) → getD (set hs v (C v)) u 0 ≤ 1024
+        high u h (inl m) = rw m (omega (arith, getD-set-same hs v (C v) 0 inside))
+        high u h (inr m) = rw (getD-set-other hs v u (C v) 0 m) (f .low u h)
+
+    -- no link came where the hint is 0
+    unhinted :
+        (n : ℕ) → Ordered op n → (i : ℕ) → i ≤ n → (hs : List ℕ) → Hinted i hs → ((p : ℕ) → p < begins op i → C p < 1024) →
+        (u : ℕ) → begins op i ≤ u → u < length hs → getD hs u 0 ≡ 0 → linked op i u ≡ []
+    unhinted n o i h hs f few u a k z = none (linked op i u) refl
+      where
+        none : (ps : List ℕ) → linked op i u ≡ ps → ps ≡ []
+        none [] e = refl
+        none (q ∷ ps) e =
+            let r = linked-exact op i q u .0 (rw e (List·Memᴰ·head refl)) in
+            let g = link-between op n o (r .0) q u (omega (arith, r .1)) (r .2) in
+            absurd (omega (arith, f .hints u q (r .0) a k (r .1) (r .2), few q (omega (arith, g .0, begins-mono op (r .0) i (omega (arith, r .1))))))
+
+module _
+    (op : ℕ → Op) (n : ℕ) (o : Ordered op n) (within : (i p u : ℕ) → i < n → op i ≡ link p u → u < begins op n)
+    (R : ℕ → ℕ → ℕ) (C : ℕ → ℕ) (w chains : ℕ) (narrow : w ≤ 1024) (rest : List ℕ) where
+  pub record FillArrives (i : ℕ) (hs : List ℕ) (r : FillWalked) : Type 0 where
+    pub arrives : Arrives op n (λ u c. 0) R w rest i (record { position = r .position; clocks = r .clocks })
+    pub same-length : length (r .hints) ≡ length hs
+    pub hinted : Hinted op C (r .position) (r .hints)
+    pub past : (u : ℕ) → begins op n ≤ u → getD (r .hints) u 0 ≡ getD hs u 0
+
+  module _ (i p u : ℕ) (rows : ℕ → ℕ → ℕ) (hs : List ℕ) (h : i < n) (x : op i ≡ link p u) (f : Along op (λ u c. 0) R i rows) (t : Hinted op C i hs)
+      (few : (q : ℕ) → q < begins op i → C q < 1024) (room : begins op n ≤ length hs) where
+    -- the row is 0 where no link has come to it
+    fresh : getD hs u 0 ≡ 0 → (d : ℕ) → d < w → getD (flat w (begins op n) rows ++ rest) (u * w + d) 0 ≡ 0
+    unfolding largest
+    fresh z d a =
+        let to = within i p u h x in
+        let after = link-between op n o i p u h x .1 in
+        let none = unhinted op C n o i (omega arith) hs t few u after (omega arith) z in
+        flat-read w (begins op n) rest rows u d to a ∙ (f .coming u d after ∙ rw none refl)
+
+    link-merges : (cs : List ℕ) → cs ≡ flat w (begins op n) rows ++ rest → linkedBy w chains (link p u) hs cs ≡ mergeRow w chains p u cs
+    link-merges cs e = go (decide-eq (getD hs u 0) 0)
+      where
+        go : (getD hs u 0 ≡ 0) ⊎ (getD hs u 0 ≢ 0) → linkedBy w chains (link p u) hs cs ≡ mergeRow w chains p u cs
+        go (inl z) = rw (eq-eqb (getD hs u 0) 0 z) (copy-merges w chains p u cs (λ d a. rw e (fresh z d a)))
+        go (inr z) = rw (ne-eqb (getD hs u 0) 0 z) refl
+
+  -- where k records are left
+  pub fill-walked :
+      (k i : ℕ) (rows : ℕ → ℕ → ℕ) (cs hs : List ℕ) → i + k ≡ n → cs ≡ flat w (begins op n) rows ++ rest → Along op (λ u c. 0) R i rows →
+      ZeroPast op R w chains i → Hinted op C i hs → ((q : ℕ) → q < begins op i → C q < 1024) → begins op n ≤ length hs →
+      FillArrives i hs (fillWalk op w chains k i cs hs)
+  unfolding fillWalk
+  fill-walked zero i rows cs hs z e f s t few room =
+      let r = arrives-here op n (λ u c. 0) R w rest i rows (omega arith) (λ h. absurd (omega arith)) f in
+      rw e (record { arrives = r; same-length = refl; hinted = t; past = λ u h. refl })
+  fill-walked (suc k) i rows cs hs z e f s t few room = go (op i) refl (λ rows′ cs′ hs′. fill-walked k (suc i) rows′ cs′ hs′ (omega arith))
+    where
+      h : i < n
+      h = omega arith
+
+      go : (x : Op) → op i ≡ x →
+          ((rows′ : ℕ → ℕ → ℕ) (cs′ hs′ : List ℕ) → cs′ ≡ flat w (begins op n) rows′ ++ rest → Along op (λ u c. 0) R (suc i) rows′ →
+          ZeroPast op R w chains (suc i) → Hinted op C (suc i) hs′ → ((q : ℕ) → q < begins op (suc i) → C q < 1024) → begins op n ≤ length hs′ →
+          FillArrives (suc i) hs′ (fillWalk op w chains k (suc i) cs′ hs′)) →
+          FillArrives i hs (fillOn (stops x) i (linkedBy w chains x hs cs) (hintedBy x hs) (fillWalk op w chains k (suc i)))
+      go (link p u) x next =
+          let b = begins-suc op i (link p u) x in
+          let g = link-between op n o i p u h x in
+          let to = within i p u h x in
+          let y = max (getD hs u 0) (1024 - getD hs p 0) in
+          let size = length-set hs u y in
+          let z : (c : ℕ) → c < w → (chains ≤ c) ⊎ (p < c) → rows p c ≡ 0 = λ c a d. f .done p c (g .0) ∙ s p c (g .0) a d in
+          let merges = merged-row w (begins op n) rest rows chains p u narrow (omega (arith, g .0, g .1)) to z in
+          let m = link-merges i p u rows hs h x f t few room cs e ∙ (ap (mergeRow w chains p u) e ∙ merges) in
+          let along = along-link op (λ u c. 0) R n o i p u rows h x f in
+          let hinted = hinted-link op C i p u hs x (g .0) (g .1) t in
+          let r = next (mergeInto rows p u) (linkedBy w chains (link p u) hs cs) (set hs u y) m along (λ q c a d j. s q c (omega (arith, b)) d j) hinted
+          (λ q a. few q (omega (arith, b))) (omega arith) in
+          record {
+            arrives = arrives-next op n (λ u c. 0) R w rest i _ b (r .arrives);
+            same-length = r .same-length ∙ size;
+            hinted = r .hinted;
+            past = λ v q. r .past v q ∙ getD-set-other hs u v y 0 (omega arith);
+          }
+      go (begin u) x next =
+          let r = arrives-here op n (λ u c. 0) R w rest i rows (omega arith) (λ q. x ∙ ap begin (begin-next op n o i u h x)) f in
+          rw e (record { arrives = r; same-length = refl; hinted = t; past = λ u h. refl })
+      go other x next =
+          let b = begins-suc op i other x in
+          let along = along-other op (λ u c. 0) R i rows x f in
+          let r = next rows cs hs e along (λ q c a d j. s q c (omega (arith, b)) d j) (hinted-other op C i hs x t) (λ q a. few q (omega (arith, b))) room in
+          record { arrives = arrives-next op n (λ u c. 0) R w rest i _ b (r .arrives); same-length = r .same-length; hinted = r .hinted; past = r .past }
+
+-- the walk as a loop makes it, from record i up to n
+module _ (op : ℕ → Op) (w chains n i : ℕ) (cs hs : List ℕ) where
+  pub fill-over : n ≤ i → fillWalk op w chains (n - i) i cs hs ≡ record { position = i; clocks = cs; hints = hs }
+  unfolding fillWalk
+  fill-over h = let e : n - i ≡ 0 = omega arith in rw e
+
+  module _ (h : i < n) where
+    pub fill-stop :
+        stops (op i) ≡ true →
+        fillWalk op w chains (n - i) i cs hs ≡ record { position = i; clocks = linkedBy w chains (op i) hs cs; hints = hintedBy (op i) hs }
+    unfolding fillWalk
+    fill-stop t = let e : n - i ≡ suc (n - suc i) = omega arith in rw (e, t)
+
+    pub fill-next :
+        stops (op i) ≡ false →
+        fillWalk op w chains (n - i) i cs hs ≡ fillWalk op w chains (n - (i + 1)) (i + 1) (linkedBy w chains (op i) hs cs) (hintedBy (op i) hs)
+    unfolding fillWalk
+    fill-next t =
+        let e : n - i ≡ suc (n - suc i) = omega arith in
+        let j : i + 1 ≡ suc i = omega arith in
+        rw (e, t, j)
+
+-- past records that say nothing
+fill-past :
+    (op : ℕ → Op) (w chains n : ℕ) (cs hs : List ℕ) (k i : ℕ) → i + k ≤ n → ((j : ℕ) → i ≤ j → j < i + k → op j ≡ other) →
+    fillWalk op w chains (n - i) i cs hs ≡ fillWalk op w chains (n - (i + k)) (i + k) cs hs
+fill-past op w chains n cs hs zero i h f = let e : i + 0 ≡ i = omega arith in rw e
+fill-past op w chains n cs hs (suc k) i h f =
+    let o = f i (omega arith) (omega arith) in
+    let j : i + suc k ≡ (i + 1) + k = omega arith in
+    fill-next op w chains n i cs hs (omega arith) (ap stops o)
+    ∙ (ap₂ (fillWalk op w chains (n - (i + 1)) (i + 1)) (ap (λ x. linkedBy w chains x hs cs) o) (ap (λ x. hintedBy x hs) o)
+    ∙ rw j (fill-past op w chains n cs hs k (i + 1) (omega arith) (λ x a b. f x (omega arith) (omega arith))))
+
+-- the walk starts past the accesses
+pub fill-skips :
+    (tr : List Record) (ranks : List ℕ) (w chains from : ℕ) (cs hs : List ℕ) →
+    fillWalk (opBy tr ranks) w chains (length tr - (from + leading tr (length tr - from) from)) (from + leading tr (length tr - from) from) cs hs
+    ≡ fillWalk (opBy tr ranks) w chains (length tr - from) from cs hs
+fill-skips tr ranks w chains from cs hs = go (decide-lt (length tr) from)
+  where
+    k : ℕ
+    k = leading tr (length tr - from) from
+
+    go :
+        (length tr < from) ⊎ (from ≤ length tr) →
+        fillWalk (opBy tr ranks) w chains (length tr - (from + k)) (from + k) cs hs ≡ fillWalk (opBy tr ranks) w chains (length tr - from) from cs hs
+    go (inl h) = let e : from + k ≡ from = leading-over tr (length tr) from (omega arith) in rw e
+    go (inr h) =
+        sym (fill-past (opBy tr ranks) w chains (length tr) cs hs k from (omega (arith, leading-le tr (length tr - from) from))
+        (λ j a b. access-other (λ e. getD ranks e 0) (at tr j) (leading-accesses tr (length tr - from) from j a b)))

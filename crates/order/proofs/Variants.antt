@@ -1,0 +1,46 @@
+-- "Plausible and false": "A chain found among direct predecessors only.", with a trace on which it takes another chain. `refl` computes it.
+use Prim.Native.Nat.{ℕ}
+use mathlib.Core.Path.{_≡_, refl}
+use mathlib.Core.Bool.{Bool}
+use mathlib.Core.List.{List, [], _∷_}
+use lib.Dec.{eqb}
+use Rattle.records.specs.declared.Record.{Record}
+use Rattle.records.specs.Bytes.{recordAt, recordsFrom, decode, part}
+use Rattle.records.specs.Records.{past, has, begun, ended, begins}
+use Rattle.trace.specs.Place.{place}
+use Rattle.trace.specs.Rule.{situation, owner, numbered, wellFormed, misplaced, again, early, judge, rule}
+use Rattle.trace.specs.Reading.{accepted, demand, orElse, closing, walk, distance, trailerReply, frameReply, recordsIn, recordsReply, readReply}
+use Rattle.trace.specs.Encoding.{encode, trailer, traceOf}
+use Rattle.trace.proofs.Examples.{rec}
+use Rattle.ranks.specs.Said.{opOf}
+use Rattle.order.specs.Links.{Links, within, along, some, leq}
+use Rattle.order.specs.Chains.{firstFrom, pick, put, lasts, chain, needs}
+use Rattle.order.specs.Schedule.{linked}
+use Rattle.order.specs.Clocks.{table}
+use Rattle.order.specs.HappensBefore.{rankIn, rank, opAt, traceLinks}
+
+-- Event 3 waits for 1 and 2, and starts 4 and 5. When 5 begins, chain 0 has 1, 3 and 4, and chain 1 has 2: 4 doesn't happen before 5, but 2 does,
+-- through 3.
+abbrev records : List Record
+records = rec 1 1 0 ∷ rec 2 1 0 ∷ rec 1 2 0 ∷ rec 2 2 0 ∷ rec 4 3 1 ∷ rec 4 3 2 ∷ rec 1 3 0 ∷ rec 3 3 4 ∷ rec 3 3 5
+    ∷ rec 2 3 0 ∷ rec 1 4 0 ∷ rec 2 4 0 ∷ rec 1 5 0 ∷ rec 2 5 0 ∷ []
+
+pub is-accepted : readReply (traceOf records) ≡ accepted 0 14 5
+unfolding encode trailer traceOf recordAt recordsFrom decode past has begun ended begins place situation owner numbered wellFormed misplaced again early
+    judge rule demand orElse closing walk distance trailerReply frameReply part recordsIn recordsReply readReply
+is-accepted = refl
+
+-- the test by which that rule finds a chain: its last member is a direct predecessor
+abbrev direct : Links → ℕ → ℕ → Bool
+direct l m u = some (eqb m) (l .preds u)
+
+-- the chain of each event action, in order of begin: that rule gives the last one a chain of its own
+pub direct-false : (table 5 (chain (direct (traceLinks records))) ≡ 0 ∷ 1 ∷ 0 ∷ 0 ∷ 2 ∷ [])
+    × (table 5 (chain (leq (traceLinks records))) ≡ 0 ∷ 1 ∷ 0 ∷ 0 ∷ 1 ∷ [])
+unfolding table chain lasts pick put some leq along within linked opAt opOf rank rankIn past begins
+direct-false = (refl, refl)
+
+-- so at width 2 it would be refused by 23 at that begin
+pub direct-needs : (needs (direct (traceLinks records)) 2 5 ≡ 4) × (needs (leq (traceLinks records)) 2 5 ≡ 5)
+unfolding needs firstFrom chain lasts pick put some leq along within linked opAt opOf rank rankIn past begins
+direct-needs = (refl, refl)

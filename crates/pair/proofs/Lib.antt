@@ -1,0 +1,13 @@
+pub mod RecordRows
+pub mod RowMarks
+pub mod MergeLaws
+pub mod KeptLaws
+pub mod KeptSteps
+pub mod KeptEntries
+pub mod PairEntries
+pub mod CoverLaws
+pub mod PairLaws
+pub mod PairEnds
+pub mod ThirdDemand
+pub mod Cases
+pub mod Examples

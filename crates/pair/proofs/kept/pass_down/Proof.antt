@@ -1,0 +1,81 @@
+-- `pair::kept::pass_down` meets its contract.
+-- Assumes nothing.
+use borrow.Author.Needs.{needs}
+use native.Mathlib.Omega.{arith}
+use Prim.Native.Nat.{_≤_}
+use mathlib.Core.Path.{_≡_}
+use Rattle.records.specs.Bytes.{decode}
+use Rattle.races.specs.Filled.{rows}
+use Rattle.pair.specs.Kept.{Split, Passes}
+use Rattle.pair.proofs.RecordRows.{split-some, split-block}
+use Rattle.pair.proofs.KeptSteps.{passes-none, passes-down}
+use Rattle.pair.proofs.kept.pass_down.Statement.{statement}
+use Rattle.pair.proofs.kept.pass_down.Tie as tie
+
+abbrev Inv-loop : tie.InvT-loop
+Inv-loop recs of width chains clocks work₀ row₀ cells₀ u end t₀ hi₀ work row cells t hi = Passes (decode recs) of width chains clocks u end t hi work₀ row₀ cells₀ work row cells × Split (decode recs) t hi × (t ≤ rows (decode recs))
+
+abbrev μ-loop : tie.MeasureT-loop
+μ-loop recs of width chains clocks work₀ row₀ cells₀ u end t₀ hi₀ work row cells t hi = t
+
+loop-holds : tie.Need-loop-holds Inv-loop μ-loop
+loop-holds c = let s = c .before .before .before .before .before .before in (passes-none (s .pre .0), s .pre .1 .0, s .pre .1 .1)
+
+sub-t : tie.Need-sub-t Inv-loop μ-loop
+sub-t c = omega (arith, c .loop-test .taken)
+
+sub-block-start : tie.Need-sub-block-start Inv-loop μ-loop
+sub-block-start c =
+    let l = c .before .loop in
+    omega (arith, split-some (l .inv .0 .again .filled .acceptable) (l .t) (l .hi) (c .loop-test .taken) (l .inv .2) (l .inv .1))
+
+block-start-requires : tie.Need-block-start-requires Inv-loop μ-loop
+block-start-requires c κs = search needs
+
+pass-row-requires : tie.Need-pass-row-requires Inv-loop μ-loop
+pass-row-requires c κs =
+    let l = c .before .before .before .before .before .loop in
+    (l .inv .0 .again, split-block (l .inv .0 .again .filled .acceptable) (l .t) (l .hi) (c .before .before .before .before .loop-test .taken) (l .inv .2) (l .inv .1) _ (c .before .before .before .block-start .ensures))
+
+loop-less : tie.Need-loop-less Inv-loop μ-loop
+loop-less c = omega (arith, c .before .before .before .before .before .before .before .before .before .before .before .loop-test .taken)
+
+loop-again : tie.Need-loop-again Inv-loop μ-loop
+loop-again c =
+    let l = c .before .before .before .before .before .before .before .before .before .before .before .before .loop in
+    let h = c .before .before .before .before .before .before .before .before .before .before .before .loop-test .taken in
+    let k = split-block (l .inv .0 .again .filled .acceptable) (l .t) (l .hi) h (l .inv .2) (l .inv .1) _ (c .before .before .before .before .before .before .before .before .before .before .block-start .ensures) in
+    (passes-down h (l .inv .0) (c .before .before .before .before .before .before .pass-row .ensures), k .from, omega (arith, l .inv .2))
+
+same-length : tie.Need-same-length Inv-loop μ-loop
+same-length c = c .before .loop .inv .0 .rest .size
+
+same-length-2 : tie.Need-same-length-2 Inv-loop μ-loop
+same-length-2 c = c .before .loop .inv .0 .row-size
+
+same-length-3 : tie.Need-same-length-3 Inv-loop μ-loop
+same-length-3 c = omega (arith, c .before .loop .inv .0 .again .cells-are .size, c .before .before .before .before .before .before .before .before .pre .0 .cells-are .size)
+
+returns : tie.Need-returns Inv-loop μ-loop
+returns c =
+    let l = c .before .loop in
+    let e : l .t ≡ 0 = omega (arith, c .loop-test .left) in
+    record { start = l .hi; split = rw e at (l .inv .1); passes = rw e at (l .inv .0) }
+
+pub pass-down-spec : {M : Type 1} → statement M
+pass-down-spec =
+    tie.close
+    (tie.spec
+    Inv-loop
+    μ-loop
+    loop-holds
+    sub-t
+    sub-block-start
+    block-start-requires
+    pass-row-requires
+    loop-less
+    loop-again
+    same-length
+    same-length-2
+    same-length-3
+    returns)

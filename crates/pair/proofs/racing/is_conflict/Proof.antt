@@ -1,0 +1,53 @@
+-- `pair::racing::is_conflict` meets its contract.
+-- Assumes nothing.
+use mathlib.Core.Bool.{true}
+use mathlib.Core.Path.{_≡_, sym, _∙_}
+use Rattle.races.specs.Traces.{conflict, isAccess}
+use borrow.Author.Tests.{eq-eqb, ne-eqb, not-true, not-false}
+use borrow.Author.Needs.{needs}
+use Rattle.pair.proofs.racing.is_conflict.Statement.{statement}
+use Rattle.pair.proofs.racing.is_conflict.Tie as tie
+
+is-access-requires : tie.Need-is-access-requires
+is-access-requires c κs = search needs
+
+returns : tie.Need-returns
+unfolding conflict
+returns c = simp (← c .before .is-access .ensures, not-true (c .before .is-access .result) (c .if1 .taken))
+
+is-access-requires-2 : tie.Need-is-access-requires-2
+is-access-requires-2 c κs = search needs
+
+returns-2 : tie.Need-returns-2
+unfolding conflict
+returns-2 c = simp (← c .before .before .before .is-access .ensures, not-false (c .before .before .before .is-access .result) (c .before .before .if1 .left), ← c .before .is-access2 .ensures, not-true (c .before .is-access2 .result) (c .if2 .taken))
+
+returns-3 : tie.Need-returns-3
+unfolding conflict
+returns-3 c = simp (← c .before .before .before .before .before .before .is-access .ensures, not-false (c .before .before .before .before .before .before .is-access .result) (c .before .before .before .before .before .if1 .left), ← c .before .before .before .before .is-access2 .ensures, not-false (c .before .before .before .before .is-access2 .result) (c .before .before .before .if2 .left), ne-eqb _ _ (c .if3 .taken))
+
+returns-4 : tie.Need-returns-4
+unfolding conflict
+returns-4 c =
+    let p : isAccess (c .before .before .before .before .before .before .before .before .before .args .a) ≡ true = sym (c .before .before .before .before .before .before .before .before .is-access .ensures) ∙ not-false (c .before .before .before .before .before .before .before .before .is-access .result) (c .before .before .before .before .before .before .before .if1 .left) in
+    let q : isAccess (c .before .before .before .before .before .before .before .before .before .args .b) ≡ true = sym (c .before .before .before .before .before .before .is-access2 .ensures) ∙ not-false (c .before .before .before .before .before .before .is-access2 .result) (c .before .before .before .before .before .if2 .left) in
+    rw (p, q, eq-eqb _ _ (c .before .before .if3 .left), eq-eqb _ _ (c .if4 .taken))
+
+returns-5 : tie.Need-returns-5
+unfolding conflict
+returns-5 c =
+    let p : isAccess (c .before .before .before .before .before .before .before .before .before .before .args .a) ≡ true = sym (c .before .before .before .before .before .before .before .before .before .is-access .ensures) ∙ not-false (c .before .before .before .before .before .before .before .before .before .is-access .result) (c .before .before .before .before .before .before .before .before .if1 .left) in
+    let q : isAccess (c .before .before .before .before .before .before .before .before .before .before .args .b) ≡ true = sym (c .before .before .before .before .before .before .before .is-access2 .ensures) ∙ not-false (c .before .before .before .before .before .before .before .is-access2 .result) (c .before .before .before .before .before .before .if2 .left) in
+    rw (p, q, eq-eqb _ _ (c .before .before .before .if3 .left), ne-eqb _ _ (c .before .if4 .left))
+
+pub is-conflict-spec : {M : Type 1} → statement M
+is-conflict-spec =
+    tie.close
+    (tie.spec
+    is-access-requires
+    returns
+    is-access-requires-2
+    returns-2
+    returns-3
+    returns-4
+    returns-5)

@@ -1,0 +1,5 @@
+pub mod Leading
+pub mod Kept
+pub mod Pair
+pub mod PairSearch
+pub mod Demand

@@ -1,0 +1,75 @@
+-- Trace T and its variants; and one refusal of each number, with a trace after bytes of the job file, proved of the reader's definition.
+-- Assumes nothing.
+use Prim.Native.Nat.{ℕ}
+use mathlib.Core.Path.{_≡_, refl}
+use mathlib.Core.List.{List, [], _∷_, _++_, map}
+use Rattle.records.specs.declared.Record.{Record}
+use Rattle.records.specs.Bytes.{recordAt, recordsFrom, decode, part}
+use Rattle.records.specs.Records.{past, has, begun, ended, begins}
+use Rattle.trace.specs.Place.{place}
+use Rattle.trace.specs.Rule.{situation, owner, numbered, wellFormed, misplaced, again, early, judge, rule}
+use Rattle.trace.specs.Reading.{Reply, refused, accepted, demand, orElse, closing, walk, distance, trailerReply, frameReply, recordsIn, recordsReply}
+use Rattle.trace.specs.Reading.{readReply}
+use Rattle.trace.specs.Encoding.{encode, trailer}
+
+-- a record, by "Kind, first, second"
+abbrev pub rec : ℕ → ℕ → ℕ → Record
+rec k x y = record { kind = k; first = x; second = y }
+
+-- records 1 to 6, which T and its variants share
+abbrev opening : List Record → List Record
+opening rest = rec 1 1 0 ∷ rec 3 1 2 ∷ rec 3 1 3 ∷ rec 2 1 0 ∷ rec 1 2 0 ∷ rec 6 2 1 ∷ rest
+
+-- "1: begin 1; 2: fork 1 2; 3: fork 1 3; 4: end 1; 5: begin 2; 6: write 2 1; 7: write 2 2; 8: end 2; 9: begin 3; 10: read 3 2; 11: read 3 1; 12: end 3."
+abbrev pub recordsT : List Record
+recordsT = opening (rec 6 2 2 ∷ rec 2 2 0 ∷ rec 1 3 0 ∷ rec 5 3 2 ∷ rec 5 3 1 ∷ rec 2 3 0 ∷ [])
+
+-- "T with the cells of 10 and 11 exchanged"
+abbrev pub exchanged : List Record
+exchanged = opening (rec 6 2 2 ∷ rec 2 2 0 ∷ rec 1 3 0 ∷ rec 5 3 1 ∷ rec 5 3 2 ∷ rec 2 3 0 ∷ [])
+
+-- "T with fork 2 3 after record 7"
+abbrev pub forked : List Record
+forked = opening (rec 6 2 2 ∷ rec 3 2 3 ∷ rec 2 2 0 ∷ rec 1 3 0 ∷ rec 5 3 2 ∷ rec 5 3 1 ∷ rec 2 3 0 ∷ [])
+
+-- "T with 7 writing and 10 reading cell 1"
+abbrev pub oneCell : List Record
+oneCell = opening (rec 6 2 1 ∷ rec 2 2 0 ∷ rec 1 3 0 ∷ rec 5 3 1 ∷ rec 5 3 1 ∷ rec 2 3 0 ∷ [])
+
+-- "Trailer in hex: 3C 00 00 00 03 00 01 A7."
+abbrev pub trailerT : List ℕ
+trailerT = 60 ∷ 0 ∷ 0 ∷ 0 ∷ 3 ∷ 0 ∷ 1 ∷ 167 ∷ []
+
+-- bytes, and the reply that document 01 gives for them
+pub record Case : Type 0 where
+  pub bytes : List ℕ
+  pub reply : Reply
+
+abbrev of : List ℕ → Reply → Case
+of b r = record { bytes = b; reply = r }
+
+-- these records, with the trailer that names distance d and m begins
+abbrev reads : List Record → ℕ → ℕ → Reply → Case
+reads tr d m r = of (encode tr ++ trailer d m) r
+
+abbrev pub cases : List Case
+cases =
+    of (7 ∷ 7 ∷ encode recordsT ++ trailerT) (accepted 2 12 3)
+    ∷ of (0 ∷ 0 ∷ 0 ∷ 0 ∷ 0 ∷ 0 ∷ 1 ∷ 168 ∷ []) (refused 1 0)
+    ∷ of (0 ∷ 0 ∷ 0 ∷ 0 ∷ 0 ∷ 0 ∷ 2 ∷ 167 ∷ []) (refused 2 0)
+    ∷ reads [] 5 0 (refused 3 0)
+    ∷ reads (rec 1 1 0 ∷ rec 7 1 1 ∷ []) 10 1 (refused 4 2)
+    ∷ reads (rec 1 1 0 ∷ rec 5 1 1025 ∷ []) 10 1 (refused 5 2)
+    ∷ reads (rec 2 1 0 ∷ []) 5 0 (refused 6 1)
+    ∷ reads (rec 1 1 0 ∷ rec 1 1 0 ∷ []) 10 2 (refused 6 2)
+    ∷ reads (rec 1 1 0 ∷ rec 3 1 1 ∷ []) 10 1 (refused 7 2)
+    ∷ reads (rec 4 1 2 ∷ []) 5 0 (refused 8 1)
+    ∷ reads (rec 1 1 0 ∷ []) 5 1 (refused 9 1)
+    ∷ reads [] 0 1 (refused 10 0)
+    ∷ []
+
+-- every case gets the reply that it expects
+pub hold : map (λ (c : Case). readReply (c .bytes)) cases ≡ map (λ (c : Case). c .reply) cases
+unfolding encode trailer recordAt recordsFrom decode past has begun ended begins place situation owner numbered wellFormed misplaced again early judge rule
+    demand orElse closing walk distance trailerReply frameReply part recordsIn recordsReply readReply
+hold = refl
