@@ -4,7 +4,6 @@ use crate::kept;
 use crate::racing;
 use clocks::compare;
 use ranks::row_at;
-use records::Var;
 use records::access;
 use records::search;
 ghost use mathlib.Core.Path.{_≡_};
@@ -62,14 +61,14 @@ fn find_first(
     if work[u] == 0 {
         return d;
     }
-    let x = access::second_at(recs, d);
+    let x = access::cell_at(recs, d);
     let least = search::least_kind(kind);
-    let mut c = search::next_access(recs, lo, d, Var(x), least);
+    let mut c = search::next_access(recs, lo, d, x, least);
     while c < d {
         if leads_on(of, width, clocks, t, row_at(recs, ranks, c), u) {
             return c;
         }
-        c = search::next_access(recs, c + 1, d, Var(x), least);
+        c = search::next_access(recs, c + 1, d, x, least);
     }
     c
 }

@@ -16,10 +16,10 @@ ghost use Rattle.pair.specs.Kept.{Passing, Passes, PassesAll, Markable, 
 pub(crate) fn block_start(recs: &[u8], i: usize) -> usize
     ensures { λ r. ⌜ Starts (decode (now (recs .entry))) r i ⌝ }
 {
-    let e = access::first_at(recs, i);
+    let e = access::event_at(recs, i);
     let mut lo = i;
     while 0 < lo {
-        if access::first_at(recs, lo - 1) != e {
+        if access::event_at(recs, lo - 1).0 != e.0 {
             return lo;
         }
         lo -= 1;
@@ -53,7 +53,7 @@ fn note(recs: &[u8], lo: usize, hi: usize, cells: &mut [u8])
     while i < hi {
         let kind = access::kind_at(recs, i);
         if 4 < kind {
-            note_access(cells, kind, access::second_at(recs, i) as usize);
+            note_access(cells, kind, access::cell_at(recs, i).0 as usize);
         }
         i += 1;
     }
@@ -68,7 +68,7 @@ fn has_conflict(recs: &[u8], cells: &[u8], i: usize) -> bool
     if kind < 5 {
         return false;
     }
-    6 < kind + cells[access::second_at(recs, i) as usize]
+    6 < kind + cells[access::cell_at(recs, i).0 as usize]
 }
 
 // Does one of the records from lo on, before hi, conflict with a kept access?

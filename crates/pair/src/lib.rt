@@ -47,7 +47,7 @@ fn put_end(recs: &[u8], work: &[u8], t: usize, i: usize, list: &mut [u16], k: us
     if work[t] != 1 {
         return k;
     }
-    put_entry(list, k, access::first_at(recs, i), (i + 1) as u16);
+    put_entry(list, k, access::event_at(recs, i).0, (i + 1) as u16);
     k + 1
 }
 
@@ -67,7 +67,7 @@ fn put_kept(recs: &[u8], work: &[u8], b: usize, list: &mut [u16]) -> usize
         }
         i += 1;
     }
-    put_entry(list, k, access::first_at(recs, b), (b + 1) as u16);
+    put_entry(list, k, access::event_at(recs, b).0, (b + 1) as u16);
     k + 1
 }
 

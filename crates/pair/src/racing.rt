@@ -1,7 +1,6 @@
 // Which accesses race, by the clocks.
 use clocks::compare;
 use ranks::rank_of;
-use records::EventId;
 use records::Record;
 use records::access;
 ghost use mathlib.Core.Path.{_≡_};
@@ -50,7 +49,7 @@ pub(crate) fn is_clash(recs: &[u8], a: usize, b: usize) -> bool
     if !is_conflict(access::record_at(recs, a), access::record_at(recs, b)) {
         return false;
     }
-    access::first_at(recs, a) != access::first_at(recs, b)
+    access::event_at(recs, a).0 != access::event_at(recs, b).0
 }
 
 // Whether the event action of record a happens before that of record b.
@@ -67,8 +66,8 @@ pub(crate) fn is_before(
     ensures { λ r. ⌜ r ≡ happensBefore (decode (now (recs .entry))) (eventOf (at (decode (now (recs .entry))) a))
         (eventOf (at (decode (now (recs .entry))) b)) ⌝ }
 {
-    let first = rank_of(ranks, EventId(access::first_at(recs, a)));
-    let second = rank_of(ranks, EventId(access::first_at(recs, b)));
+    let first = rank_of(ranks, access::event_at(recs, a));
+    let second = rank_of(ranks, access::event_at(recs, b));
     let row = (first - 1) as usize;
     compare(clocks, width as u16, of[row], first - 1, second - 1)
 }

@@ -11,7 +11,6 @@ use crate::raising;
 use order::Filling;
 use ranks::row_at;
 use records::Operation;
-use records::Var;
 use records::access;
 use records::marks;
 use records::search;
@@ -51,7 +50,7 @@ fn put_entry(recs: &[u8], a: usize, b: usize, list: &mut [u16], k: usize)
     let at = 5 * k;
     list[at] = (a + 1) as u16;
     list[at + 1] = (b + 1) as u16;
-    list[at + 2] = access::second_at(recs, b);
+    list[at + 2] = access::cell_at(recs, b).0;
     list[at + 3] = shape_of(recs, a, b);
     list[at + 4] = 0;
 }
@@ -102,13 +101,13 @@ fn list_way(
     requires { ⌜ RoomIf writing (decode (now recs)) b from k (now list) ⌝ }
     ensures { λ r. ⌜ Writes writing (decode (now (recs .entry))) b from k (now (list .entry)) (now (list .exit)) r ⌝ }
 {
-    let c = access::second_at(recs, b);
+    let c = access::cell_at(recs, b);
     let least = search::least_kind(access::kind_at(recs, b));
     let mut next = k;
-    let mut a = search::next_access(recs, from, to, Var(c), least);
+    let mut a = search::next_access(recs, from, to, c, least);
     while a < to {
         next = list_race(recs, ranks, of, width, clocks, a, b, u, list, next, writing);
-        a = search::next_access(recs, a + 1, to, Var(c), least);
+        a = search::next_access(recs, a + 1, to, c, least);
     }
     next
 }
@@ -136,7 +135,7 @@ fn list_access(
     ensures { λ r. ⌜ Tables (decode (now (recs .entry))) short (b + 1) (now (seen .exit)) (now (written .exit)) ⌝ }
 {
     let kind = access::kind_at(recs, b);
-    let c = access::second_at(recs, b) as usize;
+    let c = access::cell_at(recs, b).0 as usize;
     let last = written[c] as usize;
     let ordered = is_ordered(of, width, clocks, seen[c], u);
     note_access(seen, written, c, kind, ordered, short, b, u);

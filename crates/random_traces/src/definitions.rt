@@ -5,9 +5,9 @@ use crate::paths::SECOND;
 use crate::paths::SHORT;
 use crate::paths::action_of;
 use crate::paths::before;
+use crate::paths::cell_of;
 use crate::paths::is_kind;
 use crate::paths::reaches;
-use crate::paths::second;
 use crate::slots::get;
 use crate::slots::is_in;
 use crate::slots::pick;
@@ -33,7 +33,7 @@ fn is_access(recs: &[u8], i: usize) -> bool {
 fn conflict(recs: &[u8], a: usize, b: usize) -> bool {
     let write = is_kind(recs, a, 6) | is_kind(recs, b, 6);
     let accesses = is_access(recs, a) & is_access(recs, b);
-    write & accesses & (second(recs, a) == second(recs, b))
+    write & accesses & (cell_of(recs, a) == cell_of(recs, b))
 }
 
 // "a before b in the trace, same cell, at least one write, not a ≼ b"
@@ -65,7 +65,7 @@ fn number_in_entry(recs: &[u8], table: &[usize], r: usize, q: usize) -> usize {
     match q {
         0 => plus(a, 1),
         1 => plus(b, 1),
-        2 => second(recs, a),
+        2 => cell_of(recs, a),
         3 => shape(recs, a, b),
         _ => get(table, plus(MARK, r)),
     }
@@ -129,10 +129,10 @@ pub(crate) fn find_leads(recs: &[u8], table: &[usize], races: usize, b: usize) -
 
 // No write of a's cell stands between a and b: b is the next write, or a the last write before a read.
 fn are_neighbours(recs: &[u8], a: usize, b: usize) -> bool {
-    let cell = second(recs, a);
+    let cell = cell_of(recs, a);
     let mut i = plus(a, 1);
     while i < b {
-        if is_kind(recs, i, 6) & (second(recs, i) == cell) {
+        if is_kind(recs, i, 6) & (cell_of(recs, i) == cell) {
             return false;
         }
         i += 1;

@@ -1,11 +1,12 @@
 // The reader's answer by document 01's words: each record against all that stand before it.
-use crate::paths::first;
+use crate::paths::event_of;
 use crate::paths::is_kind;
-use crate::paths::second;
+use crate::paths::target_of;
 use crate::slots::get_byte;
 use crate::slots::less;
 use crate::slots::pick;
 use crate::slots::plus;
+use crate::slots::wide;
 use records::Trace;
 use records::access;
 
@@ -26,7 +27,7 @@ fn found(number: usize, place: usize) -> Verdict {
 pub(crate) fn find(recs: &[u8], n: usize, kind: u8, event: usize) -> usize {
     let mut i = 0;
     while i < n {
-        if is_kind(recs, i, kind) & (first(recs, i) == event) {
+        if is_kind(recs, i, kind) & (event_of(recs, i) == event) {
             return i;
         }
         i += 1;
@@ -40,11 +41,11 @@ fn is_number(x: usize) -> bool {
 
 // "event or cell not 1 to 1,024, or second of a begin or end not 0"
 fn has_numbers(recs: &[u8], i: usize) -> bool {
-    let y = second(recs, i);
+    let y = wide(access::record_at(recs, i).second);
     if access::kind_at(recs, i) < 3 {
-        return is_number(first(recs, i)) & (y == 0);
+        return is_number(event_of(recs, i)) & (y == 0);
     }
-    is_number(first(recs, i)) & is_number(y)
+    is_number(event_of(recs, i)) & is_number(y)
 }
 
 // Record i has its place after the record before it, which has its own: "joins (perhaps none), begin, then forks, reads and writes, then end", all
@@ -54,7 +55,7 @@ fn has_place(recs: &[u8], i: usize) -> bool {
     if i == 0 {
         return opens;
     }
-    let same = first(recs, i - 1) == first(recs, i);
+    let same = event_of(recs, i - 1) == event_of(recs, i);
     match access::kind_at(recs, i - 1) {
         2 => opens,
         4 => opens & same,
@@ -65,15 +66,15 @@ fn has_place(recs: &[u8], i: usize) -> bool {
 // "begin or join whose first has begun already; fork whose second has begun already, itself included"
 fn has_begun(recs: &[u8], i: usize) -> bool {
     match access::kind_at(recs, i) {
-        1 | 4 => find(recs, i, 1, first(recs, i)) < i,
-        3 => find(recs, i, 1, second(recs, i)) < i,
+        1 | 4 => find(recs, i, 1, event_of(recs, i)) < i,
+        3 => find(recs, i, 1, target_of(recs, i)) < i,
         _ => false,
     }
 }
 
 // "join whose second has not ended"
 fn waits(recs: &[u8], i: usize) -> bool {
-    is_kind(recs, i, 4) & (i <= find(recs, i, 2, second(recs, i)))
+    is_kind(recs, i, 4) & (i <= find(recs, i, 2, target_of(recs, i)))
 }
 
 // The refusal of record i, where none before it is refused; 0 for none.

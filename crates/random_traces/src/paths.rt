@@ -7,6 +7,7 @@ use crate::slots::is_in;
 use crate::slots::pick;
 use crate::slots::plus;
 use crate::slots::put;
+use crate::slots::wide;
 use records::access;
 
 const BEFORE: usize = 64;
@@ -27,12 +28,19 @@ pub(crate) fn table_space() -> [usize; 28096] {
     [0; 28096]
 }
 
-pub(crate) fn first(recs: &[u8], i: usize) -> usize {
-    crate::slots::wide(access::first_at(recs, i))
+// The event of record i.
+pub(crate) fn event_of(recs: &[u8], i: usize) -> usize {
+    wide(access::event_at(recs, i).0)
 }
 
-pub(crate) fn second(recs: &[u8], i: usize) -> usize {
-    crate::slots::wide(access::second_at(recs, i))
+// The event that record i starts or waits for, where it is a fork or a join.
+pub(crate) fn target_of(recs: &[u8], i: usize) -> usize {
+    wide(access::target_at(recs, i).0)
+}
+
+// The cell of record i, where it is a read or a write.
+pub(crate) fn cell_of(recs: &[u8], i: usize) -> usize {
+    wide(access::cell_at(recs, i).0)
 }
 
 pub(crate) fn is_kind(recs: &[u8], i: usize, kind: u8) -> bool {
@@ -51,7 +59,7 @@ fn rank(table: &[usize], event: usize) -> usize {
 
 // The event action of record i.
 pub(crate) fn action_of(recs: &[u8], table: &[usize], i: usize) -> usize {
-    rank(table, first(recs, i))
+    rank(table, event_of(recs, i))
 }
 
 // The set of those that happen before u.
@@ -69,8 +77,8 @@ fn put_begin(recs: &[u8], table: &mut [usize], found: usize, i: usize) -> usize 
         return found;
     }
     let t = plus(found, 1);
-    put(table, t, first(recs, i));
-    put(table, plus(RANK, first(recs, i)), t);
+    put(table, t, event_of(recs, i));
+    put(table, plus(RANK, event_of(recs, i)), t);
     t
 }
 
@@ -88,12 +96,12 @@ pub(crate) fn find_begins(recs: &[u8], table: &mut [usize]) -> usize {
 
 // The two that a fork or a join orders; 0 for the later one where record i is neither.
 fn earlier(recs: &[u8], table: &[usize], i: usize) -> usize {
-    let joined = rank(table, second(recs, i));
+    let joined = rank(table, target_of(recs, i));
     pick(is_kind(recs, i, 3), action_of(recs, table, i), joined)
 }
 
 fn later(recs: &[u8], table: &[usize], i: usize) -> usize {
-    let forked = pick(is_kind(recs, i, 3), rank(table, second(recs, i)), 0);
+    let forked = pick(is_kind(recs, i, 3), rank(table, target_of(recs, i)), 0);
     pick(is_kind(recs, i, 4), action_of(recs, table, i), forked)
 }
 

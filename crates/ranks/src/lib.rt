@@ -25,19 +25,19 @@ pub fn none() -> [u16; 1025]
     [0; 1025]
 }
 
-fn set_rank(ranks: &mut [u16], e: u16, rank: usize)
-    ensures { λ u. ⌜ now (ranks .exit) ≡ withRank (now (ranks .entry)) e rank ⌝ }
+fn set_rank(ranks: &mut [u16], e: EventId, rank: usize)
+    ensures { λ u. ⌜ now (ranks .exit) ≡ withRank (now (ranks .entry)) (e .0) rank ⌝ }
 {
-    let at = e as usize;
+    let at = e.0 as usize;
     if at < ranks.len() {
         ranks[at] = (rank % 65536) as u16;
     }
 }
 
-// A record of that kind and first after `found` begins: the ranks and the number of begins after it.
-fn note_rank(ranks: &mut [u16], kind: u8, e: u16, found: usize) -> usize
+// A record of that kind and event after `found` begins: the ranks and the number of begins after it.
+fn note_rank(ranks: &mut [u16], kind: u8, e: EventId, found: usize) -> usize
     requires { ⌜ found < 9223372036854775807 ⌝ }
-    ensures { λ r. ⌜ (r ≡ cond (eqb kind 1) (found + 1) found) × (now (ranks .exit) ≡ rankIf (eqb kind 1) (now (ranks .entry)) e (found + 1)) ⌝ }
+    ensures { λ r. ⌜ (r ≡ cond (eqb kind 1) (found + 1) found) × (now (ranks .exit) ≡ rankIf (eqb kind 1) (now (ranks .entry)) (e .0) (found + 1)) ⌝ }
 {
     if kind != 1 {
         return found;
@@ -67,7 +67,7 @@ pub fn fill_ranks(recs: &[u8], all: &mut [u16; 1025])
     let mut i = 0;
     while i < n {
         let kind = access::kind_at(recs, i);
-        let e = access::first_at(recs, i);
+        let e = access::event_at(recs, i);
         found = note_rank(all, kind, e, found);
         i += 1;
     }
@@ -82,28 +82,22 @@ pub fn ranks(recs: &[u8]) -> [u16; 1025]
     all
 }
 
-fn rank_at(ranks: &[u16], e: u16) -> u16
-    ensures { λ r. ⌜ r ≡ getD (now (ranks .entry)) e 0 ⌝ }
+// The rank of event e.
+pub fn rank_of(ranks: &[u16], e: EventId) -> u16
+    ensures { λ r. ⌜ r ≡ getD (now (ranks .entry)) (e .0) 0 ⌝ }
 {
-    let at = e as usize;
+    let at = e.0 as usize;
     if at < ranks.len() {
         return ranks[at];
     }
     0
 }
 
-// The rank of event e.
-pub fn rank_of(ranks: &[u16], e: EventId) -> u16
-    ensures { λ r. ⌜ r ≡ getD (now (ranks .entry)) (e .0) 0 ⌝ }
-{
-    rank_at(ranks, e.0)
-}
-
 // The row of record i's event action; 0 where that has none.
 pub fn row_at(recs: &[u8], ranks: &[u16], i: usize) -> usize
     ensures { λ r. ⌜ r ≡ getD (now (ranks .entry)) (at (decode (now (recs .entry))) i .first) 0 - 1 ⌝ }
 {
-    let rank = rank_at(ranks, access::first_at(recs, i));
+    let rank = rank_of(ranks, access::event_at(recs, i));
     if rank == 0 {
         return 0;
     }
@@ -139,18 +133,18 @@ pub fn ordering_at(recs: &[u8], ranks: &[u16], i: usize) -> Ordering
         return Ordering::Nothing;
     }
     if kind == 1 {
-        return begin_of(rank_at(ranks, access::first_at(recs, i)));
+        return begin_of(rank_of(ranks, access::event_at(recs, i)));
     }
     if kind == 3 {
         return link_of(
-            rank_at(ranks, access::first_at(recs, i)),
-            rank_at(ranks, access::second_at(recs, i)),
+            rank_of(ranks, access::event_at(recs, i)),
+            rank_of(ranks, access::target_at(recs, i)),
         );
     }
     if kind == 4 {
         return link_of(
-            rank_at(ranks, access::second_at(recs, i)),
-            rank_at(ranks, access::first_at(recs, i)),
+            rank_of(ranks, access::target_at(recs, i)),
+            rank_of(ranks, access::event_at(recs, i)),
         );
     }
     Ordering::Nothing

@@ -1,5 +1,6 @@
 // Looking back through the records that stand in the bytes.
 use crate::Recorder;
+use records::EventId;
 use records::Operation;
 use records::Record;
 use records::Trace;
@@ -33,16 +34,16 @@ fn records(bytes: &[u8], n: usize) -> &[u8]
 }
 
 // Is one of the records of that kind, for event e?
-fn seen(recs: &[u8], kind: u8, e: u16) -> bool
-    ensures { λ b. ⌜ b ≡ has (ofKind kind) e (past (decode (now (recs .entry))) (length (decode (now (recs .entry))))) ⌝ }
+fn seen(recs: &[u8], kind: u8, e: EventId) -> bool
+    ensures { λ b. ⌜ b ≡ has (ofKind kind) (e .0) (past (decode (now (recs .entry))) (length (decode (now (recs .entry))))) ⌝ }
 {
     let mut i = access::count(recs);
     while 0 < i {
         i -= 1;
         let k = access::kind_at(recs, i);
         if k == kind {
-            let f = access::first_at(recs, i);
-            if f == e {
+            let f = access::event_at(recs, i);
+            if f.0 == e.0 {
                 return true;
             }
         }
@@ -51,8 +52,8 @@ fn seen(recs: &[u8], kind: u8, e: u16) -> bool
 }
 
 // The same where it is wanted, else false.
-fn seen_if(wanted: bool, recs: &[u8], kind: u8, e: u16) -> bool
-    ensures { λ b. ⌜ b ≡ (wanted && has (ofKind kind) e (past (decode (now (recs .entry))) (length (decode (now (recs .entry)))))) ⌝ }
+fn seen_if(wanted: bool, recs: &[u8], kind: u8, e: EventId) -> bool
+    ensures { λ b. ⌜ b ≡ (wanted && has (ofKind kind) (e .0) (past (decode (now (recs .entry))) (length (decode (now (recs .entry)))))) ⌝ }
 {
     if !wanted {
         return false;
@@ -76,9 +77,9 @@ pub(crate) fn check(bytes: &[u8], n: usize, r: Recorder, rec: Record) -> Checked
     ensures { λ c. ⌜ checkedPaper c ≡ verdict (judged (now (bytes .entry)) n r rec) (n + 1) (place (r .situation) (rec .kind)) ⌝ }
 {
     let recs = records(bytes, n);
-    let first_begun = seen_if(starts(rec.kind), recs, 1, rec.first);
-    let second_begun = seen_if(rec.kind == 3, recs, 1, rec.second);
-    let second_ended = seen_if(rec.kind == 4, recs, 2, rec.second);
+    let first_begun = seen_if(starts(rec.kind), recs, 1, EventId(rec.first));
+    let second_begun = seen_if(rec.kind == 3, recs, 1, EventId(rec.second));
+    let second_ended = seen_if(rec.kind == 4, recs, 2, EventId(rec.second));
     let owner = r.owner;
     rule::check(
         r.situation,

@@ -1,6 +1,8 @@
 // The records of a trace, in the bytes from record 1 to the trailer. Positions count from 0; past the last whole record all fields are 0.
+use crate::EventId;
 use crate::Record;
 use crate::Trace;
+use crate::Var;
 ghost use mathlib.Core.Path.{_≡_};
 ghost use Prim.Native.Nat.{_+_, _-_, _*_, _/_, _≤_, _<_};
 ghost use lib.ListN.{getD, length, take, drop};
@@ -54,7 +56,7 @@ pub fn kind_at(recs: &[u8], i: usize) -> u8
     recs[5 * i]
 }
 
-pub fn first_at(recs: &[u8], i: usize) -> u16
+fn first_of(recs: &[u8], i: usize) -> u16
     ensures { λ r. ⌜ r ≡ at (decode (now (recs .entry))) i .first ⌝ }
 {
     if recs.len() / 5 <= i {
@@ -63,7 +65,7 @@ pub fn first_at(recs: &[u8], i: usize) -> u16
     two_bytes(recs, 5 * i + 1)
 }
 
-pub fn second_at(recs: &[u8], i: usize) -> u16
+fn second_of(recs: &[u8], i: usize) -> u16
     ensures { λ r. ⌜ r ≡ at (decode (now (recs .entry))) i .second ⌝ }
 {
     if recs.len() / 5 <= i {
@@ -72,13 +74,35 @@ pub fn second_at(recs: &[u8], i: usize) -> u16
     two_bytes(recs, 5 * i + 3)
 }
 
+// The event that record i belongs to.
+pub fn event_at(recs: &[u8], i: usize) -> EventId
+    ensures { λ r. ⌜ r .0 ≡ at (decode (now (recs .entry))) i .first ⌝ }
+{
+    EventId(first_of(recs, i))
+}
+
+// The event that record i starts, where it is a fork, or waits for, where it is a join.
+pub fn target_at(recs: &[u8], i: usize) -> EventId
+    ensures { λ r. ⌜ r .0 ≡ at (decode (now (recs .entry))) i .second ⌝ }
+{
+    EventId(second_of(recs, i))
+}
+
+// The cell of record i, where it is a read or a write.
+pub fn cell_at(recs: &[u8], i: usize) -> Var
+    ensures { λ r. ⌜ r .0 ≡ at (decode (now (recs .entry))) i .second ⌝ }
+{
+    Var(second_of(recs, i))
+}
+
+// The record at position i, its fields as the bytes have them.
 pub fn record_at(recs: &[u8], i: usize) -> Record
     ensures { λ r. ⌜ r ≡ at (decode (now (recs .entry))) i ⌝ }
 {
     Record {
         kind: kind_at(recs, i),
-        first: first_at(recs, i),
-        second: second_at(recs, i),
+        first: first_of(recs, i),
+        second: second_of(recs, i),
     }
 }
 

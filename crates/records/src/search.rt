@@ -18,19 +18,19 @@ pub fn least_kind(kind: u8) -> u8
 }
 
 // May record i race with an access of cell c, where only a record of that kind or a higher one does?
-fn may_race(recs: &[u8], least: u8, c: u16, i: usize) -> bool
-    ensures { λ r. ⌜ r ≡ mayRace (decode (now (recs .entry))) least c i ⌝ }
+fn may_race(recs: &[u8], least: u8, c: Var, i: usize) -> bool
+    ensures { λ r. ⌜ r ≡ mayRace (decode (now (recs .entry))) least (c .0) i ⌝ }
 {
-    if access::second_at(recs, i) != c {
+    if access::cell_at(recs, i).0 != c.0 {
         return false;
     }
     least <= access::kind_at(recs, i)
 }
 
 // How many of the four records from i on stand before the first that may race with an access of cell c.
-fn among_four(recs: &[u8], least: u8, c: u16, i: usize) -> usize
+fn among_four(recs: &[u8], least: u8, c: Var, i: usize) -> usize
     requires { ⌜ i ≤ length (decode (now recs)) ⌝ }
-    ensures { λ r. ⌜ NextAccess (decode (now (recs .entry))) least c i (i + 4) (i + r) ⌝ }
+    ensures { λ r. ⌜ NextAccess (decode (now (recs .entry))) least (c .0) i (i + 4) (i + r) ⌝ }
 {
     if may_race(recs, least, c, i) {
         return 0;
@@ -48,9 +48,9 @@ fn among_four(recs: &[u8], least: u8, c: u16, i: usize) -> usize
 }
 
 // From record `from` on the next one that may race with an access of cell c, or `to`.
-fn next_near(recs: &[u8], from: usize, to: usize, c: u16, least: u8) -> usize
+fn next_near(recs: &[u8], from: usize, to: usize, c: Var, least: u8) -> usize
     requires { ⌜ (from ≤ to) × (to ≤ length (decode (now recs))) ⌝ }
-    ensures { λ r. ⌜ NextAccess (decode (now (recs .entry))) least c from to r ⌝ }
+    ensures { λ r. ⌜ NextAccess (decode (now (recs .entry))) least (c .0) from to r ⌝ }
 {
     let mut i = from;
     while i < to {
@@ -74,11 +74,11 @@ pub fn next_access(recs: &[u8], from: usize, to: usize, c: Var, least: u8) -> us
     }
     let mut i = from;
     while i + 4 <= to {
-        let k = among_four(recs, least, c.0, i);
+        let k = among_four(recs, least, c, i);
         if k < 4 {
             return i + k;
         }
         i += 4;
     }
-    next_near(recs, i, to, c.0, least)
+    next_near(recs, i, to, c, least)
 }

@@ -15,8 +15,8 @@ shared-slice-read-if1 c = search needs
 returns : tie.Need-returns
 returns c = record { put = λ e. absurd (c .if1 .taken e); skipped = λ n. (refl, refl) }
 
-first-at-requires : tie.Need-first-at-requires
-first-at-requires c κs = search needs
+event-at-requires : tie.Need-event-at-requires
+event-at-requires c κs = search needs
 
 add-put-entry : tie.Need-add-put-entry
 add-put-entry c = search needs
@@ -36,7 +36,7 @@ same-length c = search needs
 returns-2 : tie.Need-returns-2
 returns-2 c =
     let s = c .before .before .before .before .before .before .before .before .before .before in
-    record { put = λ e. (refl, c .before .before .put-entry .ensures ∙ ap (λ x. set (set (now (s .args .list)) (2 * s .args .k) x) (2 * s .args .k + 1) (s .args .i + 1)) (c .before .before .before .first-at .ensures)); skipped = λ n. absurd (n (c .before .before .before .before .before .if1 .left)) }
+    record { put = λ e. (refl, c .before .before .put-entry .ensures ∙ ap (λ x. set (set (now (s .args .list)) (2 * s .args .k) x) (2 * s .args .k + 1) (s .args .i + 1)) (c .before .before .before .event-at .ensures)); skipped = λ n. absurd (n (c .before .before .before .before .before .if1 .left)) }
 
 pub put-end-spec : {M : Type 1} → statement M
 put-end-spec =
@@ -44,7 +44,7 @@ put-end-spec =
     (tie.spec
     shared-slice-read-if1
     returns
-    first-at-requires
+    event-at-requires
     add-put-entry
     cast-put-entry
     put-entry-requires

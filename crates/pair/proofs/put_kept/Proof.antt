@@ -54,8 +54,8 @@ loop-again c m =
     (λ w. rw (w .1, w .2, w .3) (ends-pass m (s .pre .1) e h (λ z. w .0 .left (q ∙ z))))
     (c .if1 .came)
 
-first-at-requires : tie.Need-first-at-requires Inv-loop μ-loop
-first-at-requires c κs = search needs
+event-at-requires : tie.Need-event-at-requires Inv-loop μ-loop
+event-at-requires c κs = search needs
 
 add-put-entry : tie.Need-add-put-entry Inv-loop μ-loop
 add-put-entry c = let s = c .before .before .before .before .before .before .before in omega (arith, s .pre .0 .inside, s .pre .0 .acceptable .few)
@@ -75,7 +75,7 @@ same-length c = let s = c .before .before .before .before .before .before .befor
 returns : tie.Need-returns Inv-loop μ-loop
 returns c =
     let s = c .before .before .before .before .before .before .before .before .before .before in
-    ends-last (s .pre .0) (s .pre .1) (c .before .before .before .before .before .before .loop .inv (s .pre .0)) (c .before .before .before .before .before .loop-test .left) _ (c .before .before .before .first-at .ensures) _ (c .before .before .put-entry .ensures)
+    ends-last (s .pre .0) (s .pre .1) (c .before .before .before .before .before .before .loop .inv (s .pre .0)) (c .before .before .before .before .before .loop-test .left) _ (c .before .before .before .event-at .ensures) _ (c .before .before .put-entry .ensures)
 
 pub put-kept-spec : {M : Type 1} → statement M
 put-kept-spec =
@@ -90,7 +90,7 @@ put-kept-spec =
     add-i
     loop-less
     loop-again
-    first-at-requires
+    event-at-requires
     add-put-entry
     cast-put-entry
     put-entry-requires

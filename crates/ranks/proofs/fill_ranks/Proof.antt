@@ -42,8 +42,8 @@ loop-holds c =
 kind-at-requires : tie.Need-kind-at-requires Inv-loop μ-loop
 kind-at-requires c κs = search needs
 
-first-at-requires : tie.Need-first-at-requires Inv-loop μ-loop
-first-at-requires c κs = search needs
+event-at-requires : tie.Need-event-at-requires Inv-loop μ-loop
+event-at-requires c κs = search needs
 
 note-rank-requires : tie.Need-note-rank-requires Inv-loop μ-loop
 note-rank-requires c κs =
@@ -66,7 +66,7 @@ loop-again c =
     let tr = decode (now (start .args .recs)) in
     let l = at-loop .loop in
     let k = c .before .before .before .kind-at .ensures in
-    let f = c .before .before .first-at .ensures in
+    let f = c .before .before .event-at .ensures in
     let all : c .note-rank .last .0 ≡ ranksUpto tr (l .i + 1) = c .note-rank .ensures .1 ∙ simp (k, f, l .inv .0, l .inv .1, ranks-more tr (l .i)) in
     let found : c .note-rank .result ≡ begins (past tr (l .i + 1)) = c .note-rank .ensures .0 ∙ simp (k, l .inv .1, past-more tr (l .i)) in
     (all, found, omega (arith, c .note-rank .ensures .0, one-more (eqb (c .before .before .before .kind-at .result) 1) (l .found)), omega arith)
@@ -88,7 +88,7 @@ fill-ranks-spec =
     clear-requires
     loop-holds
     kind-at-requires
-    first-at-requires
+    event-at-requires
     note-rank-requires
     add-i
     loop-less

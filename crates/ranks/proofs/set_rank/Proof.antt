@@ -9,6 +9,9 @@ use borrow.Author.Needs.{needs}
 use Rattle.ranks.proofs.set_rank.Statement.{statement}
 use Rattle.ranks.proofs.set_rank.Tie as tie
 
+cast-at : tie.Need-cast-at
+cast-at c = search needs
+
 cast-ranks : tie.Need-cast-ranks
 cast-ranks c = search needs
 
@@ -27,8 +30,10 @@ returns c = refl
 
 returns-2 : tie.Need-returns-2
 unfolding withRank
-returns-2 c = sym (set-out (now (c .before .args .ranks)) (c .before .args .e) (c .before .args .rank % 65536) (c .if1 .left))
+returns-2 c =
+    let a = c .before .before .args in
+    sym (set-out (now (a .ranks)) (a .e .0) (a .rank % 65536) (c .if1 .left))
 
 pub set-rank-spec : {M : Type 1} → statement M
 set-rank-spec =
-    tie.close (tie.spec cast-ranks mul-ranks slice-write-ranks same-length returns returns-2)
+    tie.close (tie.spec cast-at cast-ranks mul-ranks slice-write-ranks same-length returns returns-2)

@@ -16,7 +16,7 @@ use Rattle.pair.proofs.cover.find_first.Statement.{statement}
 use Rattle.pair.proofs.cover.find_first.Tie as tie
 
 abbrev Inv-loop : tie.InvT-loop
-Inv-loop recs ranks of width clocks work lo t d kind u x least c₀ c = (f : Filled (decode recs) ranks of width clocks) (i : d < length (decode recs)) → Along f lo t d i work u x least c
+Inv-loop recs ranks of width clocks work lo t d kind u x least c₀ c = (f : Filled (decode recs) ranks of width clocks) (i : d < length (decode recs)) → Along f lo t d i work u (x .0) least c
 
 abbrev μ-loop : tie.MeasureT-loop
 μ-loop recs ranks of width clocks work lo t d kind u x least c₀ c = d - c
@@ -38,8 +38,8 @@ shared-slice-read-if2 c =
 returns-2 : tie.Need-returns-2 Inv-loop μ-loop
 returns-2 c = let s = c .before .before .before .before .before .before .before .before .before .before in from-unmarked (s .pre .0) (s .args .lo) (s .args .t) (s .args .d) (s .pre .1 .3) (now (s .args .work)) (c .before .before .row-at .result) (c .before .before .row-at .ensures) (c .if2 .taken)
 
-second-at-requires : tie.Need-second-at-requires Inv-loop μ-loop
-second-at-requires c κs = search needs
+cell-at-requires : tie.Need-cell-at-requires Inv-loop μ-loop
+cell-at-requires c κs = search needs
 
 least-kind-requires : tie.Need-least-kind-requires Inv-loop μ-loop
 least-kind-requires c κs = search needs
@@ -51,7 +51,7 @@ loop-holds : tie.Need-loop-holds Inv-loop μ-loop
 loop-holds c =
     let s = c .before .before .before .before .before .before .before .before .before .before .before .before .before in
     let k = c .before .before .before .before .before .before .before .kind-at .ensures in
-    λ f i. along-start f (s .args .lo) (s .args .t) (s .args .d) i (c .before .before .second-at .ensures) (c .before .least-kind .ensures ∙ ap leastKind k) (omega (arith, c .before .before .before .before .before .before .if1 .left)) (c .before .before .before .before .before .row-at .ensures) (c .before .before .before .if2 .left) (c .next-access .ensures .next (s .pre .1 .2) (omega (arith, s .pre .1 .3)))
+    λ f i. along-start f (s .args .lo) (s .args .t) (s .args .d) i (c .before .before .cell-at .ensures) (c .before .least-kind .ensures ∙ ap leastKind k) (omega (arith, c .before .before .before .before .before .before .if1 .left)) (c .before .before .before .before .before .row-at .ensures) (c .before .before .before .if2 .left) (c .next-access .ensures .next (s .pre .1 .2) (omega (arith, s .pre .1 .3)))
 
 row-at-requires-2 : tie.Need-row-at-requires-2 Inv-loop μ-loop
 row-at-requires-2 c κs = search needs
@@ -99,7 +99,7 @@ find-first-spec =
     row-at-requires
     shared-slice-read-if2
     returns-2
-    second-at-requires
+    cell-at-requires
     least-kind-requires
     next-access-requires
     loop-holds

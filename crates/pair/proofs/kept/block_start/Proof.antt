@@ -15,20 +15,24 @@ Inv-loop recs i e lo₀ lo = One (decode recs) i lo
 abbrev μ-loop : tie.MeasureT-loop
 μ-loop recs i e lo₀ lo = lo
 
-first-at-requires : tie.Need-first-at-requires Inv-loop μ-loop
-first-at-requires c κs = search needs
+event-at-requires : tie.Need-event-at-requires Inv-loop μ-loop
+event-at-requires c κs = search needs
 
 loop-holds : tie.Need-loop-holds Inv-loop μ-loop
 loop-holds c = one-start (decode (now (c .before .before .args .recs))) (c .before .before .args .i)
 
-sub-first-at : tie.Need-sub-first-at Inv-loop μ-loop
-sub-first-at c = omega arith
+sub-event-at : tie.Need-sub-event-at Inv-loop μ-loop
+sub-event-at c = omega arith
 
-first-at-requires-2 : tie.Need-first-at-requires-2 Inv-loop μ-loop
-first-at-requires-2 c κs = search needs
+event-at-requires-2 : tie.Need-event-at-requires-2 Inv-loop μ-loop
+event-at-requires-2 c κs = search needs
 
 returns : tie.Need-returns Inv-loop μ-loop
-returns c = one-parted (decode (now (c .before .before .before .before .before .before .args .recs))) (c .before .before .before .before .before .before .args .i) (c .before .before .before .loop .lo) (c .before .before .loop-test .taken) (λ e. c .if1 .taken (c .before .first-at2 .ensures ∙ e ∙ sym (c .before .before .before .before .first-at .ensures))) (c .before .before .before .loop .inv)
+returns c =
+    let at-loop = c .before .before .before .before .before in
+    let at-event-at = at-loop .before in
+    let start = at-event-at .before .before in
+    one-parted (decode (now (start .args .recs))) (start .args .i) (at-loop .loop .lo) (c .before .before .before .before .loop-test .taken) (λ e. c .if1 .taken (c .before .before .before .event-at2 .ensures ∙ e ∙ sym (at-event-at .event-at .ensures))) (at-loop .loop .inv)
 
 sub-lo : tie.Need-sub-lo Inv-loop μ-loop
 sub-lo c = omega arith
@@ -37,7 +41,11 @@ loop-less : tie.Need-loop-less Inv-loop μ-loop
 loop-less c = omega arith
 
 loop-again : tie.Need-loop-again Inv-loop μ-loop
-loop-again c = one-more (decode (now (c .before .before .before .before .before .before .args .recs))) (c .before .before .before .before .before .before .args .i) (c .before .before .before .loop .lo) (c .before .before .loop-test .taken) (sym (c .before .first-at2 .ensures) ∙ c .if1 .left ∙ c .before .before .before .before .first-at .ensures) (c .before .before .before .loop .inv)
+loop-again c =
+    let at-loop = c .before .before .before .before .before in
+    let at-event-at = at-loop .before in
+    let start = at-event-at .before .before in
+    one-more (decode (now (start .args .recs))) (start .args .i) (at-loop .loop .lo) (c .before .before .before .before .loop-test .taken) (sym (c .before .before .before .event-at2 .ensures) ∙ c .if1 .left ∙ at-event-at .event-at .ensures) (at-loop .loop .inv)
 
 returns-2 : tie.Need-returns-2 Inv-loop μ-loop
 returns-2 c = one-first (decode (now (c .before .before .before .before .args .recs))) (c .before .before .before .before .args .i) (c .before .loop .lo) (c .loop-test .left) (c .before .loop .inv)
@@ -48,10 +56,10 @@ block-start-spec =
     (tie.spec
     Inv-loop
     μ-loop
-    first-at-requires
+    event-at-requires
     loop-holds
-    sub-first-at
-    first-at-requires-2
+    sub-event-at
+    event-at-requires-2
     returns
     sub-lo
     loop-less

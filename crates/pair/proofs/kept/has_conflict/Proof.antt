@@ -21,29 +21,29 @@ returns c =
     let s = c .before .before .before .before in
     sym (clash-none (decode (now (s .args .recs))) (now (s .args .cells)) (s .args .i) (omega (arith, c .before .kind-at .ensures)))
 
-second-at-requires : tie.Need-second-at-requires
-second-at-requires c κs = search needs
+cell-at-requires : tie.Need-cell-at-requires
+cell-at-requires c κs = search needs
 
 cast-result : tie.Need-cast-result
 cast-result c = search needs
 
 shared-slice-read-result : tie.Need-shared-slice-read-result
 shared-slice-read-result c =
-    let s = c .before .before .before .before .before .before in
-    omega (arith, c .before .second-at .ensures, cell-low (s .pre .0) (s .args .i) (s .pre .2), s .pre .1 .size)
+    let s = c .before .before .before .before .before .before .before in
+    omega (arith, c .before .before .cell-at .ensures, cell-low (s .pre .0) (s .args .i) (s .pre .2), s .pre .1 .size)
 
 add-result : tie.Need-add-result
 add-result c =
-    let s = c .before .before .before .before .before .before in
-    omega (arith, c .before .before .before .kind-at .ensures, kind-high (s .pre .0) (s .args .i) (s .pre .2), s .pre .1 .low (c .before .second-at .result))
+    let s = c .before .before .before .before .before .before .before in
+    omega (arith, c .before .before .before .before .kind-at .ensures, kind-high (s .pre .0) (s .args .i) (s .pre .2), s .pre .1 .low (c .before .before .cell-at .result .0))
 
 returns-2 : tie.Need-returns-2
 returns-2 c =
-    let s = c .before .before .before .before .before .before in
-    let k = c .before .before .before .kind-at in
-    let x = c .before .second-at in
+    let s = c .before .before .before .before .before .before .before in
+    let k = c .before .before .before .before .kind-at in
+    let x = c .before .before .cell-at in
     ap₂ (λ m n. ltb 6 (m + getD (now (s .args .cells)) n 0)) (k .ensures) (x .ensures)
-    ∙ sym (clash-is (decode (now (s .args .recs))) (now (s .args .cells)) (s .args .i) (omega (arith, k .ensures, c .before .before .if1 .left)))
+    ∙ sym (clash-is (decode (now (s .args .recs))) (now (s .args .cells)) (s .args .i) (omega (arith, k .ensures, c .before .before .before .if1 .left)))
 
 pub has-conflict-spec : {M : Type 1} → statement M
 has-conflict-spec =
@@ -51,7 +51,7 @@ has-conflict-spec =
     (tie.spec
     kind-at-requires
     returns
-    second-at-requires
+    cell-at-requires
     cast-result
     shared-slice-read-result
     add-result

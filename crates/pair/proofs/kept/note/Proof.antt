@@ -31,22 +31,23 @@ loop-holds c = (omega arith, omega arith, noted-none _ _ _)
 kind-at-requires : tie.Need-kind-at-requires Inv-loop μ-loop
 kind-at-requires c κs = search needs
 
-second-at-requires : tie.Need-second-at-requires Inv-loop μ-loop
-second-at-requires c κs = search needs
+cell-at-requires : tie.Need-cell-at-requires Inv-loop μ-loop
+cell-at-requires c κs = search needs
 
 cast-note-access : tie.Need-cast-note-access Inv-loop μ-loop
 cast-note-access c = search needs
 
 note-access-requires : tie.Need-note-access-requires Inv-loop μ-loop
 note-access-requires c κs =
-    let s = c .before .before .before .before .before .before .before .before .before .before in
-    let l = c .before .before .before .before .before .loop in
-    let k = c .before .before .before .kind-at .ensures in
-    let h = c .before .before .before .before .loop-test .taken in
+    let at-loop = c .before .before .before .before .before .before in
+    let s = at-loop .before .before .before .before .before in
+    let l = at-loop .loop in
+    let k = c .before .before .before .before .kind-at .ensures in
+    let h = c .before .before .before .before .before .loop-test .taken in
     let b = noted-bytes (s .pre .0) (s .args .lo) (l .i) (now (s .args .cells)) (l .cells) (omega (arith, s .pre .2)) (s .pre .3) (l .inv .2) in (
-      omega (arith, c .before .before .if2 .taken),
+      omega (arith, c .before .before .before .if2 .taken),
       omega (arith, kind-high (s .pre .0) (l .i) (omega (arith, s .pre .2))),
-      omega (arith, c .second-at .ensures, cell-low (s .pre .0) (l .i) (omega (arith, s .pre .2)), b .size),
+      omega (arith, c .before .cell-at .ensures, cell-low (s .pre .0) (l .i) (omega (arith, s .pre .2)), b .size),
       b .low _,
     )
 
@@ -65,7 +66,7 @@ loop-again c =
       omega (arith, l .inv .0),
       omega arith,
       ⊎-elim
-          (λ w. noted-next _ _ _ (l .i) (l .inv .0) (l .cells) (l .inv .2) (omega (arith, cell-low (s .pre .0) (l .i) (omega (arith, s .pre .2)), s .pre .3 .size)) _ _ k (w .2 .ensures) _ (w .6 ∙ w .3 .ensures))
+          (λ w. noted-next _ _ _ (l .i) (l .inv .0) (l .cells) (l .inv .2) (omega (arith, cell-low (s .pre .0) (l .i) (omega (arith, s .pre .2)), s .pre .3 .size)) _ _ k (w .2 .ensures) _ (w .7 ∙ w .4 .ensures))
           (λ w. rw (w .1) (noted-still _ _ _ (l .i) (l .inv .0) (l .cells) (l .inv .2) (omega (arith, w .0 .left))))
           (c .if2 .came),
     )
@@ -89,7 +90,7 @@ note-spec =
     returns
     loop-holds
     kind-at-requires
-    second-at-requires
+    cell-at-requires
     cast-note-access
     note-access-requires
     add-i

@@ -20,17 +20,26 @@ is-conflict-requires c κs = search needs
 
 returns : tie.Need-returns
 unfolding clash
-returns c = let k : conflict (at (decode (now (c .before .before .before .before .before .args .recs))) (c .before .before .before .before .before .args .a)) (at (decode (now (c .before .before .before .before .before .args .recs))) (c .before .before .before .before .before .args .b)) ≡ false = sym (ap₂ conflict (c .before .before .before .record-at .ensures) (c .before .before .record-at2 .ensures)) ∙ (sym (c .before .is-conflict .ensures) ∙ not-true (c .before .is-conflict .result) (c .if1 .taken)) in rw k refl
+returns c =
+    let start = c .before .before .before .before .before in
+    let k : conflict (at (decode (now (start .args .recs))) (start .args .a)) (at (decode (now (start .args .recs))) (start .args .b)) ≡ false = sym (ap₂ conflict (c .before .before .before .record-at .ensures) (c .before .before .record-at2 .ensures)) ∙ (sym (c .before .is-conflict .ensures) ∙ not-true (c .before .is-conflict .result) (c .if1 .taken)) in
+    rw k refl
 
-first-at-requires : tie.Need-first-at-requires
-first-at-requires c κs = search needs
+event-at-requires : tie.Need-event-at-requires
+event-at-requires c κs = search needs
 
-first-at-requires-2 : tie.Need-first-at-requires-2
-first-at-requires-2 c κs = search needs
+event-at-requires-2 : tie.Need-event-at-requires-2
+event-at-requires-2 c κs = search needs
 
 returns-2 : tie.Need-returns-2
 unfolding clash
-returns-2 c = let k : conflict (at (decode (now (c .before .before .before .before .before .before .before .args .recs))) (c .before .before .before .before .before .before .before .args .a)) (at (decode (now (c .before .before .before .before .before .before .before .args .recs))) (c .before .before .before .before .before .before .before .args .b)) ≡ true = sym (ap₂ conflict (c .before .before .before .before .before .record-at .ensures) (c .before .before .before .before .record-at2 .ensures)) ∙ (sym (c .before .before .before .is-conflict .ensures) ∙ not-false (c .before .before .before .is-conflict .result) (c .before .before .if1 .left)) in simp (k, c .before .first-at .ensures, c .first-at2 .ensures)
+returns-2 c =
+    let at-is-conflict = c .before .before .before .before .before in
+    let at-record-at2 = at-is-conflict .before in
+    let at-record-at = at-record-at2 .before in
+    let start = at-record-at .before .before in
+    let k : conflict (at (decode (now (start .args .recs))) (start .args .a)) (at (decode (now (start .args .recs))) (start .args .b)) ≡ true = sym (ap₂ conflict (at-record-at .record-at .ensures) (at-record-at2 .record-at2 .ensures)) ∙ (sym (at-is-conflict .is-conflict .ensures) ∙ not-false (at-is-conflict .is-conflict .result) (c .before .before .before .before .if1 .left)) in
+    simp (k, c .before .before .before .event-at .ensures, c .before .before .event-at2 .ensures)
 
 pub is-clash-spec : {M : Type 1} → statement M
 is-clash-spec =
@@ -40,6 +49,6 @@ is-clash-spec =
     record-at-requires-2
     is-conflict-requires
     returns
-    first-at-requires
-    first-at-requires-2
+    event-at-requires
+    event-at-requires-2
     returns-2)

@@ -10,8 +10,8 @@ use Rattle.races.proofs.lists.list_access.Tie as tie
 kind-at-requires : tie.Need-kind-at-requires
 kind-at-requires c κs = search needs
 
-second-at-requires : tie.Need-second-at-requires
-second-at-requires c κs = search needs
+cell-at-requires : tie.Need-cell-at-requires
+cell-at-requires c κs = search needs
 
 cast-c : tie.Need-cast-c
 cast-c c = search needs
@@ -20,22 +20,34 @@ mul-last : tie.Need-mul-last
 mul-last c = search needs
 
 slice-read-last : tie.Need-slice-read-last
-slice-read-last c = omega (arith, cell-low (c .before .before .before .before .before .before .before .before .before .before .pre .0 .filled .acceptable) (c .before .before .before .before .before .before .before .before .before .before .args .b) (c .before .before .before .before .before .before .before .before .before .before .pre .0 .inside), c .before .second-at .ensures, c .before .before .before .before .before .before .before .before .before .before .pre .1 .1 .written-size)
+slice-read-last c =
+    let start = c .before .before .before .before .before .before .before .before .before .before .before in
+    omega (arith, cell-low (start .pre .0 .filled .acceptable) (start .args .b) (start .pre .0 .inside), c .before .before .cell-at .ensures, start .pre .1 .1 .written-size)
 
 cast-last : tie.Need-cast-last
-cast-last c = omega (arith, c .slice-known4 .given (c .before .second-at .result))
+cast-last c = omega (arith, c .slice-known4 .given (c .before .before .cell-at .result .0))
 
 mul-is-ordered : tie.Need-mul-is-ordered
 mul-is-ordered c = search needs
 
 slice-read-is-ordered : tie.Need-slice-read-is-ordered
-slice-read-is-ordered c = omega (arith, cell-low (c .before .before .before .before .before .before .before .before .before .before .before .pre .0 .filled .acceptable) (c .before .before .before .before .before .before .before .before .before .before .before .args .b) (c .before .before .before .before .before .before .before .before .before .before .before .pre .0 .inside), c .before .before .second-at .ensures, c .before .before .before .before .before .before .before .before .before .before .before .pre .1 .1 .seen-size)
+slice-read-is-ordered c =
+    let start = c .before .before .before .before .before .before .before .before .before .before .before .before in
+    omega (arith, cell-low (start .pre .0 .filled .acceptable) (start .args .b) (start .pre .0 .inside), c .before .before .before .cell-at .ensures, start .pre .1 .1 .seen-size)
 
 is-ordered-requires : tie.Need-is-ordered-requires
-is-ordered-requires c κs = rw (c .before .before .second-at .ensures) (seen-rows (c .before .before .before .before .before .before .before .before .before .before .before .pre .0 .filled) (c .before .before .before .before .before .before .before .before .before .before .before .args .short) (c .before .before .before .before .before .before .before .before .before .before .before .args .b) (c .before .before .before .before .before .before .before .before .before .before .before .args .u) _ (c .before .before .before .before .before .before .before .before .before .before .before .pre .0 .inside) (c .before .before .before .before .before .before .before .before .before .before .before .pre .0 .row) (c .before .before .before .before .before .before .before .before .before .before .before .pre .1 .1 .tells _ (cell-low (c .before .before .before .before .before .before .before .before .before .before .before .pre .0 .filled .acceptable) (c .before .before .before .before .before .before .before .before .before .before .before .args .b) (c .before .before .before .before .before .before .before .before .before .before .before .pre .0 .inside))))
+is-ordered-requires c κs =
+    let start = c .before .before .before .before .before .before .before .before .before .before .before .before in
+    rw (c .before .before .before .cell-at .ensures) (seen-rows (start .pre .0 .filled) (start .args .short) (start .args .b) (start .args .u) _ (start .pre .0 .inside) (start .pre .0 .row) (start .pre .1 .1 .tells _ (cell-low (start .pre .0 .filled .acceptable) (start .args .b) (start .pre .0 .inside))))
 
 note-access-requires : tie.Need-note-access-requires
-note-access-requires c κs = let s = c .before .before .before .before .before .before .before .before .before .before .before .before .before .before .pre .0 in let l = cell-low (s .filled .acceptable) (c .before .before .before .before .before .before .before .before .before .before .before .before .before .before .args .b) (s .inside) in let e = c .before .before .before .before .before .second-at .ensures in (omega (arith, c .before .before .before .before .before .before .before .before .before .before .before .before .before .before .pre .1 .1 .seen-size), omega (arith, c .before .before .before .before .before .before .before .before .before .before .before .before .before .before .pre .1 .1 .written-size), omega (arith, s .inside, s .filled .acceptable .few), omega (arith, s .row, row-inside (s .filled) (c .before .before .before .before .before .before .before .before .before .before .before .before .before .before .args .b) (s .inside), events-few (s .filled .acceptable)))
+note-access-requires c κs =
+    let at-cell-at = c .before .before .before .before .before .before in
+    let start = at-cell-at .before .before .before .before .before .before .before .before .before in
+    let s = start .pre .0 in
+    let l = cell-low (s .filled .acceptable) (start .args .b) (s .inside) in
+    let e = at-cell-at .cell-at .ensures in
+    (omega (arith, start .pre .1 .1 .seen-size), omega (arith, start .pre .1 .1 .written-size), omega (arith, s .inside, s .filled .acceptable .few), omega (arith, s .row, row-inside (s .filled) (start .args .b) (s .inside), events-few (s .filled .acceptable)))
 
 same-length : tie.Need-same-length
 same-length c = search needs
@@ -44,7 +56,13 @@ same-length-2 : tie.Need-same-length-2
 same-length-2 c = search needs
 
 returns : tie.Need-returns
-returns c = (access-quiet (c .before .before .before .before .before .before .before .before .before .before .before .before .before .before .before .before .before .before .before .before .pre .0) (c .before .before .before .before .before .before .before .before .before .before .before .before .before .before .before .before .before .before .before .before .pre .1 .1) (c .before .before .before .before .before .before .before .before .before .before .before .before .kind-at .ensures) (c .before .before .before .before .before .before .before .before .before .before .before .second-at .ensures) (c .before .before .before .before .before .before .before .before .is-ordered .ensures) (c .if1 .taken) _ _ _, access-tables (c .before .before .before .before .before .before .before .before .before .before .before .before .before .before .before .before .before .before .before .before .pre .0) (c .before .before .before .before .before .before .before .before .before .before .before .before .before .before .before .before .before .before .before .before .pre .1 .1) (c .before .before .before .before .before .before .before .before .before .before .before .before .kind-at .ensures) (c .before .before .before .before .before .before .before .before .before .before .before .second-at .ensures) (c .before .before .before .before .before .before .before .before .is-ordered .ensures) _ _ (c .before .before .before .before .before .note-access .ensures .0) (c .before .before .before .before .before .note-access .ensures .1))
+returns c =
+    let at-note-access = c .before .before .before .before .before in
+    let at-is-ordered = at-note-access .before .before .before in
+    let at-cell-at = at-is-ordered .before .before .before .before in
+    let at-kind-at = at-cell-at .before in
+    let start = at-kind-at .before .before .before .before .before .before .before .before in
+    (access-quiet (start .pre .0) (start .pre .1 .1) (at-kind-at .kind-at .ensures) (at-cell-at .cell-at .ensures) (at-is-ordered .is-ordered .ensures) (c .if1 .taken) _ _ _, access-tables (start .pre .0) (start .pre .1 .1) (at-kind-at .kind-at .ensures) (at-cell-at .cell-at .ensures) (at-is-ordered .is-ordered .ensures) _ _ (at-note-access .note-access .ensures .0) (at-note-access .note-access .ensures .1))
 
 way-from-requires : tie.Need-way-from-requires
 way-from-requires c κs = search needs
@@ -53,7 +71,13 @@ way-to-requires : tie.Need-way-to-requires
 way-to-requires c κs = search needs
 
 list-way-requires : tie.Need-list-way-requires
-list-way-requires c κs = let w = access-way (c .before .before .before .before .before .before .before .before .before .before .before .before .before .before .before .before .before .before .before .before .before .before .before .pre .0) (c .before .before .before .before .before .before .before .before .before .before .before .before .before .before .before .before .before .before .before .before .before .before .before .pre .1 .1) (c .before .before .before .before .before .before .before .before .before .before .before .before .before .before .before .kind-at .ensures) (c .before .before .before .before .before .before .before .before .before .before .before .before .before .before .second-at .ensures) (c .before .before .before .before .before .before .before .before .before .before .before .is-ordered .ensures) _ _ (c .before .before .way-from .ensures) (c .before .way-to .ensures) in ((c .before .before .before .before .before .before .before .before .before .before .before .before .before .before .before .before .before .before .before .before .before .before .before .pre .0, w .range), way-room w (c .before .before .before .before .before .before .before .before .before .before .before .before .before .before .before .before .before .before .before .before .before .before .before .pre .1 .0))
+list-way-requires c κs =
+    let at-is-ordered = c .before .before .before .before .before .before .before .before .before .before .before in
+    let at-cell-at = at-is-ordered .before .before .before .before in
+    let at-kind-at = at-cell-at .before in
+    let start = at-kind-at .before .before .before .before .before .before .before .before in
+    let w = access-way (start .pre .0) (start .pre .1 .1) (at-kind-at .kind-at .ensures) (at-cell-at .cell-at .ensures) (at-is-ordered .is-ordered .ensures) _ _ (c .before .before .way-from .ensures) (c .before .way-to .ensures) in
+    ((start .pre .0, w .range), way-room w (start .pre .1 .0))
 
 same-length-3 : tie.Need-same-length-3
 same-length-3 c = search needs
@@ -65,14 +89,20 @@ same-length-5 : tie.Need-same-length-5
 same-length-5 c = search needs
 
 returns-2 : tie.Need-returns-2
-returns-2 c = (way-writes (access-way (c .before .before .before .before .before .before .before .before .before .before .before .before .before .before .before .before .before .before .before .before .before .before .before .before .before .before .pre .0) (c .before .before .before .before .before .before .before .before .before .before .before .before .before .before .before .before .before .before .before .before .before .before .before .before .before .before .pre .1 .1) (c .before .before .before .before .before .before .before .before .before .before .before .before .before .before .before .before .before .before .kind-at .ensures) (c .before .before .before .before .before .before .before .before .before .before .before .before .before .before .before .before .before .second-at .ensures) (c .before .before .before .before .before .before .before .before .before .before .before .before .before .before .is-ordered .ensures) _ _ (c .before .before .before .before .before .way-from .ensures) (c .before .before .before .before .way-to .ensures)) (c .before .before .list-way .ensures), access-tables (c .before .before .before .before .before .before .before .before .before .before .before .before .before .before .before .before .before .before .before .before .before .before .before .before .before .before .pre .0) (c .before .before .before .before .before .before .before .before .before .before .before .before .before .before .before .before .before .before .before .before .before .before .before .before .before .before .pre .1 .1) (c .before .before .before .before .before .before .before .before .before .before .before .before .before .before .before .before .before .before .kind-at .ensures) (c .before .before .before .before .before .before .before .before .before .before .before .before .before .before .before .before .before .second-at .ensures) (c .before .before .before .before .before .before .before .before .before .before .before .before .before .before .is-ordered .ensures) _ _ (c .before .before .before .before .before .before .before .before .before .before .before .note-access .ensures .0) (c .before .before .before .before .before .before .before .before .before .before .before .note-access .ensures .1))
+returns-2 c =
+    let at-note-access = c .before .before .before .before .before .before .before .before .before .before .before in
+    let at-is-ordered = at-note-access .before .before .before in
+    let at-cell-at = at-is-ordered .before .before .before .before in
+    let at-kind-at = at-cell-at .before in
+    let start = at-kind-at .before .before .before .before .before .before .before .before in
+    (way-writes (access-way (start .pre .0) (start .pre .1 .1) (at-kind-at .kind-at .ensures) (at-cell-at .cell-at .ensures) (at-is-ordered .is-ordered .ensures) _ _ (c .before .before .before .before .before .way-from .ensures) (c .before .before .before .before .way-to .ensures)) (c .before .before .list-way .ensures), access-tables (start .pre .0) (start .pre .1 .1) (at-kind-at .kind-at .ensures) (at-cell-at .cell-at .ensures) (at-is-ordered .is-ordered .ensures) _ _ (at-note-access .note-access .ensures .0) (at-note-access .note-access .ensures .1))
 
 pub list-access-spec : {M : Type 1} → statement M
 list-access-spec =
     tie.close
     (tie.spec
     kind-at-requires
-    second-at-requires
+    cell-at-requires
     cast-c
     mul-last
     slice-read-last

@@ -37,8 +37,8 @@ mul-list-2 c = search needs
 slice-write-list-2 : tie.Need-slice-write-list-2
 slice-write-list-2 c = simp length-set (omega (arith, c .before .before .pre .2))
 
-second-at-requires : tie.Need-second-at-requires
-second-at-requires c κs = search needs
+cell-at-requires : tie.Need-cell-at-requires
+cell-at-requires c κs = search needs
 
 add-list-4 : tie.Need-add-list-4
 add-list-4 c = search needs
@@ -74,7 +74,7 @@ same-length : tie.Need-same-length
 same-length c = search needs
 
 returns : tie.Need-returns
-returns c = raw-stores (decode (now (c .before .before .before .before .args .recs))) _ _ _ _ _ _ (c .before .second-at .ensures) (c .shape-of .ensures)
+returns c = raw-stores (decode (now (c .before .before .before .before .args .recs))) _ _ _ _ _ _ (c .before .cell-at .ensures) (c .shape-of .ensures)
 
 pub put-entry-spec : {M : Type 1} → statement M
 put-entry-spec =
@@ -90,7 +90,7 @@ put-entry-spec =
     add-list-3
     mul-list-2
     slice-write-list-2
-    second-at-requires
+    cell-at-requires
     add-list-4
     mul-list-3
     slice-write-list-3

@@ -5,7 +5,7 @@ use Prim.Native.Nat.{_≤_, _-_}
 use Rattle.random_traces.proofs.definitions.are_neighbours.Statement.{statement}
 use Rattle.random_traces.proofs.definitions.are_neighbours.Tie as tie
 use Rattle.random_traces.proofs.paths.is_kind.Reads as is-kind-reads
-use Rattle.random_traces.proofs.paths.second.Reads as second-reads
+use Rattle.random_traces.proofs.paths.cell_of.Reads as cell-of-reads
 use Rattle.random_traces.proofs.slots.plus.Reads as plus-reads
 
 abbrev Inv-loop : tie.InvT-loop
@@ -14,8 +14,8 @@ Inv-loop recs a b cell i₀ i = i₀ ≤ i
 abbrev μ-loop : tie.MeasureT-loop
 μ-loop recs a b cell i₀ i = b - i
 
-second-requires : tie.Need-second-requires Inv-loop μ-loop
-second-requires c κs = search needs
+cell-of-requires : tie.Need-cell-of-requires Inv-loop μ-loop
+cell-of-requires c κs = search needs
 
 plus-requires : tie.Need-plus-requires Inv-loop μ-loop
 plus-requires c κs = search needs
@@ -26,8 +26,8 @@ loop-holds c = search needs
 is-kind-requires : tie.Need-is-kind-requires Inv-loop μ-loop
 is-kind-requires c κs = search needs
 
-second-requires-2 : tie.Need-second-requires-2 Inv-loop μ-loop
-second-requires-2 c κs = search needs
+cell-of-requires-2 : tie.Need-cell-of-requires-2 Inv-loop μ-loop
+cell-of-requires-2 c κs = search needs
 
 returns : tie.Need-returns Inv-loop μ-loop
 returns c = search needs
@@ -50,11 +50,11 @@ are-neighbours-spec =
     (tie.spec
     Inv-loop
     μ-loop
-    second-requires
+    cell-of-requires
     plus-requires
     loop-holds
     is-kind-requires
-    second-requires-2
+    cell-of-requires-2
     returns
     add-i
     loop-less

@@ -4,7 +4,7 @@ use borrow.Author.Needs.{needs}
 use Prim.Native.Nat.{_≤_, _-_}
 use Rattle.random_traces.proofs.judge.find.Statement.{statement}
 use Rattle.random_traces.proofs.judge.find.Tie as tie
-use Rattle.random_traces.proofs.paths.first.Reads as first-reads
+use Rattle.random_traces.proofs.paths.event_of.Reads as event-of-reads
 use Rattle.random_traces.proofs.paths.is_kind.Reads as is-kind-reads
 
 abbrev Inv-loop : tie.InvT-loop
@@ -19,8 +19,8 @@ loop-holds c = search needs
 is-kind-requires : tie.Need-is-kind-requires Inv-loop μ-loop
 is-kind-requires c κs = search needs
 
-first-requires : tie.Need-first-requires Inv-loop μ-loop
-first-requires c κs = search needs
+event-of-requires : tie.Need-event-of-requires Inv-loop μ-loop
+event-of-requires c κs = search needs
 
 returns : tie.Need-returns Inv-loop μ-loop
 returns c = search needs
@@ -45,7 +45,7 @@ find-spec =
     μ-loop
     loop-holds
     is-kind-requires
-    first-requires
+    event-of-requires
     returns
     add-i
     loop-less

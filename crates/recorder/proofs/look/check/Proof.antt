@@ -24,11 +24,11 @@ seen-if-requires-2 c κs = search needs
 seen-if-requires-3 : tie.Need-seen-if-requires-3
 seen-if-requires-3 c κs = search needs
 
-add-t11 : tie.Need-add-t11
-add-t11 c = search needs
+add-t12 : tie.Need-add-t12
+add-t12 c = search needs
 
-cast-t12 : tie.Need-cast-t12
-cast-t12 c = search needs
+cast-t13 : tie.Need-cast-t13
+cast-t13 c = search needs
 
 check-requires : tie.Need-check-requires
 check-requires c κs = search needs
@@ -53,7 +53,7 @@ check-spec =
     seen-if-requires
     seen-if-requires-2
     seen-if-requires-3
-    add-t11
-    cast-t12
+    add-t12
+    cast-t13
     check-requires
     returns)

@@ -13,7 +13,7 @@ use Rattle.recorder.proofs.look.seen.Statement.{statement}
 use Rattle.recorder.proofs.look.seen.Tie as tie
 
 abbrev Inv-loop : tie.InvT-loop
-Inv-loop recs kind e i₀ i = has (ofKind kind) e (past (decode recs) (length (decode recs))) ≡ has (ofKind kind) e (past (decode recs) i)
+Inv-loop recs kind e i₀ i = has (ofKind kind) (e .0) (past (decode recs) (length (decode recs))) ≡ has (ofKind kind) (e .0) (past (decode recs) i)
 
 abbrev μ-loop : tie.MeasureT-loop
 μ-loop recs kind e i₀ i = i
@@ -30,29 +30,29 @@ sub-i c = omega arith
 kind-at-requires : tie.Need-kind-at-requires Inv-loop μ-loop
 kind-at-requires c κs = search needs
 
-first-at-requires : tie.Need-first-at-requires Inv-loop μ-loop
-first-at-requires c κs = search needs
+event-at-requires : tie.Need-event-at-requires Inv-loop μ-loop
+event-at-requires c κs = search needs
 
 returns : tie.Need-returns Inv-loop μ-loop
 returns c =
-    let at-loop-test = c .before .before .before .before in
+    let at-loop-test = c .before .before .before .before .before .before in
     let at-loop = at-loop-test .before in
     let start = at-loop .before .before .before in
     let a = start .args in
     let l = at-loop .loop in
-    sym (l .inv ∙ seen-here (decode (now (a .recs))) (a .kind) (a .e) (l .i) (at-loop-test .loop-test .taken) (sym (c .before .before .before .kind-at .ensures) ∙ c .before .before .if1 .taken) (sym (c .before .first-at .ensures) ∙ c .if2 .taken))
+    sym (l .inv ∙ seen-here (decode (now (a .recs))) (a .kind) (a .e .0) (l .i) (at-loop-test .loop-test .taken) (sym (c .before .before .before .before .before .kind-at .ensures) ∙ c .before .before .before .before .if1 .taken) (sym (c .before .before .before .event-at .ensures) ∙ c .if2 .taken))
 
 loop-less : tie.Need-loop-less Inv-loop μ-loop
 loop-less c = omega arith
 
 loop-again : tie.Need-loop-again Inv-loop μ-loop
 loop-again c =
-    let at-loop-test = c .before .before .before .before in
+    let at-loop-test = c .before .before .before .before .before .before in
     let at-loop = at-loop-test .before in
     let start = at-loop .before .before .before in
     let a = start .args in
     let l = at-loop .loop in
-    l .inv ∙ other-event (decode (now (a .recs))) (a .kind) (a .e) (l .i) (at-loop-test .loop-test .taken) (λ p. c .if2 .left (c .before .first-at .ensures ∙ p))
+    l .inv ∙ other-event (decode (now (a .recs))) (a .kind) (a .e .0) (l .i) (at-loop-test .loop-test .taken) (λ p. c .if2 .left (c .before .before .before .event-at .ensures ∙ p))
 
 loop-less-2 : tie.Need-loop-less-2 Inv-loop μ-loop
 loop-less-2 c = omega arith
@@ -62,7 +62,7 @@ loop-again-2 c =
     let start = c .before .before .before .before .before .before in
     let a = start .args in
     let l = c .before .before .before .loop in
-    l .inv ∙ other-kind (decode (now (a .recs))) (a .kind) (a .e) (l .i) (c .before .before .loop-test .taken) (λ p. c .if1 .left (c .before .kind-at .ensures ∙ p))
+    l .inv ∙ other-kind (decode (now (a .recs))) (a .kind) (a .e .0) (l .i) (c .before .before .loop-test .taken) (λ p. c .if1 .left (c .before .kind-at .ensures ∙ p))
 
 returns-2 : tie.Need-returns-2 Inv-loop μ-loop
 unfolding has past
@@ -81,7 +81,7 @@ seen-spec =
     loop-holds
     sub-i
     kind-at-requires
-    first-at-requires
+    event-at-requires
     returns
     loop-less
     loop-again

@@ -7,14 +7,14 @@ use Rattle.records.proofs.access.record_at.Tie as tie
 kind-at-requires : tie.Need-kind-at-requires
 kind-at-requires c κs = search needs
 
-first-at-requires : tie.Need-first-at-requires
-first-at-requires c κs = search needs
+first-of-requires : tie.Need-first-of-requires
+first-of-requires c κs = search needs
 
-second-at-requires : tie.Need-second-at-requires
-second-at-requires c κs = search needs
+second-of-requires : tie.Need-second-of-requires
+second-of-requires c κs = search needs
 
 returns : tie.Need-returns
-returns c = simp (c .before .before .kind-at .ensures, c .before .first-at .ensures, c .second-at .ensures)
+returns c = simp (c .before .before .kind-at .ensures, c .before .first-of .ensures, c .second-of .ensures)
 
 pub record-at-spec : {M : Type 1} → statement M
-record-at-spec = tie.close (tie.spec kind-at-requires first-at-requires second-at-requires returns)
+record-at-spec = tie.close (tie.spec kind-at-requires first-of-requires second-of-requires returns)

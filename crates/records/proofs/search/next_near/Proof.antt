@@ -11,7 +11,7 @@ use Rattle.records.proofs.search.next_near.Statement.{statement}
 use Rattle.records.proofs.search.next_near.Tie as tie
 
 abbrev Inv-loop : tie.InvT-loop
-Inv-loop recs from to c least i₀ i = (i ≤ to) × Past (decode recs) least c from i
+Inv-loop recs from to c least i₀ i = (i ≤ to) × Past (decode recs) least (c .0) from i
 
 abbrev μ-loop : tie.MeasureT-loop
 μ-loop recs from to c least i₀ i = to - i
