@@ -14,6 +14,8 @@ use borrow.Rule.Slice.PartMut.{putMid, set-mid-at, post-is, mid-len}
 use lib.Dec.{leb, ltb}
 use lib.ListN.{length, getD, set, take, drop, replicate, length-append, length-take, length-drop, length-set, length-replicate, replicate-append-replicate}
 use lib.Seq.{getD-set-other, getD-take, getD-drop, take-at, drop-append-add, drop-drop}
+use Rattle.slices.specs.Slices.{zeros, cleared}
+use Rattle.slices.proofs.Cleared.{cleared-whole}
 use Rattle.clocks.specs.Rows.{oneMore, hasRow, rowsIf, reach, mergeAt, mergeFrom, mergeRow, copyAt, copyFrom, copyRow, clearRow, clearRows}
 
 -- row u stands in the clocks
@@ -175,10 +177,12 @@ copy-merges w chains p u cs z =
     (copy-from-merges w p u (reach w chains p) 0 cs (λ d h i. z d (omega (arith, reach-le w chains p))))
 
 -- clearing the part of a row
-pub cleared-at : (w u : ℕ) (xs ys : List ℕ) → u * w + w ≤ length xs → ys ≡ replicate (length (take (u * w + w - u * w) (drop (u * w) xs))) 0 → putMid (u * w) (u * w + w - u * w) xs ys ≡ take (u * w) xs ++ (replicate w 0 ++ drop (u * w + w) xs)
+pub cleared-at : (w u : ℕ) (xs ys : List ℕ) → u * w + w ≤ length xs → ys ≡ cleared w (take (u * w + w - u * w) (drop (u * w) xs)) → putMid (u * w) (u * w + w - u * w) xs ys ≡ take (u * w) xs ++ (replicate w 0 ++ drop (u * w + w) xs)
+unfolding zeros
 cleared-at w u xs ys h e =
-    let l : length (take (u * w + w - u * w) (drop (u * w) xs)) ≡ w = mid-len (u * w) (u * w + w) xs h ∙ omega arith in
-    rw (e, l, post-is (u * w) (u * w + w) xs (omega arith))
+    let part = take (u * w + w - u * w) (drop (u * w) xs) in
+    let l : w ≡ length part = sym (mid-len (u * w) (u * w + w) xs h ∙ omega arith) in
+    rw (cleared-whole part l e, post-is (u * w) (u * w + w) xs (omega arith))
 
 module _ (w u : ℕ) (cs : List ℕ) where
   pub clear-row-none : hasRow (length cs) w u ≡ false → clearRow w u cs ≡ cs

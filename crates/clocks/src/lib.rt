@@ -1,9 +1,12 @@
 // The lent clocks: whether they have space for the rows, the comparison of two rows by which order is told, and merging and clearing rows.
+use slices::numbers::clear;
+use slices::numbers::get;
+use slices::numbers::larger;
 ghost use mathlib.Core.Path.{_≡_};
 ghost use mathlib.Core.Bool.{_&&_};
 ghost use Prim.Native.Nat.{_<_, max};
 ghost use lib.Dec.{ltb};
-ghost use lib.ListN.{length, getD, set, replicate};
+ghost use lib.ListN.{getD, set};
 ghost use Rattle.clocks.specs.Rows.{spaceFor, compareIn, hasRow, reach, mergeRow, oneMore, copyRow, clearRow, clearRows};
 
 // Whether the width is in range and that many rows fit the clock space.
@@ -19,31 +22,13 @@ pub fn has_space(width: usize, events: usize, space: usize) -> bool
     events <= space / width
 }
 
-fn entry_at(clocks: &[u16], at: usize) -> u16
-    ensures { λ r. ⌜ r ≡ getD (now (clocks .entry)) at 0 ⌝ }
-{
-    if at < clocks.len() {
-        return clocks[at];
-    }
-    0
-}
-
 // Whether row t's entry at chain c is at most row u's.
 pub fn compare(clocks: &[u16], width: u16, c: u16, t: u16, u: u16) -> bool
     ensures { λ r. ⌜ r ≡ compareIn (now (clocks .entry)) width c t u ⌝ }
 {
-    let first = entry_at(clocks, (t as usize) * (width as usize) + (c as usize));
-    let second = entry_at(clocks, (u as usize) * (width as usize) + (c as usize));
+    let first = get(clocks, (t as usize) * (width as usize) + (c as usize));
+    let second = get(clocks, (u as usize) * (width as usize) + (c as usize));
     first <= second
-}
-
-fn larger(x: u16, y: u16) -> u16
-    ensures { λ r. ⌜ r ≡ max x y ⌝ }
-{
-    if x < y {
-        return y;
-    }
-    x
 }
 
 // One entry of a row becomes at least the value.
@@ -148,17 +133,6 @@ pub fn copy_row(clocks: &mut [u16], width: usize, chains: usize, p: u16, u: u16)
     }
 }
 
-fn clear(row: &mut [u16])
-    ensures { λ r. ⌜ now (row .exit) ≡ replicate (length (now (row .entry))) 0 ⌝ }
-{
-    let n = row.len();
-    let mut i = 0;
-    while i < n {
-        row[i] = 0;
-        i += 1;
-    }
-}
-
 // Zeros in row u.
 fn clear_row(clocks: &mut [u16], width: usize, u: u16)
     ensures { λ r. ⌜ now (clocks .exit) ≡ clearRow width u (now (clocks .entry)) ⌝ }
@@ -168,7 +142,7 @@ fn clear_row(clocks: &mut [u16], width: usize, u: u16)
     }
     let a = (u as usize) * width;
     let e = a + width;
-    clear(&mut clocks[a..e]);
+    clear(&mut clocks[a..e], width);
 }
 
 // Zeros in the first rows.

@@ -11,7 +11,8 @@ use Rattle.coverage.specs.Setting.{Setting}
 use Rattle.coverage.specs.Race.{raceb}
 use Rattle.coverage.specs.Neighbours.{Cells, writes, reads, neighbour, NoWrite, Neighbours, write-write, write-read, read-write}
 use Rattle.coverage.specs.Lists.{cellWrites, cellReads, cellEntries}
-use Rattle.coverage.proofs.Tests.{both, and, either, or-left, or-right, decide, decide-eq, eq→eqb, found, find}
+use Rattle.slices.proofs.Tests.{both, and, either, or-left, or-right, decide, decide-eq, eq→eqb}
+use Rattle.coverage.proofs.Below.{found, find}
 use Rattle.coverage.proofs.Lists.{upto-zero}
 use Rattle.coverage.proofs.Short.{neighbour-iff}
 use Rattle.coverage.proofs.Pairs.{count, count-yes, count-no, count-suc, count-none, count-le, count-some, count-one, pairs-zero, pairs-count}

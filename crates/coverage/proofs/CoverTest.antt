@@ -6,7 +6,7 @@ use lib.Dec.{T}
 use Rattle.coverage.specs.Setting.{Setting}
 use Rattle.coverage.specs.Race.{before, Race, raceb}
 use Rattle.coverage.specs.Cover.{CoversFrom, one, more, coversFromb}
-use Rattle.coverage.proofs.Tests.{both, and}
+use Rattle.slices.proofs.Tests.{both, and}
 use Rattle.coverage.proofs.Order.{race-of, of-race}
 
 module _ (t : Setting) (b : ℕ) where

@@ -10,7 +10,7 @@ use Rattle.coverage.specs.Below.{_∈_, upto}
 use Rattle.coverage.specs.Setting.{Setting, Laws}
 use Rattle.coverage.specs.Arrangement.{recordsOf, blocks, Grouped}
 use Rattle.coverage.specs.Leading.{leads, kept, lastKept, entries, written}
-use Rattle.coverage.proofs.Tests.{both, and, or-left, decide, decide-eq, eq→eqb}
+use Rattle.slices.proofs.Tests.{both, and, or-left, decide, decide-eq, eq→eqb}
 use Rattle.coverage.proofs.Lists.{in-map, map-distinct, in-upto, upto-zero, upto-yes, upto-no, upto-empty, upto-same, upto-ext, upto-distinct}
 use Rattle.coverage.proofs.Order.{after}
 use Rattle.coverage.proofs.Leads.{leads-self}

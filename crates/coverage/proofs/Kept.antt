@@ -11,7 +11,7 @@ use Rattle.coverage.specs.Race.{before, Race}
 use Rattle.coverage.specs.Cover.{Open}
 use Rattle.coverage.specs.Arrangement.{Earlier, Last, Distinct, Arrangement}
 use Rattle.coverage.specs.Leading.{Leads, leads, kept}
-use Rattle.coverage.proofs.Tests.{decide, decide-eq}
+use Rattle.slices.proofs.Tests.{decide, decide-eq}
 use Rattle.coverage.proofs.Lists.{last-snoc, in-upto, upto-in, upto-earlier, upto-distinct, upto-yes}
 use Rattle.coverage.proofs.Order.{before-lt, before-le}
 use Rattle.coverage.proofs.Leads.{leads-self, leads-below, leads-race, leads-ahead, leads-exact, open-iff}

@@ -10,7 +10,8 @@ use Rattle.coverage.specs.Setting.{Setting, Laws}
 use Rattle.coverage.specs.Race.{before, Race, raceb}
 use Rattle.coverage.specs.Cover.{CoversFrom, one, more, Covered, Open}
 use Rattle.coverage.specs.Leading.{reach, leads, coveredb}
-use Rattle.coverage.proofs.Tests.{both, and, either, or-left, or-right, decide, found, find, failed}
+use Rattle.slices.proofs.Tests.{both, and, either, or-left, or-right, decide, failed}
+use Rattle.coverage.proofs.Below.{found, find}
 use Rattle.coverage.proofs.Order.{le-before, before-le, before-lt, race-of, of-race, race-not-le, race-after}
 
 module _ (t : Setting) where

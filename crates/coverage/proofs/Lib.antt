@@ -1,4 +1,4 @@
-pub mod Tests
+pub mod Below
 pub mod Lists
 pub mod Order
 pub mod Leads

@@ -8,7 +8,7 @@ use native.Mathlib.Omega.{arith}
 use lib.Dec.{T}
 use Rattle.coverage.specs.Below.{_∈_, _∉_, only, upto}
 use Rattle.coverage.specs.Arrangement.{Earlier, here, there, Last, final, later, Distinct}
-use Rattle.coverage.proofs.Tests.{decide-eq}
+use Rattle.slices.proofs.Tests.{decide-eq}
 
 pub earlier-left : {a b : ℕ} {l : List ℕ} → Earlier a b l → a ∈ l
 earlier-left (here e m) = List·Memᴰ·head e

@@ -11,7 +11,7 @@ use Rattle.coverage.specs.Race.{Race}
 use Rattle.coverage.specs.Cover.{CoversFrom, one, more, Covered}
 use Rattle.coverage.specs.Arrangement.{Earlier, Last, recordsOf, blocks, Arrangement, Accesses}
 use Rattle.coverage.specs.Leading.{leads, kept}
-use Rattle.coverage.proofs.Tests.{decide-eq, eq→eqb}
+use Rattle.slices.proofs.Tests.{decide-eq, eq→eqb}
 use Rattle.coverage.proofs.Lists.{earlier-left, earlier-right, not-last, earlier-append-right, earlier-across, Split, left, across, right, earlier-split, in-upto, upto-in}
 use Rattle.coverage.proofs.Order.{le-before, race-apart}
 use Rattle.coverage.proofs.Leads.{leads-sound}

@@ -7,7 +7,7 @@ use native.Mathlib.Omega.{arith}
 use lib.Dec.{T, ltb, eqb, eqb→eq, ltb→lt, lt→ltb, T-not, not-T}
 use Rattle.coverage.specs.Setting.{Setting, Laws}
 use Rattle.coverage.specs.Race.{before, Race, raceb}
-use Rattle.coverage.proofs.Tests.{both, and, decide, decide-eq, eq→eqb}
+use Rattle.slices.proofs.Tests.{both, and, decide, decide-eq, eq→eqb}
 
 -- both sides of a choice, by what the test says
 chosen : (b x y : Bool) → T (cond b x y) → (T b × T x) ⊎ ((T b → ⊥) × T y)

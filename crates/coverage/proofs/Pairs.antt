@@ -12,7 +12,7 @@ use Rattle.coverage.specs.Setting.{Setting}
 use Rattle.coverage.specs.Race.{Race, raceb}
 use Rattle.coverage.specs.Neighbours.{Cells, Neighbours, neighbour}
 use Rattle.coverage.specs.Lists.{allRaces, shortList}
-use Rattle.coverage.proofs.Tests.{both, and, decide, decide-eq}
+use Rattle.slices.proofs.Tests.{both, and, decide, decide-eq}
 use Rattle.coverage.proofs.Lists.{in-map, map-in, in-upto, upto-in, upto-yes, upto-no, upto-empty, upto-zero}
 use Rattle.coverage.proofs.Order.{race-of, of-race}
 use Rattle.coverage.proofs.Short.{neighbour-iff}

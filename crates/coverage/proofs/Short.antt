@@ -10,7 +10,8 @@ use Rattle.coverage.specs.Setting.{Setting, Laws}
 use Rattle.coverage.specs.Race.{before, Race}
 use Rattle.coverage.specs.Cover.{CoversFrom, one, more, Open}
 use Rattle.coverage.specs.Neighbours.{Cells, writes, conflicts, NoWrite, Neighbours, write-write, write-read, read-write, writeBetween, neighbour}
-use Rattle.coverage.proofs.Tests.{both, and, either, or-left, or-right, decide, found, find, eq→eqb}
+use Rattle.slices.proofs.Tests.{both, and, either, or-left, or-right, decide, eq→eqb}
+use Rattle.coverage.proofs.Below.{found, find}
 use Rattle.coverage.proofs.Order.{before-le, race-not-le}
 use Rattle.coverage.proofs.Leads.{cover-below}
 

@@ -8,7 +8,7 @@ use Rattle.coverage.specs.Setting.{Setting, Laws}
 use Rattle.coverage.specs.Race.{before, Race}
 use Rattle.coverage.specs.Cover.{CoversFrom, one, more, Open}
 use Rattle.coverage.specs.Leading.{leads}
-use Rattle.coverage.proofs.Tests.{decide}
+use Rattle.slices.proofs.Tests.{decide}
 use Rattle.coverage.proofs.Order.{before-lt}
 use Rattle.coverage.proofs.Leads.{covered-iff}
 

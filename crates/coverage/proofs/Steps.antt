@@ -8,7 +8,7 @@ use lib.Dec.{T}
 use Rattle.coverage.specs.Setting.{Setting, Laws}
 use Rattle.coverage.specs.Race.{before, Race}
 use Rattle.coverage.specs.Leading.{leads}
-use Rattle.coverage.proofs.Tests.{decide, decide-eq, same}
+use Rattle.slices.proofs.Tests.{decide, decide-eq, same}
 use Rattle.coverage.proofs.Order.{before-le, race-apart, after}
 use Rattle.coverage.proofs.Leads.{le-leads, leads-self, leads-below, leads-race, leads-ahead, leads-unfold}
 

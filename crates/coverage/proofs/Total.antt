@@ -11,7 +11,8 @@ use Rattle.coverage.specs.Setting.{Setting}
 use Rattle.coverage.specs.Race.{raceb}
 use Rattle.coverage.specs.Neighbours.{Cells, writes, reads, neighbour, Neighbours, write-write, write-read, read-write}
 use Rattle.coverage.specs.Lists.{shortList}
-use Rattle.coverage.proofs.Tests.{both, and, decide, eq→eqb, found, find}
+use Rattle.slices.proofs.Tests.{both, and, decide, eq→eqb}
+use Rattle.coverage.proofs.Below.{found, find}
 use Rattle.coverage.proofs.Lists.{upto-zero}
 use Rattle.coverage.proofs.Short.{neighbour-iff}
 use Rattle.coverage.proofs.Pairs.{count, count-yes, count-no, count-suc, count-le, count-one, pairs-zero, pairs-count}

@@ -13,7 +13,7 @@ use Rattle.coverage.specs.Setting.{Setting, Laws}
 use Rattle.coverage.specs.Race.{before, raceb}
 use Rattle.coverage.specs.Leading.{reach, leads, coveredb}
 use Rattle.coverage.specs.Neighbours.{Cells, conflicts}
-use Rattle.coverage.proofs.Tests.{either, or-left, or-right, eq→eqb}
+use Rattle.slices.proofs.Tests.{either, or-left, or-right, eq→eqb}
 
 -- Small traces: what each record accesses, `none` where nothing. Every k records are an event action, numbered from `first` on, and event
 -- action 1 starts all others.

@@ -10,7 +10,7 @@ use Rattle.coverage.specs.Below.{Listed}
 use Rattle.coverage.specs.Setting.{Setting, Laws}
 use Rattle.coverage.specs.Race.{before, Race, raceb}
 use Rattle.coverage.specs.Whole.{Whole, Edges}
-use Rattle.coverage.proofs.Tests.{eq→eqb}
+use Rattle.slices.proofs.Tests.{eq→eqb}
 use Rattle.coverage.proofs.Order.{race-of}
 use Rattle.coverage.proofs.Whole.{Ends, race-whole, leads-ends, whole-self}
 use Rattle.coverage.proofs.Listed.{On, Enough}

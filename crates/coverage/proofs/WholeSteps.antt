@@ -8,7 +8,7 @@ use Rattle.coverage.specs.Setting.{Setting, Laws}
 use Rattle.coverage.specs.Race.{Race}
 use Rattle.coverage.specs.Leading.{leads, coveredb}
 use Rattle.coverage.specs.Whole.{Whole, below, Edges, Direct, Into}
-use Rattle.coverage.proofs.Tests.{decide-eq}
+use Rattle.slices.proofs.Tests.{decide-eq}
 use Rattle.coverage.proofs.Order.{race-apart}
 use Rattle.coverage.proofs.Steps.{Links, GoOn}
 use Rattle.coverage.proofs.Whole.{Ends, whole-ends, whole-self, whole-trans, race-whole, leads-ends}

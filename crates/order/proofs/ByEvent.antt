@@ -10,14 +10,13 @@ use lib.ListN.{getD, drop}
 use Rattle.records.specs.declared.Record.{Record}
 use Rattle.trace.specs.Reading.{Acceptable}
 use Rattle.trace.proofs.Accepted.{accepts}
-use Rattle.coverage.proofs.Tests.{both, decide-eq}
+use Rattle.slices.proofs.Tests.{both, decide-eq, decide-lt}
 use Rattle.order.specs.Links.{Links, _⊢_≼_, leq, _∈_}
 use Rattle.order.specs.Chains.{lasts, used, bit}
 use Rattle.order.specs.Clocks.{largest, chainOf, entry, clocksOf}
 use Rattle.order.specs.HappensBefore.{Begins, Link, HappensBefore, rank, traceLinks}
 use Rattle.order.specs.Fill.{eventsIn, shortRow, traceClocks}
 use Rattle.order.specs.ByEvent.{rowOf, chainIn, Sooner, LastOf, NewChain, ChainRule, entryIn, Largest, ClockRow, ByEvent}
-use Rattle.order.proofs.Tests.{decide-lt}
 use Rattle.order.proofs.CountLaws.{count-none}
 use Rattle.order.proofs.OrderLaws.{leq→≼}
 use Rattle.order.proofs.ChainLaws.{LastMember, lasts-last, chain-below, needs-none}

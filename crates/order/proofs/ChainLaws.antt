@@ -8,8 +8,7 @@ use native.Mathlib.Omega.{arith}
 use lib.Dec.{T, eqb, leb, leb→le, le→leb}
 use lib.ListN.{length, getD}
 use Rattle.order.specs.Chains.{first, bit, count, pick, put, lasts, chain, used, members, needs}
-use Rattle.coverage.proofs.Tests.{decide, decide-eq, passed, failed}
-use Rattle.order.proofs.Tests.{smaller, rises}
+use Rattle.slices.proofs.Tests.{decide, decide-eq, passed, failed, smaller, rises}
 use Rattle.order.proofs.CountLaws.{First, first-end, first-here, first-on, first-first, first-only, count-le}
 
 -- `pick` and `put`

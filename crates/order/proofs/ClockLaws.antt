@@ -10,7 +10,7 @@ use Rattle.order.specs.Links.{Links, Forward, _∈_, _⊢_≼_, same, st
 use Rattle.order.specs.Chains.{first, bit, count, lasts, used, members}
 use Rattle.order.specs.Clocks.{largest, chainOf, entry, merged, compare}
 use Rattle.order.specs.Sets.{row, index, entryBy, Family}
-use Rattle.coverage.proofs.Tests.{both, and, decide, decide-eq, eq→eqb}
+use Rattle.slices.proofs.Tests.{both, and, decide, decide-eq, eq→eqb}
 use Rattle.order.proofs.SetLaws.{family-decides, own-entry, entry-by, clock-by, merged-by}
 use Rattle.order.proofs.OrderLaws.{≼-trans, ≼-last, ≼→leq, leq→≼, leq-refl, leq-trans, leq-forward}
 use Rattle.order.proofs.CountLaws.{first-one, first-first, count-le, count-mono, count-less, count-none}

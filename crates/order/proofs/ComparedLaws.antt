@@ -16,7 +16,7 @@ use Rattle.order.specs.Clocks.{chainOf, clocksOf}
 use Rattle.order.specs.HappensBefore.{rank, traceLinks, happensBefore}
 use Rattle.order.specs.Compared.{compared}
 use Rattle.order.specs.Fill.{eventsIn, shortRow, traceClocks}
-use Rattle.coverage.proofs.Tests.{same as equal-tests}
+use Rattle.slices.proofs.Tests.{same as equal-tests}
 use Rattle.order.proofs.ChainLaws.{chain-below, needs-none}
 use Rattle.order.proofs.RowLaws.{clocks-length, place}
 use Rattle.order.proofs.Theorems.{order-question}

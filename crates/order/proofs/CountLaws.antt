@@ -6,8 +6,7 @@ use mathlib.Core.Bool.{Bool, true, false, cond}
 use native.Mathlib.Omega.{arith}
 use lib.Dec.{T}
 use Rattle.order.specs.Chains.{firstFrom, first, count}
-use Rattle.coverage.proofs.Tests.{decide, decide-eq, passed, failed}
-use Rattle.order.proofs.Tests.{decide-lt, rises}
+use Rattle.slices.proofs.Tests.{decide, decide-eq, passed, failed, decide-lt, rises}
 
 -- c is the lowest number from i on and below n that passes, or n
 pub record First (q : ℕ → Bool) (i n c : ℕ) : Type 0 where

@@ -10,7 +10,7 @@ use Rattle.coverage.specs.Setting.{Setting, Laws}
 use Rattle.coverage.specs.Race.{Race}
 use Rattle.coverage.specs.Leading.{leads, coveredb}
 use Rattle.coverage.specs.Whole.{Whole, below, Edges, Direct}
-use Rattle.coverage.proofs.Tests.{either, or-left, or-right, eq→eqb}
+use Rattle.slices.proofs.Tests.{either, or-left, or-right, eq→eqb, decide-lt}
 use Rattle.coverage.proofs.Order.{race-apart}
 use Rattle.coverage.proofs.Leads.{leads-below}
 use Rattle.coverage.proofs.Whole.{whole-self, whole-below, whole-trans, race-whole, whole-ahead, whole-decides, leads-whole, leads-to-whole}
@@ -20,7 +20,6 @@ use Rattle.order.specs.Chains.{bit}
 use Rattle.order.specs.Clocks.{largest}
 use Rattle.order.specs.Sets.{index, Initial, Family}
 use Rattle.order.specs.Numbering.{Numbered, InOrder, Preds, Firsts, wholeOf, leadsTo, upTo, clockRow, coverRow, coverRowAt}
-use Rattle.order.proofs.Tests.{decide-lt}
 use Rattle.order.proofs.OrderLaws.{found, find}
 use Rattle.order.proofs.SetLaws.{row-mono, row-decides, row-merge, row-start, family-decides, own-entry}
 

@@ -15,8 +15,7 @@ use Rattle.order.specs.Chains.{bit, chain, used, members}
 use Rattle.order.specs.Clocks.{largest, chainOf, entry, merged}
 use Rattle.ranks.specs.Said.{Op, link, begin}
 use Rattle.order.specs.Schedule.{begins, linked, Ordered, Makes}
-use Rattle.coverage.proofs.Tests.{both, eq→eqb, decide-eq}
-use Rattle.order.proofs.Tests.{decide-lt, rises}
+use Rattle.slices.proofs.Tests.{both, eq→eqb, decide-eq, decide-lt, rises}
 use Rattle.order.proofs.CountLaws.{count-less, count-mono}
 use Rattle.order.proofs.ScheduleLaws.{begins-mono, linked-exact, link-between}
 use Rattle.order.proofs.ChainLaws.{chain-first, chain-le-used, used-zero, used-suc, used-mono, used-le-self, lasts-last, members-zero, members-suc, members-count}

@@ -16,8 +16,7 @@ use Rattle.clocks.specs.Rows.{reach, mergeAt, mergeFrom, mergeRow}
 use Rattle.clocks.proofs.RowLaws.{reach-le, reach-past, merge-row-fits, stored}
 use borrow.Rule.Slice.PartMut.{putMid}
 use Rattle.order.specs.Pass.{tick, fullAt, chooseIn, NoneFull}
-use Rattle.coverage.proofs.Tests.{decide-eq}
-use Rattle.order.proofs.Tests.{decide-lt}
+use Rattle.slices.proofs.Tests.{decide-eq, decide-lt}
 use Rattle.order.proofs.CountLaws.{first-past, first-over}
 use Rattle.order.proofs.RowLaws.{SameBut, same-but, flat-length, flat-at, flat-same, flat-set, place}
 

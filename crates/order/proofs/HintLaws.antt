@@ -19,8 +19,7 @@ use Rattle.clocks.proofs.RowLaws.{copy-merges}
 use Rattle.order.specs.Clocks.{largest, flat}
 use Rattle.order.specs.Schedule.{begins, linked, Ordered}
 use Rattle.order.specs.Walk.{FillWalked, stops, fillOn, linkedBy, hintedBy, fillWalk, opBy}
-use Rattle.coverage.proofs.Tests.{decide-eq}
-use Rattle.order.proofs.Tests.{decide-lt}
+use Rattle.slices.proofs.Tests.{decide-eq, decide-lt}
 use Rattle.order.proofs.ScheduleLaws.{begins-suc, begins-mono, linked-exact, begin-next, link-between}
 use Rattle.order.proofs.FlatLaws.{mergeInto, merged-row, flat-read}
 use Rattle.order.proofs.WalkLaws.{Along, along-link, along-other, Arrives, arrives-here, arrives-next, ZeroPast, access-other}

@@ -1,5 +1,4 @@
--- Laws of tests, searches and counts; the recursion along links
-pub mod Tests
+-- Laws of searches and counts; the recursion along links
 pub mod CountLaws
 pub mod AlongLaws
 -- Happens-before; chains; the clock theorem; flat clocks; what is said of them all

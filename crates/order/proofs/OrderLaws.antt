@@ -8,8 +8,7 @@ use native.Mathlib.Omega.{arith}
 use lib.Dec.{T, eqb, eqb→eq}
 use Rattle.order.specs.Links.{Links, Forward, _∈_, _⊢_≼_, same, step, some, leq}
 use Rattle.order.proofs.AlongLaws.{along-law}
-use Rattle.coverage.proofs.Tests.{either, or-left, or-right, decide-eq, eq→eqb}
-use Rattle.order.proofs.Tests.{smaller}
+use Rattle.slices.proofs.Tests.{either, or-left, or-right, decide-eq, eq→eqb, smaller}
 
 pub found : (q : ℕ → Bool) (ps : List ℕ) → T (some q ps) → (p : ℕ) × (p ∈ ps) × T (q p)
 unfolding some

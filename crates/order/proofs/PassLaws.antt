@@ -26,8 +26,9 @@ use Rattle.order.specs.Walk.{FillWalked, FillWalks}
 use Rattle.order.specs.Pass.{tick, chooseIn, Rows, enterRow, beginRow, RoomToBegin, Are}
 use Rattle.order.specs.PassEnds.{Ready, Passes}
 use Rattle.order.specs.HappensBefore.{opAt, traceLinks}
+use Rattle.slices.specs.Slices.{zeros}
 use Rattle.order.specs.Fill.{eventsIn, beginPosition, shortRow, chainsUsed, chainTable, traceClocks, noChains}
-use Rattle.coverage.proofs.Tests.{both, and, eq→eqb, decide-eq}
+use Rattle.slices.proofs.Tests.{both, and, eq→eqb, decide-eq}
 use Rattle.order.proofs.CountLaws.{firstFrom-local, first-first, first-only}
 use Rattle.order.proofs.ScheduleLaws.{begins-zero, begins-suc, begins-mono, begin-next, links-made}
 use Rattle.order.proofs.ChainLaws.{chain-below, members-le, needs-at, needs-none}
@@ -121,7 +122,7 @@ module _ {tr : List Record} (a : Acceptable tr) (w : ℕ) (rest : List ℕ) wher
     pub of-past : (u : ℕ) → m ≤ u → u < 1024 → getD (s .of) u 0 ≡ 0
 
   pub passing-start : w ≤ 1024 → Passing 0 (record { clocks = replicate (m * w) 0 ++ rest; sizes = noChains; of = noChains; chains = 0 })
-  unfolding noChains
+  unfolding zeros
   passing-start h =
       let b = begins-zero op in
       let k = length-replicate {A = ℕ} 1024 0 in

@@ -20,7 +20,8 @@ use Rattle.trace.proofs.Marked.{formed}
 use Rattle.trace.proofs.Going.{in-range}
 use Rattle.ranks.specs.Said.{opOf}
 use Rattle.order.specs.HappensBefore.{Begins, rankIn, rank, opAt}
-use Rattle.ranks.specs.Ranks.{noRanks, withRank, rankIf, ranksUpto, ranksOf}
+use Rattle.slices.specs.Slices.{zeros}
+use Rattle.ranks.specs.Ranks.{withRank, rankIf, ranksUpto, ranksOf}
 use Rattle.ranks.proofs.RankLaws.{ranks-length}
 use Rattle.order.proofs.TraceOrder.{counted, counted-zero, counted-begin, counted-other, rank-begins}
 
@@ -53,7 +54,7 @@ module _ (tr : List Record) where
           past-end z = rw (set-out m e (k % 65536) z, ne-eqb e f (λ p. omega arith)) q
 
   ranks-at : (i e : ℕ) → i < 65535 → e < 1025 → getD (ranksUpto tr i) e 0 ≡ rankIn e (past tr i)
-  unfolding ranksUpto noRanks rankIn past
+  unfolding ranksUpto zeros rankIn past
   ranks-at zero e l h = getD-replicate {A = ℕ} 1025 e 0 0 h
   ranks-at (suc i) e l h =
       let f = few i in

@@ -11,8 +11,7 @@ use lib.Seq.{getD-append-add, getD-append-seam, getD-set-same, getD-set-other, e
 use Rattle.clocks.specs.Rows.{compareIn}
 use Rattle.order.specs.Links.{Links}
 use Rattle.order.specs.Clocks.{table, flat, chainOf, entry, clocksOf, compare}
-use Rattle.coverage.proofs.Tests.{decide-eq}
-use Rattle.order.proofs.Tests.{decide-lt}
+use Rattle.slices.proofs.Tests.{decide-eq, decide-lt}
 
 pub table-length : (n : ℕ) (f : ℕ → ℕ) → length (table n f) ≡ n
 unfolding table

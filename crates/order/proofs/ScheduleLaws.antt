@@ -10,8 +10,7 @@ use borrow.Author.Tests.{eq-eqb, ne-eqb}
 use Rattle.order.specs.Links.{Forward, _∈_}
 use Rattle.ranks.specs.Said.{Op, link, begin, other}
 use Rattle.order.specs.Schedule.{beginsBy, begins, linkedBy, linked, linksOf, Stands, Ordered, Makes}
-use Rattle.coverage.proofs.Tests.{decide-eq}
-use Rattle.order.proofs.Tests.{rises}
+use Rattle.slices.proofs.Tests.{decide-eq, rises}
 
 module _ (op : ℕ → Op) where
   pub begins-zero : begins op 0 ≡ 0

@@ -10,8 +10,7 @@ use Rattle.order.specs.Links.{Links, Forward, _∈_, some}
 use Rattle.order.specs.Chains.{bit, count}
 use Rattle.order.specs.Clocks.{largest}
 use Rattle.order.specs.Sets.{isIn, row, index, Initial, entryBy, mergedBy, Family}
-use Rattle.coverage.proofs.Tests.{both, and, either, or-left, or-right, decide, eq→eqb, same as equal-tests}
-use Rattle.order.proofs.Tests.{decide-lt, smaller}
+use Rattle.slices.proofs.Tests.{both, and, either, or-left, or-right, decide, eq→eqb, same as equal-tests, decide-lt, smaller}
 use Rattle.order.proofs.AlongLaws.{Local, along-law}
 use Rattle.order.proofs.OrderLaws.{found, find}
 use Rattle.order.proofs.CountLaws.{count-yes, count-mono, count-none, Last, count-last}

@@ -3,14 +3,13 @@
 use Prim.Native.Nat.{ℕ, _*_, _≤_}
 use mathlib.Core.Path.{_≡_, refl, sym, ap, _∙_}
 use mathlib.Core.Bool.{Bool, true, false, _&&_, and-eq-true-iff}
-use mathlib.Core.List.{List, [], _++_, append-nil}
+use mathlib.Core.List.{List, _++_}
 use native.Mathlib.Omega.{arith}
 use borrow.Author.Tests.{leb-true}
 use lib.Dec.{leb}
-use lib.ListN.{length, drop, replicate, length-append, length-replicate, length-drop, drop-of-length-le}
+use lib.ListN.{length, drop, replicate, length-append, length-replicate, length-drop}
 use lib.Seq.{drop-at}
 use Rattle.clocks.specs.Rows.{spaceFor}
-use Rattle.order.specs.Fill.{noChains}
 
 module _ (k : ℕ) (cs cs′ : List ℕ) (h : k ≤ length cs) (e : cs′ ≡ replicate k 0 ++ drop k cs) where
   pub cleared-drop : drop k cs′ ≡ drop k cs
@@ -21,19 +20,6 @@ module _ (k : ℕ) (cs cs′ : List ℕ) (h : k ≤ length cs) (e : cs′ ≡ re
 
   pub cleared-length : length cs′ ≡ length cs
   cleared-length = omega (arith, ap length e, length-append (replicate {A = ℕ} k 0) (drop k cs), length-replicate {A = ℕ} k 0, length-drop k cs)
-
-cleared-whole : (k : ℕ) (cs cs′ : List ℕ) → length cs ≡ k → cs′ ≡ replicate k 0 ++ drop k cs → cs′ ≡ replicate k 0
-cleared-whole k cs cs′ l e =
-    let h : length cs ≤ k = omega arith in
-    e ∙ ap (λ (r : List ℕ). replicate k 0 ++ r) (drop-of-length-le cs h) ∙ append-nil (replicate {A = ℕ} k 0)
-
-pub no-chains-length : length noChains ≡ 1024
-unfolding noChains
-no-chains-length = length-replicate {A = ℕ} 1024 0
-
-pub cleared-chains : (cs cs′ : List ℕ) → length cs ≡ 1024 → cs′ ≡ replicate 1024 0 ++ drop 1024 cs → cs′ ≡ noChains
-unfolding noChains
-cleared-chains cs cs′ l e = cleared-whole 1024 cs cs′ l e
 
 pub record HasRoom (width events space : ℕ) : Type 0 where
   pub some : 1 ≤ width

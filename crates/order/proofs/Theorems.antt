@@ -9,7 +9,7 @@ use Rattle.clocks.specs.Rows.{compareIn}
 use Rattle.order.specs.Links.{Links, Forward, _⊢_≼_, leq}
 use Rattle.order.specs.Chains.{lasts, used}
 use Rattle.order.specs.Clocks.{chainOf, clocksOf}
-use Rattle.order.proofs.Tests.{decide-lt}
+use Rattle.slices.proofs.Tests.{decide-lt}
 use Rattle.order.proofs.CountLaws.{First}
 use Rattle.order.proofs.OrderLaws.{≼→leq, leq→≼}
 use Rattle.order.proofs.ChainLaws.{chain-first, chain-below, LastMember, lasts-last, last-one}

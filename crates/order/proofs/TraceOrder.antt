@@ -20,7 +20,7 @@ use Rattle.trace.proofs.Blocks.{begins-once, event-begins, join-before-begin, b
 use Rattle.order.specs.Links.{Forward, leq, _⊢_≼_, _∈_}
 use Rattle.order.specs.Links as links
 use Rattle.order.specs.Schedule.{begins, beginsBy, Stands, Ordered}
-use Rattle.coverage.proofs.Tests.{and, either, or-left, or-right, eq→eqb}
+use Rattle.slices.proofs.Tests.{and, either, or-left, or-right, eq→eqb}
 use Rattle.order.proofs.OrderLaws.{≼→leq, leq→≼}
 use Rattle.order.proofs.ScheduleLaws.{begins-zero, begins-suc, linked-exact, links-forward}
 use Rattle.ranks.specs.Said.{linkOf, opOf, Op, link, begin, other}

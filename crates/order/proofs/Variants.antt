@@ -10,7 +10,7 @@ use Rattle.records.specs.Records.{past, has, begun, ended, begins}
 use Rattle.trace.specs.Place.{place}
 use Rattle.trace.specs.Rule.{situation, owner, numbered, wellFormed, misplaced, again, early, judge, rule}
 use Rattle.trace.specs.Reading.{accepted, demand, orElse, closing, walk, distance, trailerReply, frameReply, recordsIn, recordsReply, readReply}
-use Rattle.trace.specs.Encoding.{encode, trailer, traceOf}
+use Rattle.records.specs.Encoding.{encode, trailer, traceOf}
 use Rattle.trace.proofs.Examples.{rec}
 use Rattle.ranks.specs.Said.{opOf}
 use Rattle.order.specs.Links.{Links, within, along, some, leq}

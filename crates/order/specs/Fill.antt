@@ -5,6 +5,7 @@ use mathlib.Core.Bool.{Bool, true, false, _&&_}
 use mathlib.Core.List.{List, [], _++_}
 use lib.Dec.{leb, eqb}
 use lib.ListN.{length, drop, replicate}
+use Rattle.slices.specs.Slices.{zeros}
 use Rattle.records.specs.declared.Record.{Record}
 use Rattle.records.specs.Records.{at, past, isBegin, begins}
 use Rattle.trace.specs.Reading as reading
@@ -81,8 +82,8 @@ unfoldable pub clocksAfter : List ℕ → ℕ → List ℕ → List ℕ
 clocksAfter b width clocks = clocksAfterRead b (readReply b) width clocks
 
 -- the chain of each row, where the clocks are filled
-unfoldable pub noChains : List ℕ
-noChains = replicate 1024 0
+abbrev pub noChains : List ℕ
+noChains = zeros 1024
 
 unfoldable pub chainsAfterReply : List Record → FillReply → List ℕ
 chainsAfterReply tr (refused n p) = noChains

@@ -1,5 +1,4 @@
 // Happens-before, chains and vector clocks.
-mod clear;
 mod linking;
 pub mod links;
 mod merge;
@@ -8,11 +7,13 @@ mod rows;
 use records::Operation;
 use records::Trace;
 use records::access;
+use slices::numbers::clear;
+use slices::zeros::numbers_1024;
+use slices::zeros::numbers_1025;
 use trace::Reading;
 use trace::Refusal;
 ghost use mathlib.Core.Path.{_≡_};
 ghost use Rattle.trace.specs.Paper.{paper};
-ghost use Rattle.order.specs.Fill.{noChains};
 ghost use Rattle.order.specs.Prepare.{asked, readWithin};
 ghost use Rattle.order.specs.Paper.{refusalIn, Fills, Prepares};
 
@@ -39,13 +40,6 @@ pub fn refusal_of(f: Filling) -> Refusal
             place: Operation(0),
         },
     }
-}
-
-// A table of no chains, for 1,024 rows.
-pub fn no_chains() -> [u16; 1024]
-    ensures { λ r. ⌜ r ≡ noChains ⌝ }
-{
-    [0; 1024]
 }
 
 // Are all records from the lowest to the highest asked about in a trace of that many records? From 1 to 0 none is asked about.
@@ -111,7 +105,7 @@ pub fn prepare(
     ensures { λ r. ⌜ Prepares (now (bytes .entry)) (lowest .0) (highest .0) width room (now (clocks .entry)) (now (clocks .exit)) (now (of .exit))
         (now (all .entry)) (now (all .exit)) (r .answer) (r .trace) ⌝ }
 {
-    clear::clear(of, 1024);
+    clear(of, 1024);
     let reading = read_within(bytes, lowest.0, highest.0, width, clocks.len(), room);
     let Reading::Accepted(t) = reading else {
         return rows::unfilled(trace::refusal_of(reading));
@@ -131,8 +125,8 @@ pub fn fill(bytes: &[u8], width: usize, clocks: &mut [u16]) -> Filling
     let Reading::Accepted(t) = reading else {
         return Filling::Refused(trace::refusal_of(reading));
     };
-    let mut of = no_chains();
-    let mut all = ranks::none();
+    let mut of = numbers_1024();
+    let mut all = numbers_1025();
     rows::fill_rows(
         access::records(bytes, t),
         t.events,

@@ -4,6 +4,7 @@ use clocks::copy_row;
 use clocks::merge_row;
 use ranks::Ordering;
 use records::access;
+use slices::numbers::get;
 ghost use mathlib.Core.Path.{_≡_};
 ghost use Prim.Native.Nat.{_-_, max};
 ghost use lib.Dec.{eqb};
@@ -11,16 +12,6 @@ ghost use lib.ListN.{getD, set};
 ghost use Rattle.records.specs.Bytes.{decode};
 ghost use Rattle.clocks.specs.Rows.{rowsIf, mergeRow, copyRow};
 ghost use Rattle.order.specs.Walk.{opBy, TakesLink, FillWalks};
-
-fn number_at(hints: &[u16], u: u16) -> u16
-    ensures { λ r. ⌜ r ≡ getD (now (hints .entry)) u 0 ⌝ }
-{
-    let at = u as usize;
-    if at < hints.len() {
-        return hints[at];
-    }
-    0
-}
 
 fn hint_of(c: u16) -> u16
     ensures { λ r. ⌜ r ≡ 1024 - c ⌝ }
@@ -35,7 +26,7 @@ fn hint_of(c: u16) -> u16
 fn note(hints: &mut [u16], p: u16, u: u16)
     ensures { λ r. ⌜ now (hints .exit) ≡ set (now (hints .entry)) u (max (getD (now (hints .entry)) u 0) (1024 - getD (now (hints .entry)) p 0)) ⌝ }
 {
-    let hint = hint_of(number_at(hints, p));
+    let hint = hint_of(get(hints, p as usize));
     let at = u as usize;
     if hints.len() <= at {
         return;
@@ -50,7 +41,7 @@ fn take_link(width: usize, chains: usize, p: u16, u: u16, clocks: &mut [u16], hi
         (copyRow width chains p u (now (clocks .entry))) (mergeRow width chains p u (now (clocks .entry))) ⌝ }
     ensures { λ r. ⌜ now (hints .exit) ≡ set (now (hints .entry)) u (max (getD (now (hints .entry)) u 0) (1024 - getD (now (hints .entry)) p 0)) ⌝ }
 {
-    let hint = number_at(hints, u);
+    let hint = get(hints, u as usize);
     note(hints, p, u);
     if hint == 0 {
         copy_row(clocks, width, chains, p, u);

@@ -1,7 +1,6 @@
 // All rows in one pass over the records: at a link the earlier row is merged into the later one, and at a begin the chain is read off the merged row.
 use crate::Filling;
 use crate::Prepared;
-use crate::clear::clear;
 use crate::linking::pass_links;
 use crate::merge;
 use clocks::add_one;
@@ -9,6 +8,8 @@ use clocks::clear_rows;
 use records::Operation;
 use records::Trace;
 use records::access;
+use slices::numbers::clear;
+use slices::zeros::numbers_1024;
 use trace::Refusal;
 ghost use mathlib.Core.Path.{_≡_};
 ghost use mathlib.Core.Bool.{true};
@@ -139,7 +140,7 @@ pub(crate) fn fill_rows(
 {
     let rows = events as u16;
     ranks::fill_ranks(recs, all);
-    let mut sizes = crate::no_chains();
+    let mut sizes = numbers_1024();
     clear_rows(clocks, width, rows);
     let passed = pass(recs, all, clocks, width, &mut sizes, of);
     let position = passed.position;

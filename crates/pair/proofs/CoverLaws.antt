@@ -17,7 +17,7 @@ use Rattle.order.specs.Fill.{eventsIn}
 use Rattle.coverage.specs.Race.{before, Race, raceb}
 use Rattle.coverage.specs.Cover.{CoversFrom, one, more}
 use Rattle.coverage.specs.Leading.{leads, coveredb}
-use Rattle.coverage.proofs.Tests.{both, and}
+use Rattle.slices.proofs.Tests.{both, and}
 use Rattle.coverage.proofs.Order.{le-before, before-le, race-of, of-race, race-apart, race-after}
 use Rattle.coverage.proofs.Theorems.{cover-next}
 use Rattle.coverage.proofs.Leads.{le-leads}

@@ -13,7 +13,7 @@ use Rattle.trace.specs.Place.{place}
 use Rattle.trace.specs.Rule.{situation, owner, numbered, wellFormed, misplaced, again, early, judge, rule}
 use Rattle.trace.specs.Reading as reading
 use Rattle.trace.specs.Reading.{orElse, closing, walk, distance, trailerReply, frameReply, recordsIn, recordsReply, readReply}
-use Rattle.trace.specs.Encoding.{encode, trailer, traceOf}
+use Rattle.records.specs.Encoding.{encode, trailer, traceOf}
 use Rattle.trace.proofs.Examples.{recordsT}
 use Rattle.clocks.specs.Rows.{spaceFor}
 use Rattle.order.specs.Links.{within, along, some, leq}

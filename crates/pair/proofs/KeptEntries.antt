@@ -12,7 +12,7 @@ use lib.ListN.{length, getD, set}
 use Rattle.records.specs.declared.Record.{Record}
 use Rattle.records.specs.Records.{at, eventOf}
 use Rattle.coverage.specs.Leading.{leads, lastKept, entries}
-use Rattle.coverage.proofs.Tests.{decide-eq, passed}
+use Rattle.slices.proofs.Tests.{decide-eq, passed}
 use Rattle.coverage.proofs.Leads.{leads-self}
 use Rattle.races.specs.Traces.{settingOf}
 use Rattle.pair.specs.Leading.{mark, Marks}

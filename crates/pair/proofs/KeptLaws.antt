@@ -11,7 +11,8 @@ use lib.ListN.{length, getD, set, length-set, getD-replicate, length-replicate, 
 use lib.Seq.{getD-set-same, getD-set-other}
 use Rattle.records.specs.declared.Record.{Record}
 use Rattle.records.specs.Records.{at, isWrite, eventOf}
-use Rattle.records.specs.Marks.{noMarks}
+use Rattle.slices.specs.Slices.{zeros}
+use Rattle.slices.proofs.Cleared.{zeros-length, zeros-at}
 use Rattle.records.proofs.Positions.{lt-or-ge}
 use Rattle.trace.specs.Reading.{Acceptable}
 use Rattle.ranks.specs.Ranks.{ranksOf}
@@ -20,7 +21,7 @@ use Rattle.order.specs.HappensBefore.{Link, rank, happensBefore}
 use Rattle.coverage.specs.Race.{Race}
 use Rattle.coverage.specs.Leading.{leads}
 use Rattle.coverage.specs.Neighbours.{conflicts}
-use Rattle.coverage.proofs.Tests.{both, and, either, or-left, or-right, decide-eq, eq→eqb, passed, failed}
+use Rattle.slices.proofs.Tests.{both, and, either, or-left, or-right, decide-eq, eq→eqb, passed, failed}
 use Rattle.coverage.proofs.Order.{race-apart}
 use Rattle.coverage.proofs.Leads.{leads-self, leads-below, leads-race, leads-ahead, leads-unfold}
 use Rattle.coverage.proofs.Steps.{leads-closed}
@@ -184,20 +185,8 @@ module _ (tr : List Record) (lo : ℕ) (cells : List ℕ) where
             back (inr (m, q)) = absurd (d (sym q))
 
 -- nothing is noted
-none-long : length noMarks ≡ 1025
-unfolding noMarks
-none-long = length-replicate {A = ℕ} 1025 0
-
-none-noted : (c : ℕ) → getD noMarks c 0 ≡ 0
-unfolding noMarks
-none-noted c = go (lt-or-ge c 1025)
-  where
-    go : (c < 1025) ⊎ (1025 ≤ c) → getD noMarks c 0 ≡ 0
-    go (inl l) = getD-replicate {A = ℕ} 1025 c 0 0 l
-    go (inr l) = List·getD-eq-default noMarks 0 {n = c} (omega (arith, none-long))
-
-pub none-bytes : Bytes noMarks
-none-bytes = record { size = none-long; low = λ c. omega (arith, none-noted c) }
+pub none-bytes : Bytes (zeros 1025)
+none-bytes = record { size = zeros-length 1025; low = λ c. omega (arith, zeros-at 1025 c) }
 
 -- bytes stay at most 2
 pub noted-bytes : {tr : List Record} (a : Acceptable tr) (lo hi : ℕ) (cells cells′ : List ℕ) → hi ≤ length tr → Bytes cells → Noted tr lo hi cells cells′ → Bytes cells′
@@ -446,13 +435,13 @@ module _ {tr : List Record} (b : ℕ) (access : T (isAccess (at tr b))) {of : Li
     leads-own : (x : ℕ) → ev x ≡ ev b → Leading x
     leads-own x e = subst (λ (u : ℕ). T (leads (settingOf tr) b u)) (sym e) (leads-self (settingOf tr) (laws a) b)
 
-    module _ (work work′ row row′ cells : List ℕ) (room : rows tr ≤ length work) (zeros : (r : ℕ) → r < rows tr → getD work r 0 ≡ 0) (marked : work′ ≡ set work (rowOf tr b) 1) (noted : Noted tr lo b noMarks cells) where
+    module _ (work work′ row row′ cells : List ℕ) (room : rows tr ≤ length work) (unmarked : (r : ℕ) → r < rows tr → getD work r 0 ≡ 0) (marked : work′ ≡ set work (rowOf tr b) 1) (noted : Noted tr lo b (zeros 1025) cells) where
       pub keeps-start : {chains : ℕ} → ((x : ℕ) → x < length tr → chain x < chains) → ((c : ℕ) → getD row c 0 ≡ 0) → Merged clocks (rowOf tr b * width) chains row row′ → Kept tr b of width clocks (rowOf tr b) lo work′ row′ cells
       keeps-start few blank m = record {
         low = s .low;
         marks = λ x l k. rw marked (marks x l k (decide-eq (ev x) (ev b)));
-        zeros = λ r l. rw (marked, getD-set-other work (rowOf tr b) r 1 0 (λ e. omega arith)) (zeros r (omega (arith, row-low a b inside)));
-        levels = λ v c q l. let e = noted .tells v c q (omega (arith, none-long)) in (λ k. there v c q l (e .0 k), λ k. e .1 (inr (k .found)));
+        zeros = λ r l. rw (marked, getD-set-other work (rowOf tr b) r 1 0 (λ e. omega arith)) (unmarked r (omega (arith, row-low a b inside)));
+        levels = λ v c q l. let e = noted .tells v c q (omega (arith, zeros-length 1025)) in (λ k. there v c q l (e .0 k), λ k. e .1 (inr (k .found)));
         entries = λ x l. (λ k. up x l k, λ k. down x l k);
       }
         where
@@ -460,10 +449,10 @@ module _ {tr : List Record} (b : ℕ) (access : T (isAccess (at tr b))) {of : Li
           marks x l k (inl e) = rw (e, passed (leads (settingOf tr) b (ev b)) (leads-self (settingOf tr) (laws a) b), getD-set-same work (rowOf tr b) 1 0 (omega (arith, row-low a b inside))) refl
           marks x l k (inr n) =
               rw (getD-set-other work (rowOf tr b) (rowOf tr x) 1 0 (λ e. n (row-one a x b k inside e)), failed (leads (settingOf tr) b (ev x)) (λ h. n (own-leads x l k h)))
-              (zeros (rowOf tr x) (row-low a x k))
+              (unmarked (rowOf tr x) (row-low a x k))
 
-          there : (v c : ℕ) → 0 < v → c < 1025 → (v ≤ getD noMarks c 0) ⊎ Accessed tr v c lo b → KeptAccess tr b v c lo
-          there v c q l (inl k) = absurd (omega (arith, none-noted c))
+          there : (v c : ℕ) → 0 < v → c < 1025 → (v ≤ getD (zeros 1025) c 0) ⊎ Accessed tr v c lo b → KeptAccess tr b v c lo
+          there v c q l (inl k) = absurd (omega (arith, zeros-at 1025 c))
           there v c q l (inr k) = record { found = k; leading = leads-own (k .position) (s .same (k .position) (k .from) (omega (arith, k .below))) }
 
           entry : (x : ℕ) → x < length tr → getD row′ (chain x) 0 ≡ getD clocks (rowOf tr b * width + chain x) 0

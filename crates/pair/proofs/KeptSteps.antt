@@ -7,7 +7,8 @@ use native.Mathlib.Omega.{arith}
 use lib.ListN.{length, getD, drop, set, replicate, length-set, length-replicate, getD-replicate, List·getD-append}
 use lib.Seq.{drop-set-lt}
 use Rattle.records.specs.declared.Record.{Record}
-use Rattle.records.specs.Marks.{noMarks}
+use Rattle.slices.specs.Slices.{zeros}
+use Rattle.slices.proofs.Cleared.{zeros-at}
 use Rattle.trace.specs.Reading.{Acceptable}
 use Rattle.order.specs.Links.{leq}
 use Rattle.order.specs.HappensBefore.{traceLinks}
@@ -20,7 +21,6 @@ use Rattle.pair.specs.Kept.{rowOf, Starts, Split, Block, Noted, OneClash
 use Rattle.races.proofs.FilledLaws.{of-length, chain-fits, clocks-hold}
 use Rattle.pair.proofs.RecordRows.{row-low, row-of-block, split-at}
 use Rattle.pair.proofs.KeptLaws.{none-bytes, noted-bytes, led-leads, leads-led, keeps-by, keeps-below, keeps-merged, keeps-start, keeps-end}
-use Rattle.pair.proofs.MergeLaws.{zeros-at}
 use Rattle.races.proofs.Instance.{access-inside}
 
 -- the places of row t
@@ -166,7 +166,7 @@ module _ {tr : List Record} {of : List ℕ} {width chains : ℕ} {clocks work ro
   start-split {lo} s = rw (m .row-is) (split-at (m .filled .acceptable) lo b in-trace s)
 
   -- b's row marked, its records before b noted
-  module _ {lo : ℕ} {cells₀ cells : List ℕ} (blank : cells₀ ≡ noMarks) (noted : Noted tr lo b cells₀ cells) where
+  module _ {lo : ℕ} {cells₀ cells : List ℕ} (blank : cells₀ ≡ zeros 1025) (noted : Noted tr lo b cells₀ cells) where
     pub start-passing : (row′ : List ℕ) → length row′ ≡ length row → Passing tr of width chains clocks (set work u 1) row′ cells
     start-passing row′ e = record {
       filled = m .filled;
@@ -176,11 +176,11 @@ module _ {tr : List Record} {of : List ℕ} {width chains : ℕ} {clocks work ro
       cells-are = noted-bytes (m .filled .acceptable) lo b cells₀ cells (omega (arith, in-trace)) (rw blank none-bytes) noted;
     }
 
-    pub marks-all : (row₁ row₂ work′ row₃ cells′ : List ℕ) → row₁ ≡ replicate (length row) 0 → Merged clocks (u * width) chains row₁ row₂ → Starts tr lo b → PassesAll tr of width chains clocks u lo (set work u 1) row₂ cells work′ row₃ cells′ → MarksKept tr b work work′
+    pub marks-all : (row₁ row₂ work′ row₃ cells′ : List ℕ) → row₁ ≡ zeros (length row) → Merged clocks (u * width) chains row₁ row₂ → Starts tr lo b → PassesAll tr of width chains clocks u lo (set work u 1) row₂ cells work′ row₃ cells′ → MarksKept tr b work work′
     marks-all row₁ row₂ work′ row₃ cells′ zero merged s p = keeps-end b (m .access) (m .filled) (p .passes .keeps b (m .access) (rw (m .row-is) start)) (p .split) (m .clear .work-room) (record { size = p .passes .rest .size ∙ length-set work u 1; beyond = p .passes .rest .beyond ∙ drop-set-lt (rows tr) work u 1 row-b })
       where
         byte : (r : ℕ) → r < rows tr → getD work r 0 ≡ 0
         byte r l = ap (λ (w : List ℕ). getD w r 0) (m .clear .zeros) ∙ List·getD-append (replicate (rows tr) 0) (drop (rows tr) work) 0 r (omega (arith, length-replicate {A = ℕ} (rows tr) 0)) ∙ getD-replicate {A = ℕ} (rows tr) r 0 0 l
 
         start : Kept tr b of width clocks (rowOf tr b) lo (set work (rowOf tr b) 1) row₂ cells
-        start = keeps-start b (m .access) (m .filled) lo s work (set work (rowOf tr b) 1) row₁ row₂ cells (m .clear .work-room) byte refl (rw blank at noted) (λ x h. omega (arith, m .chains-are, chain-few (m .filled) (rowOf tr x) (row-low (m .filled .acceptable) x h))) (zeros-at row row₁ zero) (rw (m .row-is) at merged)
+        start = keeps-start b (m .access) (m .filled) lo s work (set work (rowOf tr b) 1) row₁ row₂ cells (m .clear .work-room) byte refl (rw blank at noted) (λ x h. omega (arith, m .chains-are, chain-few (m .filled) (rowOf tr x) (row-low (m .filled .acceptable) x h))) (λ c. ap (λ (l : List ℕ). getD l c 0) zero ∙ zeros-at (length row) c) (rw (m .row-is) at merged)

@@ -1,13 +1,12 @@
--- A clock row merged into a row, entry by entry; a row of zeros. Assumes nothing.
+-- A clock row merged into a row, entry by entry. Assumes nothing.
 use Prim.Native.Nat.{ℕ, _+_, _≤_, _<_, max}
 use mathlib.Core.Path.{_≡_, refl, ap, _∙_}
 use mathlib.Core.Logic.{_≢_, _⊎_, inl, inr}
 use mathlib.Core.List.{List}
 use native.Mathlib.Omega.{arith}
-use lib.ListN.{length, getD, take, drop, set, replicate, length-set, getD-replicate, length-replicate, List·getD-eq-default}
+use lib.ListN.{length, getD, take, drop, set, length-set}
 use lib.Seq.{getD-set-same, getD-set-other, getD-drop, getD-take, ext-getD}
-use Rattle.records.proofs.Positions.{lt-or-ge}
-use Rattle.coverage.proofs.Tests.{decide-eq}
+use Rattle.slices.proofs.Tests.{decide-eq}
 use Rattle.pair.specs.Kept.{Merged}
 
 -- merged as far as chain c
@@ -37,16 +36,6 @@ module _ (part row : List ℕ) where
 -- a part of the clocks
 pub merged-part : (clocks row row′ : List ℕ) (at n chains : ℕ) → chains ≤ n → Merged (take n (drop at clocks)) 0 chains row row′ → Merged clocks at chains row row′
 merged-part clocks row row′ at n chains h m = record { size = m .size; tells = λ d k. let e : 0 + d ≡ d = omega arith in m .tells d k ∙ ap (max (getD row d 0)) (rw e (getD-take n (drop at clocks) d 0 (omega arith) ∙ getD-drop at clocks d 0)) }
-
-pub zeros-at : (row row′ : List ℕ) → row′ ≡ replicate (length row) 0 → (c : ℕ) → getD row′ c 0 ≡ 0
-zeros-at row row′ e c = ap (λ (l : List ℕ). getD l c 0) e ∙ go (lt-or-ge c (length row))
-  where
-    none : List ℕ
-    none = replicate (length row) 0
-
-    go : (c < length row) ⊎ (length row ≤ c) → getD none c 0 ≡ 0
-    go (inl l) = getD-replicate {A = ℕ} (length row) c 0 0 l
-    go (inr l) = List·getD-eq-default none 0 (omega (arith, length-replicate {A = ℕ} (length row) 0))
 
 -- an entry set to what it is
 pub set-own : (l : List ℕ) (i v : ℕ) → v ≡ getD l i 0 → set l i v ≡ l

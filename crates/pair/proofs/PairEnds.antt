@@ -21,7 +21,7 @@ use Rattle.order.specs.Prepare.{asked, prepareTrace, noTrace}
 use Rattle.order.specs.Paper.{fillPaper, Prepares}
 use Rattle.order.proofs.EntryLaws.{records-are}
 use Rattle.order.proofs.PrepareLaws.{refused-reply, refused-trace, refused-clocks, missing-reply, missing-trace, missing-clocks, accepted-reply, accepted-trace}
-use Rattle.coverage.proofs.Tests.{both, and, same}
+use Rattle.slices.proofs.Tests.{both, and, same}
 use Rattle.pair.specs.declared.PairAnswer.{PairAnswer}
 use Rattle.races.specs.Filled as hand
 use Rattle.pair.specs.Pair.{PairReply, refused, pairPaper, demand, isRecord, areRecords, pairFilled, pairTrace, pairClocks, pairWork, AnswersFilled, pairRead, pairReply, clocksAfterPair, workAfterPair, PairPromise, ListAfter, entriesGiven}

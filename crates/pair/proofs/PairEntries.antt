@@ -15,7 +15,7 @@ use Rattle.trace.proofs.Blocks.{contiguous}
 use Rattle.order.specs.HappensBefore.{rank}
 use Rattle.coverage.specs.Below.{upto}
 use Rattle.coverage.specs.Leading.{leads, lastKept, entries}
-use Rattle.coverage.proofs.Tests.{both, either, decide, decide-eq, eq→eqb}
+use Rattle.slices.proofs.Tests.{both, either, decide, decide-eq, eq→eqb}
 use Rattle.coverage.proofs.Lists.{upto-zero, upto-yes, upto-no}
 use Rattle.races.specs.Traces.{settingOf}
 use Rattle.races.specs.Filled.{rows}

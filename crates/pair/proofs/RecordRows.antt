@@ -15,7 +15,7 @@ use Rattle.trace.proofs.Blocks.{Passes, passes-at, contiguous, apart, end-last}
 use Rattle.trace.proofs.PlaceRule.{Outside, begins, joins, Inside, ends, forks, reads, writes, outside, inside}
 use Rattle.order.specs.HappensBefore.{rank}
 use Rattle.order.proofs.TraceOrder.{record-begins, begins-rank, begins-at, counted-passes, rank-one}
-use Rattle.coverage.proofs.Tests.{decide-eq}
+use Rattle.slices.proofs.Tests.{decide-eq}
 use Rattle.races.specs.Filled.{rows}
 use Rattle.pair.specs.Kept.{rowOf, Starts, Split, Block}
 use Rattle.races.proofs.CoverNumbers.{named, numbered}

@@ -16,7 +16,7 @@ use Rattle.order.specs.Fill.{eventsIn}
 use Rattle.coverage.specs.Race.{Race, raceb}
 use Rattle.coverage.specs.Arrangement.{Accesses}
 use Rattle.coverage.specs.Leading.{coveredb, entries, written}
-use Rattle.coverage.proofs.Tests as tests
+use Rattle.slices.proofs.Tests as tests
 use Rattle.coverage.proofs.Theorems.{race-iff}
 use Rattle.races.specs.Traces.{settingOf}
 use Rattle.races.proofs.ThirdDemand.{passes-21, passes-22, passes-23, passes-24, suffices, lists-suffice, exactly, open-by, acceptable, begun, lists-demand}

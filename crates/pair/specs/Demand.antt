@@ -16,12 +16,12 @@ use Rattle.races.specs.Demand.{Suffices, OpenBy, ListsSuffice, ListsDemand}
 use Rattle.pair.specs.declared.PairAnswer.{PairAnswer}
 use Rattle.pair.specs.declared.PairAnswer.the-variants as pair
 use Rattle.pair.specs.Pair as question
-use Rattle.pair.specs.Pair.{PairPromise, GivesCover, pairTrace, keptEntries, withEntries}
+use Rattle.pair.specs.Pair.{entryNumbers, PairPromise, GivesCover, pairTrace, keptEntries, withEntries}
 
 module _ (tr : List Record) where
   -- "24: .. for the pair question fewer than event actions": an entry is two numbers
   abbrev pub PairSuffices : ℕ → ℕ → ℕ → ℕ → Type 0
-  PairSuffices width clocks work list = Suffices tr width clocks work (list / 2) (eventsIn tr)
+  PairSuffices width clocks work list = Suffices tr width clocks work (list / entryNumbers) (eventsIn tr)
 
   -- the pair question on a race (a, b), by position: it is answered, open or covered
   pub record PairDemand (a b : ℕ) (list list′ : List ℕ) (r : PairAnswer) : Type 0 where

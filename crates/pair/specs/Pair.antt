@@ -18,6 +18,10 @@ use Rattle.pair.specs.declared.PairAnswer.the-variants.{Open, Covered, R
 use Rattle.races.specs.Traces.{settingOf}
 use Rattle.races.specs.Lists.{workFor, clocksTrace, workTrace}
 
+-- "entries (event, last record kept)", "a cover as entries (first, second)"
+abbrev pub entryNumbers : ℕ
+entryNumbers = 2
+
 -- a refusal's number and place; open, with the number of entries; or covered, where "Only one part is free, the cover given for a covered pair"
 pub data PairReply : Type 0 where
   refused : ℕ → ℕ → PairReply
@@ -53,11 +57,11 @@ answered true n = isCovered
 answered false n = isOpen n
 
 -- Records a and b by position, clocks filled. "12: the two records asked about are no race, first then second."; "24: list space too short: .. for the
--- pair question fewer than event actions", two numbers for an entry.
+-- pair question fewer than event actions".
 unfoldable pub pairFilled : List Record → ℕ → ℕ → ℕ → ℕ → PairReply
 pairFilled tr events listSpace a b =
     demand (raceb (settingOf tr) a b) 12 0
-    (demand (leb events (listSpace / 2)) 24 0
+    (demand (leb events (listSpace / entryNumbers)) 24 0
     (answered (coveredb (settingOf tr) a b) (length (entries (settingOf tr) b))))
 
 -- An accepted trace of that many event actions, a and b by record number. "22: lists and the pair question only, work space shorter in bytes than the

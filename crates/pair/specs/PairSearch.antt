@@ -17,7 +17,7 @@ use Rattle.coverage.specs.Leading.{leads, lastKept}
 use Rattle.races.specs.Traces.{settingOf}
 use Rattle.pair.specs.Kept.{rowOf}
 use Rattle.pair.specs.Leading.{Marks}
-use Rattle.pair.specs.Pair.{withEntries, raceEntries}
+use Rattle.pair.specs.Pair.{entryNumbers, withEntries, raceEntries}
 
 -- the entries of an open pair from the records before i: the event, and the last record kept by its number
 abbrev pub entryAt : List Record → ℕ → ℕ × ℕ
@@ -28,7 +28,7 @@ keptBelow tr b i = map (entryAt tr) (upto i (lastKept (settingOf tr) b))
 
 -- the entry of an event action that ends at record i is written where its mark is 1
 pub record PutsEnd (tr : List Record) (byte i k : ℕ) (list list′ : List ℕ) (r : ℕ) : Type 0 where
-  pub put : byte ≡ 1 → (r ≡ k + 1) × (list′ ≡ set (set list (2 * k) (eventOf (at tr i))) (2 * k + 1) (i + 1))
+  pub put : byte ≡ 1 → (r ≡ k + 1) × (list′ ≡ set (set list (entryNumbers * k) (eventOf (at tr i))) (entryNumbers * k + 1) (i + 1))
   pub skipped : byte ≢ 1 → (r ≡ k) × (list′ ≡ list)
 
 -- record c races with record d, and the event action of t happens before that of c

@@ -14,7 +14,7 @@ ghost use Rattle.coverage.specs.Race.{Race};
 ghost use Rattle.coverage.specs.Leading.{coveredb};
 ghost use Rattle.races.specs.Traces.{settingOf};
 ghost use Rattle.races.specs.Filled.{Filled, RowsIn, rows};
-ghost use Rattle.pair.specs.Pair.{GivesCover};
+ghost use Rattle.pair.specs.Pair.{entryNumbers, GivesCover};
 ghost use Rattle.pair.specs.PairSearch.{goesOn, FirstFrom, Sought, Next};
 ghost use Rattle.pair.specs.Leading.{Marks};
 ghost use lib.Dec.{T};
@@ -122,7 +122,7 @@ pub(crate) fn put_cover(
 ) -> usize
     requires { ⌜ Filled (decode (now recs)) (now ranks) (now of) width (now clocks) × Marks (decode (now recs)) (now ranks) (now work) b ⌝ }
     requires { ⌜ Race (settingOf (decode (now recs))) a b × T (coveredb (settingOf (decode (now recs))) a b)
-        × (2 * rows (decode (now recs)) ≤ length (now list)) ⌝ }
+        × (entryNumbers * rows (decode (now recs)) ≤ length (now list)) ⌝ }
     ensures { λ r. ⌜ GivesCover (decode (now (recs .entry))) a b r (now (list .entry)) (now (list .exit)) ⌝ }
 {
     let mut t = a;

@@ -1,11 +1,13 @@
 // The event actions that lead to an access, by the clocks: found from the row of the access down.
 use records::access;
-use records::marks;
+use slices::numbers::clear;
+use slices::numbers::larger;
+use slices::zeros::bytes_1025;
 ghost use mathlib.Core.Path.{_≡_};
 ghost use mathlib.Core.Logic.{_↔_};
 ghost use Prim.Native.Nat.{suc, _+_, _-_, _≤_, _<_, max};
 ghost use lib.Dec.{T};
-ghost use lib.ListN.{length, getD, set, replicate};
+ghost use lib.ListN.{length, getD, set};
 ghost use Rattle.records.specs.Bytes.{decode};
 ghost use Rattle.trace.specs.Reading.{Acceptable};
 ghost use Rattle.races.specs.Filled.{rows};
@@ -89,15 +91,6 @@ fn have_conflict(recs: &[u8], lo: usize, hi: usize, cells: &[u8]) -> bool
     false
 }
 
-fn larger(x: u16, y: u16) -> u16
-    ensures { λ r. ⌜ r ≡ max x y ⌝ }
-{
-    if x < y {
-        return y;
-    }
-    x
-}
-
 fn merge_part(part: &[u16], row: &mut [u16], chains: usize)
     requires { ⌜ (chains ≤ length (now part)) × (chains ≤ length (now row)) ⌝ }
     ensures { λ u. ⌜ Merged (now (part .entry)) 0 chains (now (row .entry)) (now (row .exit)) ⌝ }
@@ -116,17 +109,6 @@ fn merge_into(clocks: &[u16], at: usize, row: &mut [u16], chains: usize)
 {
     let e = at + chains;
     merge_part(&clocks[at..e], row, chains);
-}
-
-fn clear(row: &mut [u16])
-    ensures { λ u. ⌜ now (row .exit) ≡ replicate (length (now (row .entry))) 0 ⌝ }
-{
-    let n = row.len();
-    let mut i = 0;
-    while i < n {
-        row[i] = 0;
-        i += 1;
-    }
 }
 
 // Passes row t, whose records stand from lo on, before hi: it is kept where it happens before a kept one, or conflicts with one.
@@ -201,8 +183,8 @@ pub(crate) fn mark_leading(
     requires { ⌜ Markable (decode (now recs)) (now of) width chains (now clocks) (now work) (now row) u b ⌝ }
     ensures { λ x. ⌜ MarksKept (decode (now (recs .entry))) b (now (work .entry)) (now (work .exit)) ⌝ }
 {
-    let mut cells = marks::none();
-    clear(row);
+    let mut cells = bytes_1025();
+    clear(row, row.len());
     merge_into(clocks, u * width, row, chains);
     let lo = block_start(recs, b);
     note(recs, lo, b, &mut cells);

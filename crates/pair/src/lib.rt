@@ -7,10 +7,14 @@ use order::Filling;
 use ranks::row_at;
 use records::Operation;
 use records::access;
-use records::marks;
+use slices::bytes::clear;
+use slices::numbers::larger;
+use slices::numbers::smaller;
+use slices::zeros::numbers_1024;
+use slices::zeros::numbers_1025;
 use trace::Refusal;
 ghost use mathlib.Core.Path.{_≡_};
-ghost use Prim.Native.Nat.{_+_, _*_, _/_, _≤_, _<_, min, max};
+ghost use Prim.Native.Nat.{_+_, _*_, _≤_, _<_};
 ghost use lib.ListN.{length, getD, set};
 ghost use Rattle.records.specs.Bytes.{decode};
 ghost use Rattle.ranks.specs.Ranks.{ranksOf};
@@ -19,9 +23,12 @@ ghost use Rattle.coverage.specs.Race.{raceb};
 ghost use Rattle.coverage.specs.Leading.{entries};
 ghost use Rattle.races.specs.Traces.{settingOf};
 ghost use Rattle.races.specs.Filled.{Filled, rows, Clear};
-ghost use Rattle.pair.specs.Pair.{pairPaper, PairReply, withEntries, keptEntries, AnswersFilled, PairPromise};
+ghost use Rattle.pair.specs.Pair.{entryNumbers, pairPaper, PairReply, withEntries, keptEntries, AnswersFilled, PairPromise};
 ghost use Rattle.pair.specs.PairSearch.{PutsEnd};
 ghost use Rattle.pair.specs.Leading.{Marks};
+
+// An entry's numbers: an event and its last record, or a race's two records.
+pub const ENTRY_NUMBERS: usize = 2;
 
 // What the pair question finds: open or covered, with the number of entries given, or why it is refused.
 pub enum PairAnswer {
@@ -32,16 +39,16 @@ pub enum PairAnswer {
 
 // Writes entry k of the list space.
 pub(crate) fn put_entry(list: &mut [u16], k: usize, first: u16, second: u16)
-    requires { ⌜ 2 * k + 1 < length (now list) ⌝ }
-    ensures { λ u. ⌜ now (list .exit) ≡ set (set (now (list .entry)) (2 * k) first) (2 * k + 1) second ⌝ }
+    requires { ⌜ entryNumbers * k + 1 < length (now list) ⌝ }
+    ensures { λ u. ⌜ now (list .exit) ≡ set (set (now (list .entry)) (entryNumbers * k) first) (entryNumbers * k + 1) second ⌝ }
 {
-    list[2 * k] = first;
-    list[2 * k + 1] = second;
+    list[ENTRY_NUMBERS * k] = first;
+    list[ENTRY_NUMBERS * k + 1] = second;
 }
 
 // Writes the entry of the event action that ends at record i, of row t, where it is kept; gives the number of entries then.
 fn put_end(recs: &[u8], work: &[u8], t: usize, i: usize, list: &mut [u16], k: usize) -> usize
-    requires { ⌜ (t < length (now work)) × (i < 4096) × (getD (now work) t 0 ≡ 1 → 2 * k + 1 < length (now list)) ⌝ }
+    requires { ⌜ (t < length (now work)) × (i < 4096) × (getD (now work) t 0 ≡ 1 → entryNumbers * k + 1 < length (now list)) ⌝ }
     ensures { λ r. ⌜ PutsEnd (decode (now (recs .entry))) (getD (now (work .entry)) t 0) i k (now (list .entry)) (now (list .exit)) r ⌝ }
 {
     if work[t] != 1 {
@@ -53,7 +60,7 @@ fn put_end(recs: &[u8], work: &[u8], t: usize, i: usize, list: &mut [u16], k: us
 
 // Writes the entries of an open pair whose second record is b; gives their number.
 fn put_kept(recs: &[u8], work: &[u8], b: usize, list: &mut [u16]) -> usize
-    requires { ⌜ Marks (decode (now recs)) (ranksOf (decode (now recs))) (now work) b × (2 * rows (decode (now recs)) ≤ length (now list)) ⌝ }
+    requires { ⌜ Marks (decode (now recs)) (ranksOf (decode (now recs))) (now work) b × (entryNumbers * rows (decode (now recs)) ≤ length (now list)) ⌝ }
     ensures { λ r. ⌜ (r ≡ length (entries (settingOf (decode (now (recs .entry)))) b))
         × (now (list .exit) ≡ withEntries (keptEntries (decode (now (recs .entry))) b) (now (list .entry))) ⌝ }
 {
@@ -122,7 +129,7 @@ fn ask_filled(
     if !is_race_in_order(recs, all, of, width, clocks, a, b) {
         return refused(trace::NO_RACE);
     }
-    if list.len() / 2 < events {
+    if list.len() / ENTRY_NUMBERS < events {
         return refused(trace::LIST_SPACE);
     }
     let t = row_at(recs, all, a);
@@ -131,30 +138,12 @@ fn ask_filled(
     if work[t] == 1 {
         ranks::fill_ranks(recs, all);
         let count = cover::put_cover(recs, all, of, width, clocks, work, list, a, b);
-        marks::clear(work, events);
+        clear(work, events);
         return PairAnswer::Covered(count);
     }
     let count = put_kept(recs, work, b, list);
-    marks::clear(work, events);
+    clear(work, events);
     PairAnswer::Open(count)
-}
-
-fn larger(a: u16, b: u16) -> u16
-    ensures { λ r. ⌜ r ≡ max a b ⌝ }
-{
-    if a < b {
-        return b;
-    }
-    a
-}
-
-fn smaller(a: u16, b: u16) -> u16
-    ensures { λ r. ⌜ r ≡ min a b ⌝ }
-{
-    if a < b {
-        return a;
-    }
-    b
 }
 
 // The pair question: clocks are filled on the way, and entries are two numbers each in the list space.
@@ -170,8 +159,8 @@ pub fn ask_pair(
     ensures { λ r. ⌜ PairPromise (now (bytes .entry)) width (now (clocks .entry)) (now (clocks .exit))
         (now (work .entry)) (now (work .exit)) (now (list .entry)) (now (list .exit)) (a .0) (b .0) r ⌝ }
 {
-    let mut of = order::no_chains();
-    let mut all = ranks::none();
+    let mut of = numbers_1024();
+    let mut all = numbers_1025();
     let lowest = smaller(a.0, b.0);
     let highest = larger(a.0, b.0);
     let prepared = order::prepare(
@@ -186,7 +175,7 @@ pub fn ask_pair(
     );
     let t = prepared.trace;
     let events = t.events;
-    marks::clear(work, events);
+    clear(work, events);
     let answer = prepared.answer;
     let Filling::Filled(chains) = answer else {
         return PairAnswer::Refused(order::refusal_of(answer));

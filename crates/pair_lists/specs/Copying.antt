@@ -7,7 +7,7 @@ use lib.ListN.{length, getD, set}
 use Rattle.trace.specs.Reading.{readReply}
 use Rattle.races.specs.declared.Listing.{Listing}
 use Rattle.races.specs.declared.Listing.the-variants.{Listed, Refused}
-use Rattle.races.specs.Lists.{listReply, clocksRead, workRead}
+use Rattle.races.specs.Lists.{entryNumbers, listReply, clocksRead, workRead}
 use Rattle.races.specs.Paper.{listPaper}
 use Rattle.pair_lists.specs.declared.Pair.{Pair}
 use Rattle.pair_lists.specs.declared.Made.{Made}
@@ -27,7 +27,7 @@ pub record Within (short : Bool) (b : List ℕ) (width : ℕ) (clocks clocks′ 
 
 -- the pair that the numbers say at place i
 abbrev pub pairAt : List ℕ → ℕ → Pair
-pairAt l i = record { first = operation (getD l (5 * i) 0); second = operation (getD l (5 * i + 1) 0); cell = var (getD l (5 * i + 2) 0); shape = getD l (5 * i + 3) 0; mark = getD l (5 * i + 4) 0 }
+pairAt l i = record { first = operation (getD l (entryNumbers * i) 0); second = operation (getD l (entryNumbers * i + 1) 0); cell = var (getD l (entryNumbers * i + 2) 0); shape = getD l (entryNumbers * i + 3) 0; mark = getD l (entryNumbers * i + 4) 0 }
 
 -- the first n places are set, in their order
 abbrev pub puts : List Pair → List ℕ → ℕ → List Pair

@@ -8,7 +8,7 @@ use Rattle.records.specs.declared.Record.{Record}
 use Rattle.trace.specs.Reading as reading
 use Rattle.trace.specs.Reading.{recordsIn, readReply}
 use Rattle.races.specs.declared.Listing.{Listing}
-use Rattle.races.specs.Lists.{pairsOf}
+use Rattle.races.specs.Lists.{entryNumbers, pairsOf}
 use Rattle.races.specs.Demand.{Suffices, ListAnswers}
 use Rattle.pair_lists.specs.declared.Pair.{Pair}
 use Rattle.pair_lists.specs.Pairs.{noPair, PairLists}
@@ -30,7 +30,7 @@ pub record Names (pairs : List Pair) (count cell : ℕ) : Type 0 where
 
 -- "24: list space too short: fewer entries than the list has": of the two spaces the one with fewer entries counts
 abbrev pub PairListSuffices : List Record → Bool → ℕ → ℕ → ℕ → ℕ → ℕ → Type 0
-PairListSuffices tr short width clocks work numbers pairs = Suffices tr width clocks work (min (numbers / 5) pairs) (length (pairsOf tr short))
+PairListSuffices tr short width clocks work numbers pairs = Suffices tr width clocks work (min (numbers / entryNumbers) pairs) (length (pairsOf tr short))
 
 -- "Take every accepted trace, whatever the lent spaces held before, so long as they and the clock width suffice for the call."
 pub record ThirdDemand : Type 0 where

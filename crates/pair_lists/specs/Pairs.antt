@@ -11,7 +11,7 @@ use Rattle.records.specs.Records.{at}
 use Rattle.trace.specs.Reading as reading
 use Rattle.trace.specs.Reading.{Reply, recordsIn, readReply}
 use Rattle.races.specs.declared.Listing.{Listing}
-use Rattle.races.specs.Lists.{pairsOf, shapeOf, markOf, ListReply, refused, listed, listTrace, listReply, listAfter, clocksRead, workRead}
+use Rattle.races.specs.Lists.{entryNumbers, pairsOf, shapeOf, markOf, ListReply, refused, listed, listTrace, listReply, listAfter, clocksRead, workRead}
 use Rattle.races.specs.Paper.{listPaper}
 use Rattle.pair_lists.specs.declared.Pair.{Pair}
 
@@ -27,7 +27,7 @@ pairOf tr (a, b) = record { first = operation (a + 1); second = operation (b + 1
 
 -- "24: list space too short: fewer entries than the list has": of the two spaces the one with fewer entries counts, as a number of numbers
 abbrev pub space : ℕ → ℕ → ℕ
-space numbers pairs = min numbers (5 * pairs)
+space numbers pairs = min numbers (entryNumbers * pairs)
 
 -- "list entries past the count and all other bytes are unchanged"
 unfoldable pub pairsAfter : List Record → ListReply → List (ℕ × ℕ) → List Pair → List Pair

@@ -1,4 +1,5 @@
 // Both lists as pair structs, written into a lent slice: the lists over numbers, and a copy of their entries. Thin: all decisions are made over numbers.
+use races::ENTRY_NUMBERS;
 use races::Listing;
 use records::Operation;
 use records::Var;
@@ -6,6 +7,7 @@ ghost use mathlib.Core.Path.{_≡_};
 ghost use mathlib.Core.Bool.{true, false};
 ghost use Prim.Native.Nat.{_+_, _*_, _≤_};
 ghost use lib.ListN.{length};
+ghost use Rattle.races.specs.Lists.{entryNumbers};
 ghost use Rattle.races.specs.Paper.{Lists};
 ghost use Rattle.pair_lists.specs.Pairs.{space, PairLists};
 ghost use Rattle.pair_lists.specs.Copying.{countIn, Within, pairAt, puts};
@@ -38,10 +40,10 @@ fn count_of(answer: Listing) -> usize
 fn space_for(numbers: usize, pairs: usize) -> usize
     ensures { λ r. ⌜ (r ≡ space numbers pairs) × (r ≤ numbers) ⌝ }
 {
-    if numbers / 5 < pairs {
+    if numbers / ENTRY_NUMBERS < pairs {
         return numbers;
     }
-    5 * pairs
+    ENTRY_NUMBERS * pairs
 }
 
 fn list_numbers(
@@ -82,12 +84,12 @@ fn list_within(
     }
 }
 
-// The pair that five numbers say.
+// The pair that an entry's numbers say.
 fn pair_at(numbers: &[u16], i: usize) -> Pair
-    requires { ⌜ 5 * i + 5 ≤ length (now numbers) ⌝ }
+    requires { ⌜ entryNumbers * i + entryNumbers ≤ length (now numbers) ⌝ }
     ensures { λ r. ⌜ r ≡ pairAt (now (numbers .entry)) i ⌝ }
 {
-    let k = 5 * i;
+    let k = ENTRY_NUMBERS * i;
     Pair {
         first: Operation(numbers[k]),
         second: Operation(numbers[k + 1]),
@@ -99,7 +101,7 @@ fn pair_at(numbers: &[u16], i: usize) -> Pair
 
 // The first n pairs are set to what the numbers say.
 fn copy_out(pairs: &mut [Pair], numbers: &[u16], n: usize)
-    requires { ⌜ (n ≤ length (now pairs)) × (5 * n ≤ length (now numbers)) ⌝ }
+    requires { ⌜ (n ≤ length (now pairs)) × (entryNumbers * n ≤ length (now numbers)) ⌝ }
     ensures { λ u. ⌜ now (pairs .exit) ≡ puts (now (pairs .entry)) (now (numbers .entry)) n ⌝ }
 {
     let mut i = 0;
@@ -127,7 +129,7 @@ fn list_into(
     made.answer
 }
 
-// The list of all races of a trace, written into the pairs. The numbers are the list's space while it is made, five for an entry.
+// The list of all races of a trace, written into the pairs. The numbers are the list's space while it is made.
 pub fn all_races_into(
     bytes: &[u8],
     width: usize,

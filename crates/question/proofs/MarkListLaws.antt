@@ -12,9 +12,10 @@ use borrow.Author.Tests.{eq-eqb, ne-eqb}
 use Rattle.order.specs.Links.{Links, Forward, leq}
 use Rattle.ranks.specs.Said.{Op, link, begin, other}
 use Rattle.order.specs.Schedule.{begins, Stands, Ordered, Makes}
-use Rattle.question.specs.Marking.{markBy, marksDown, marked, markIn, marksDownIn, noMarks, marksIn}
-use Rattle.coverage.proofs.Tests.{decide-eq}
-use Rattle.order.proofs.Tests.{decide-lt}
+use Rattle.slices.specs.Slices.{zeros}
+use Rattle.slices.proofs.Cleared.{zeros-length, zeros-at}
+use Rattle.question.specs.Marking.{markBy, marksDown, marked, markIn, marksDownIn, marksIn}
+use Rattle.slices.proofs.Tests.{decide-eq, decide-lt}
 use Rattle.order.proofs.ScheduleLaws.{begins-mono}
 use Rattle.question.proofs.MarkLaws.{marks-begin}
 
@@ -60,24 +61,12 @@ marks-down-in op (suc i) k ms e room t =
     marks-down-in op i k (markIn (op i) ms) (mark-in-length (op i) ms ∙ e) (λ j h. room j (omega arith)) t
     ∙ ap (λ m. marksDown op i m t) (fun-ext (mark-in (op i) ms (subst (λ x. Room x (op i)) (sym e) (room i (omega arith)))))
 
-pub no-marks-length : (k : ℕ) → length (noMarks k) ≡ k
-unfolding noMarks
-no-marks-length k = length-replicate k 0
-
-pub no-marks-at : (k t : ℕ) → getD (noMarks k) t 0 ≡ 0
-unfolding noMarks
-no-marks-at k t = go (decide-lt t k)
-  where
-    go : (t < k) ⊎ (k ≤ t) → getD (noMarks k) t 0 ≡ 0
-    go (inl h) = getD-replicate k t 0 0 h
-    go (inr h) = List·getD-eq-default (noMarks k) 0 (omega (arith, no-marks-length k))
-
-first-marks : (u k : ℕ) → u < k → (t : ℕ) → marked (set (noMarks k) u 1) t ≡ eqb u t
+first-marks : (u k : ℕ) → u < k → (t : ℕ) → marked (set (zeros k) u 1) t ≡ eqb u t
 first-marks u k h t = go (decide-eq t u)
   where
-    go : (t ≡ u) ⊎ (t ≢ u) → marked (set (noMarks k) u 1) t ≡ eqb u t
-    go (inl e) = rw (e, getD-set-same (noMarks k) u 1 0 (omega (arith, no-marks-length k)), eq-eqb u u refl)
-    go (inr n) = rw (getD-set-other (noMarks k) u t 1 0 n, no-marks-at k t, ne-eqb u t (λ i. n (sym i)))
+    go : (t ≡ u) ⊎ (t ≢ u) → marked (set (zeros k) u 1) t ≡ eqb u t
+    go (inl e) = rw (e, getD-set-same (zeros k) u 1 0 (omega (arith, zeros-length k)), eq-eqb u u refl)
+    go (inr n) = rw (getD-set-other (zeros k) u t 1 0 n, zeros-at k t, ne-eqb u t (λ i. n (sym i)))
 
 stands-room : (b k : ℕ) (o : Op) → b ≤ k → Stands b o → Room k o
 stands-room b k (link p v) h s = omega (arith, s .0)
@@ -88,7 +77,7 @@ stands-room b k other h s = tt
 module _ (l : Links) (fw : Forward l) (op : ℕ → Op) (n : ℕ) (w : Ordered op n) (makes : Makes op n l) where
   pub marks-list : (k u i : ℕ) → begins op n ≤ k → u < begins op n → i < n → op i ≡ begin u → (t : ℕ) → marked (marksIn op i u k) t ≡ leq l t u
   marks-list k u i h b a e t =
-      marks-down-in op i k (set (noMarks k) u 1) (length-set (noMarks k) u 1 ∙ no-marks-length k) room t
+      marks-down-in op i k (set (zeros k) u 1) (length-set (zeros k) u 1 ∙ zeros-length k) room t
       ∙ (ap (λ m. marksDown op i m t) (fun-ext (first-marks u k (omega arith))) ∙ marks-begin l fw op n w makes u b i a e t)
     where
       room : (j : ℕ) → j < i → Room k (op j)

@@ -20,7 +20,9 @@ use Rattle.order.specs.Links.{leq}
 use Rattle.order.specs.Chains.{lasts, chain, used, needs, first}
 use Rattle.order.specs.Clocks.{table, chainOf}
 use Rattle.order.specs.Schedule.{begins}
-use Rattle.question.specs.Marking.{marked, marksIn, marksDownIn, markIn, noMarks}
+use Rattle.slices.specs.Slices.{zeros}
+use Rattle.slices.proofs.Cleared.{zeros-at}
+use Rattle.question.specs.Marking.{marked, marksIn, marksDownIn, markIn}
 use Rattle.ranks.specs.Said.{Op, link, begin, other}
 use Rattle.order.specs.HappensBefore.{opAt, traceLinks}
 use Rattle.ranks.specs.Ranks.{ranksOf}
@@ -30,7 +32,7 @@ use Rattle.question.specs.ChainPass.{Members, markedChain, ownChain, ent
 use Rattle.order.proofs.CountLaws.{firstFrom-local}
 use Rattle.order.proofs.ChainLaws.{chain-search, chain-le-used, used-zero, used-suc, last-own, last-other, needs-at, needs-none}
 use Rattle.order.proofs.ScheduleLaws.{begins-zero, begins-suc, begins-mono, links-made}
-use Rattle.question.proofs.MarkListLaws.{marks-list, no-marks-at}
+use Rattle.question.proofs.MarkListLaws.{marks-list}
 use Rattle.order.proofs.RowLaws.{table-length}
 use Rattle.order.proofs.RankLaws.{ops-are}
 use Rattle.order.proofs.TraceOrder.{ops-ordered, forward-links}
@@ -78,13 +80,13 @@ module _ {tr : List Record} (a : Acceptable tr) (asked w : ℕ) (narrow : w ≤ 
     pub own-is : s .own ≡ getD (chains-of a w [] (begins op i)) asked 0
 
   pub keeping-start : (ls : List ℕ) → length ls ≡ 1024 → Keeping 0 (record { lasts = ls; chains = 0; own = 0 })
-  unfolding noMarks table
+  unfolding zeros table
   keeping-start ls h = record {
     lasts-are = λ c l. absurd (omega (arith, l, none));
     lasts-size = h;
     chains-are = sym none;
     chains-fit = omega arith;
-    own-is = rw (begins-zero op) (sym (no-marks-at 1024 asked));
+    own-is = rw (begins-zero op) (sym (zeros-at 1024 asked));
   }
     where
       none : used le (begins op 0) ≡ 0

@@ -4,7 +4,8 @@ use Prim.Native.Nat.{ℕ, zero, suc}
 use mathlib.Core.Bool.{Bool, cond, _&&_, _||_}
 use mathlib.Core.List.{List}
 use lib.Dec.{eqb}
-use lib.ListN.{getD, set, replicate}
+use lib.ListN.{getD, set}
+use Rattle.slices.specs.Slices.{zeros}
 use Rattle.ranks.specs.Said.{Op, link, begin, other}
 
 unfoldable pub markBy : Op → (ℕ → Bool) → ℕ → Bool
@@ -33,8 +34,5 @@ unfoldable pub marksDownIn : (ℕ → Op) → ℕ → List ℕ → List ℕ
 marksDownIn op zero ms = ms
 marksDownIn op (suc i) ms = marksDownIn op i (markIn (op i) ms)
 
-unfoldable pub noMarks : ℕ → List ℕ
-noMarks k = replicate k 0
-
 abbrev pub marksIn : (ℕ → Op) → ℕ → ℕ → ℕ → List ℕ
-marksIn op i u k = marksDownIn op i (set (noMarks k) u 1)
+marksIn op i u k = marksDownIn op i (set (zeros k) u 1)

@@ -2,41 +2,22 @@
 use ranks::Ordering;
 use ranks::ordering_at;
 use records::access;
+use slices::bytes::clear;
+use slices::bytes::get;
+use slices::bytes::put;
+use slices::zeros::bytes_1024;
+use slices::zeros::numbers_1024;
 ghost use mathlib.Core.Path.{_≡_};
 ghost use Prim.Native.Nat.{_≤_, _<_};
-ghost use lib.ListN.{length, set};
+ghost use lib.ListN.{length};
 ghost use Rattle.records.specs.Bytes.{decode};
-ghost use Rattle.order.specs.Fill.{noChains};
-ghost use Rattle.question.specs.Marking.{noMarks, marked, markIn, marksIn};
+ghost use Rattle.question.specs.Marking.{marked, markIn, marksIn};
 ghost use Rattle.question.specs.ChainPass.{markedChain, ownChain, enterChain, saidBy, turnMembers, RoomFor, AreMembers, ReadyChains, PassesChains};
-
-fn no_chains() -> [u16; 1024]
-    ensures { λ r. ⌜ r ≡ noChains ⌝ }
-{
-    [0; 1024]
-}
-
-fn no_marks() -> [u8; 1024]
-    ensures { λ r. ⌜ r ≡ noMarks 1024 ⌝ }
-{
-    [0; 1024]
-}
 
 fn is_marked(marks: &[u8], row: usize) -> bool
     ensures { λ r. ⌜ r ≡ marked (now (marks .entry)) row ⌝ }
 {
-    if marks.len() <= row {
-        return false;
-    }
-    marks[row] == 1
-}
-
-fn set_mark(marks: &mut [u8], row: usize)
-    ensures { λ u. ⌜ now (marks .exit) ≡ set (now (marks .entry)) row 1 ⌝ }
-{
-    if row < marks.len() {
-        marks[row] = 1;
-    }
+    get(marks, row) == 1
 }
 
 // A link whose later end is marked marks its earlier end.
@@ -47,7 +28,7 @@ fn mark_link(recs: &[u8], ranks: &[u16], i: usize, marks: &mut [u8])
     match said {
         Ordering::Link(from, to) => {
             if is_marked(marks, to as usize) {
-                set_mark(marks, from as usize);
+                put(marks, from as usize, 1);
             }
         }
         Ordering::Begin(_) => {}
@@ -55,23 +36,12 @@ fn mark_link(recs: &[u8], ranks: &[u16], i: usize, marks: &mut [u8])
     }
 }
 
-fn clear_marks(marks: &mut [u8])
-    ensures { λ u. ⌜ now (marks .exit) ≡ noMarks (length (now (marks .entry))) ⌝ }
-{
-    let n = marks.len();
-    let mut i = 0;
-    while i < n {
-        marks[i] = 0;
-        i += 1;
-    }
-}
-
 // The rows that happen before row u, which begins at position i, in the lent table, whatever it held.
 fn mark_before(recs: &[u8], ranks: &[u16], i: usize, u: usize, marks: &mut [u8])
     ensures { λ r. ⌜ now (marks .exit) ≡ marksIn (saidBy (now (ranks .entry)) (decode (now (recs .entry)))) i u (length (now (marks .entry))) ⌝ }
 {
-    clear_marks(marks);
-    set_mark(marks, u);
+    clear(marks, marks.len());
+    put(marks, u, 1);
     let mut j = i;
     while 0 < j {
         j -= 1;
@@ -185,8 +155,8 @@ pub(crate) fn chain_pass(recs: &[u8], ranks: &[u16], asked: usize, width: usize)
     ensures { λ r. ⌜ PassesChains (decode (now (recs .entry))) asked width (r .position) (r .chain) ⌝ }
 {
     let n = access::count(recs);
-    let mut marks = no_marks();
-    let mut lasts = no_chains();
+    let mut marks = bytes_1024();
+    let mut lasts = numbers_1024();
     let mut taken = Taken { chains: 0, own: 0 };
     let mut i = 0;
     while i < n {

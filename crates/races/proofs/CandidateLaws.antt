@@ -15,7 +15,7 @@ use lib.Seq.{getD-set-same, getD-set-other}
 use Rattle.records.specs.declared.Record.{Record}
 use Rattle.records.specs.Records.{at, past, isRead, isWrite, eventOf}
 use Rattle.trace.specs.Reading.{Acceptable}
-use Rattle.records.specs.Marks.{noMarks}
+use Rattle.slices.specs.Slices.{zeros}
 use Rattle.trace.specs.Place.{place}
 use Rattle.trace.specs.Rule.{situation, numbered}
 use Rattle.records.proofs.Positions.{lt-or-ge}
@@ -24,7 +24,7 @@ use Rattle.trace.proofs.Marked.{formed}
 use Rattle.trace.proofs.Going.{in-range}
 use Rattle.coverage.specs.Race.{raceb}
 use Rattle.coverage.specs.Neighbours.{conflicts}
-use Rattle.coverage.proofs.Tests.{decide, both, and, either, or-left, or-right, eq→eqb}
+use Rattle.slices.proofs.Tests.{decide, both, and, either, or-left, or-right, eq→eqb}
 use Rattle.races.specs.Traces.{isAccess, cellsOf, settingOf}
 use Rattle.races.specs.Candidates.{cell, accesses, writes, startOf, Upto, lastWrite, Seen, Tables, orderedIn, seenAfter, wayFrom}
 use Rattle.records.specs.Search.{leastKind, mayRace, Past, NextAccess}
@@ -193,8 +193,8 @@ cell-low {tr} a x h = go (ltb (at tr x .kind) 3) (formed (at tr x) (passes-at a 
 
 -- The numbers of the cells, one record after the other.
 module _ (tr : List Record) (short : Bool) where
-  pub tables-none : Tables tr short 0 noMarks noMarks
-  unfolding noMarks
+  pub tables-none : Tables tr short 0 (zeros 1025) (zeros 1025)
+  unfolding zeros
   tables-none = record {
     seen-size = length-replicate {A = ℕ} 1025 0;
     written-size = length-replicate {A = ℕ} 1025 0;

@@ -11,7 +11,7 @@ use Rattle.records.specs.declared.Record.{Record}
 use Rattle.records.specs.Records.{at}
 use Rattle.trace.specs.Reading.{Acceptable}
 use Rattle.ranks.specs.Ranks.{ranksOf}
-use Rattle.coverage.proofs.Tests.{decide-eq}
+use Rattle.slices.proofs.Tests.{decide-eq}
 use Rattle.order.specs.Links.{leq}
 use Rattle.order.specs.Chains.{used}
 use Rattle.order.specs.Clocks.{chainOf, largest, flat}

@@ -18,7 +18,7 @@ use Rattle.coverage.specs.Race.{Race, raceb}
 use Rattle.coverage.specs.Neighbours.{neighbour}
 use Rattle.coverage.specs.Lists.{shortList}
 use Rattle.coverage.specs.Whole.{Edges, Direct, taken}
-use Rattle.coverage.proofs.Tests.{both, and}
+use Rattle.slices.proofs.Tests.{both, and}
 use Rattle.coverage.proofs.Lists.{in-map, map-in, in-upto, upto-in}
 use Rattle.coverage.proofs.Order.{race-of, of-race}
 use Rattle.coverage.proofs.Short.{neighbour-iff}

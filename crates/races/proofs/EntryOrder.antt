@@ -13,7 +13,7 @@ use Rattle.coverage.specs.Below.{Listed, Sooner, Ordered}
 use Rattle.coverage.specs.Race.{Race, raceb}
 use Rattle.coverage.specs.Neighbours.{neighbour}
 use Rattle.coverage.specs.Whole.{Edges, taken}
-use Rattle.coverage.proofs.Tests.{both, and}
+use Rattle.slices.proofs.Tests.{both, and}
 use Rattle.coverage.proofs.Order.{race-of, of-race}
 use Rattle.coverage.proofs.Short.{neighbour-iff}
 use Rattle.coverage.proofs.Pairs.{all-ordered, short-ordered, in-all, in-short}

@@ -27,7 +27,7 @@ use Rattle.order.proofs.ComparedLaws.{compared-before}
 use Rattle.coverage.specs.Race.{before, raceb}
 use Rattle.coverage.specs.Neighbours.{conflicts}
 use Rattle.races.specs.Traces.{cellsOf, settingOf, conflict, clash}
-use Rattle.coverage.proofs.Tests.{eq→eqb}
+use Rattle.slices.proofs.Tests.{eq→eqb}
 use Rattle.races.specs.Filled.{Filled, RowsIn}
 
 module _ {tr : List Record} {ranks of : List ℕ} {width : ℕ} {clocks : List ℕ} (f : Filled tr ranks of width clocks) where

@@ -13,7 +13,7 @@ use Rattle.trace.proofs.Blocks as blocks
 use Rattle.order.specs.HappensBefore.{Link}
 use Rattle.order.proofs.TraceLaws as order
 use Rattle.coverage.specs.Setting.{Laws}
-use Rattle.coverage.proofs.Tests.{either}
+use Rattle.slices.proofs.Tests.{either}
 use Rattle.coverage.proofs.Steps.{Links, GoOn}
 use Rattle.races.specs.Traces.{isAccess, settingOf}
 

@@ -20,8 +20,8 @@ use Rattle.coverage.specs.Below.{upto, pairs, only}
 use Rattle.coverage.specs.Race.{raceb}
 use Rattle.coverage.specs.Neighbours.{conflicts, writeBetween, neighbour}
 use Rattle.coverage.specs.Lists.{allRaces, shortList}
-use Rattle.coverage.proofs.Tests.{both, and, or-left, or-right, decide, found, find, eq→eqb, passed}
-use Rattle.coverage.proofs.Tests.{same as equal-tests}
+use Rattle.slices.proofs.Tests.{both, and, or-left, or-right, decide, eq→eqb, passed, same as equal-tests}
+use Rattle.coverage.proofs.Below.{found, find}
 use Rattle.coverage.proofs.Lists.{upto-ext, upto-zero, upto-yes, upto-no, upto-empty}
 use Rattle.races.specs.Traces.{isAccess, cellsOf, settingOf, conflict}
 use Rattle.races.specs.Lists.{pairsOf}

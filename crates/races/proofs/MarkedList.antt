@@ -12,7 +12,7 @@ use lib.Seq.{sets, sets-eq, getD-set-same, getD-set-other, drop-at}
 use Rattle.records.specs.declared.Record.{Record}
 use Rattle.records.specs.Records.{at, isWrite}
 use Rattle.coverage.specs.Leading.{coveredb}
-use Rattle.coverage.proofs.Tests.{decide-eq, passed}
+use Rattle.slices.proofs.Tests.{decide-eq, passed}
 use Rattle.races.specs.Traces.{settingOf}
 use Rattle.races.specs.Lists.{pairsOf, shapeOf, markOf, numbers}
 use Rattle.races.specs.ListPass.{pairsBelow, raw, raws, WritesAll}

@@ -9,8 +9,8 @@ use lib.Dec.{leb, eqb}
 use lib.ListN.{length, drop, replicate}
 use Rattle.records.specs.declared.Record.{Record}
 use Rattle.records.specs.declared.Trace.{Trace}
-use Rattle.records.specs.Marks.{cleared}
-use Rattle.records.proofs.MarkLaws.{cleared-within}
+use Rattle.slices.specs.Slices.{cleared}
+use Rattle.slices.proofs.Cleared.{cleared-within}
 use Rattle.trace.specs.Reading as reading
 use Rattle.trace.specs.Reading.{Reply, recordsIn, readReply}
 use Rattle.trace.proofs.Accepted.{accepts}

@@ -22,8 +22,7 @@ use Rattle.order.specs.Numbering.{Firsts, wholeOf, coverRow, coverRowAt}
 use Rattle.order.proofs.CountLaws.{count-none}
 use Rattle.order.proofs.ChainLaws.{chain-below, used-le-self}
 use Rattle.order.proofs.SetLaws.{row-count}
-use Rattle.coverage.proofs.Tests.{both}
-use Rattle.order.proofs.Tests.{decide-lt}
+use Rattle.slices.proofs.Tests.{both, decide-lt}
 use Rattle.order.proofs.CoverRows.{cover-first, cover-none, cover-next, cover-last, start-in-place}
 use Rattle.races.specs.Traces.{settingOf}
 use Rattle.races.proofs.Instance.{laws}

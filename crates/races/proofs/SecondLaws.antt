@@ -7,7 +7,7 @@ use mathlib.Core.List.{List}
 use native.Mathlib.Omega.{arith}
 use lib.ListN.{length, set}
 use Rattle.records.specs.declared.Record.{Record}
-use Rattle.coverage.proofs.Tests.{decide-eq}
+use Rattle.slices.proofs.Tests.{decide-eq}
 use Rattle.races.specs.Lists.{markOf}
 use Rattle.races.specs.Filled.{RowsIn}
 use Rattle.races.specs.Marking.{first, second, Remarked}

@@ -15,7 +15,7 @@ use Rattle.ranks.specs.Said.{begin}
 use Rattle.coverage.specs.Race.{Race}
 use Rattle.coverage.specs.Leading.{coveredb}
 use Rattle.coverage.specs.Whole.{Edges}
-use Rattle.coverage.proofs.Tests.{decide-eq, same as equal-tests}
+use Rattle.slices.proofs.Tests.{decide-eq, same as equal-tests}
 use Rattle.order.specs.Sets.{index}
 use Rattle.order.specs.Schedule.{linked}
 use Rattle.order.specs.Clocks.{chainOf, entry, largest}

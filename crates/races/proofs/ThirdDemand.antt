@@ -27,7 +27,7 @@ use Rattle.coverage.specs.Cover.{Open}
 use Rattle.coverage.specs.Arrangement.{Accesses, Accessible}
 use Rattle.coverage.specs.Leading.{coveredb, entries, written}
 use Rattle.coverage.specs.Demand.{OpenExactly}
-use Rattle.coverage.proofs.Tests as tests
+use Rattle.slices.proofs.Tests as tests
 use Rattle.coverage.proofs.Theorems.{in-all, open-exactly, open-cells, race-iff}
 use Rattle.races.specs.declared.Listing.{Listing}
 use Rattle.races.specs.declared.Listing.the-variants.{Listed, Refused}

@@ -17,7 +17,7 @@ use Rattle.races.specs.declared.Listing.{Listing}
 use Rattle.races.specs.declared.Listing.the-variants.{Listed}
 use Rattle.races.specs.declared.Summary.{Summary}
 use Rattle.races.specs.Traces.{settingOf}
-use Rattle.races.specs.Lists.{pairsOf, refused, listTrace}
+use Rattle.races.specs.Lists.{entryNumbers, pairsOf, refused, listTrace}
 use Rattle.races.specs.Paper.{Lists}
 
 -- "A list calls a pair open by the mark of its entry": one of its first `count` entries, of five numbers each, is of records a and b (numbered
@@ -25,16 +25,16 @@ use Rattle.races.specs.Paper.{Lists}
 pub record Calls (list : List ℕ) (count a b mark : ℕ) : Type 0 where
   pub index : ℕ
   pub inside : index < count
-  pub first : getD list (5 * index + 0) 0 ≡ a + 1
-  pub second : getD list (5 * index + 1) 0 ≡ b + 1
-  pub marked : getD list (5 * index + 4) 0 ≡ mark
+  pub first : getD list (entryNumbers * index + 0) 0 ≡ a + 1
+  pub second : getD list (entryNumbers * index + 1) 0 ≡ b + 1
+  pub marked : getD list (entryNumbers * index + 4) 0 ≡ mark
 
 -- "the short list names a cell as open when it has an entry of that cell marked open"
 pub record Names (list : List ℕ) (count cell : ℕ) : Type 0 where
   pub index : ℕ
   pub inside : index < count
-  pub of-cell : getD list (5 * index + 2) 0 ≡ cell
-  pub open-mark : getD list (5 * index + 4) 0 ≡ 1
+  pub of-cell : getD list (entryNumbers * index + 2) 0 ≡ cell
+  pub open-mark : getD list (entryNumbers * index + 4) 0 ≡ 1
 
 -- "width and spaces suffice for a call when none of 21 to 24 applies to it": to a call on an accepted trace, with list space for that many entries
 module _ (tr : List Record) where
@@ -52,7 +52,7 @@ module _ (tr : List Record) where
 
   -- "24: .. fewer entries than the list has": an entry is five numbers
   abbrev pub ListSuffices : Bool → ℕ → ℕ → ℕ → ℕ → Type 0
-  ListSuffices short width clocks work list = Suffices width clocks work (list / 5) (length (pairsOf tr short))
+  ListSuffices short width clocks work list = Suffices width clocks work (list / entryNumbers) (length (pairsOf tr short))
 
   -- "call the pair open exactly when the event actions can be arranged, each whole but the last, keeping happens-before and the order of all
   -- other races as document 01 defines, so that b is run and a is not. This is so exactly when no sequence of races covers the pair."

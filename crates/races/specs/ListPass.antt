@@ -13,7 +13,7 @@ use Rattle.order.specs.HappensBefore.{rank}
 use Rattle.coverage.specs.Below.{upto}
 use Rattle.coverage.specs.Race.{raceb}
 use Rattle.races.specs.Traces.{isAccess, settingOf}
-use Rattle.races.specs.Lists.{shapeOf, numbers}
+use Rattle.races.specs.Lists.{entryNumbers, shapeOf, numbers}
 use Rattle.races.specs.Candidates.{cell, startOf, Range}
 use Rattle.records.specs.Search.{leastKind, mayRace}
 use Rattle.races.specs.Filled.{Filled}
@@ -61,10 +61,10 @@ pub record OneRoom (writing : Bool) (tr : List Record) (ranks of : List ℕ) (wi
   pub earlier : a < b
   pub may : T (mayRace tr (leastKind (at tr b .kind)) (cell tr b) a)
   pub few : k ≤ 4096 * b + a
-  pub space : T writing → raceb (settingOf tr) a b ≡ true → 5 * k + 5 ≤ length list
+  pub space : T writing → raceb (settingOf tr) a b ≡ true → entryNumbers * k + entryNumbers ≤ length list
 
 abbrev pub entryIf : Bool → List Record → ℕ → ℕ → ℕ → List ℕ → List ℕ
-entryIf true tr a b k list = sets list (5 * k) (raw tr a b)
+entryIf true tr a b k list = sets list (entryNumbers * k) (raw tr a b)
 entryIf false tr a b k list = list
 
 pub record OneWrites (writing : Bool) (tr : List Record) (a b k : ℕ) (list list′ : List ℕ) (r : ℕ) : Type 0 where
@@ -74,12 +74,12 @@ pub record OneWrites (writing : Bool) (tr : List Record) (a b k : ℕ) (list lis
 -- list space for its entries from entry k on, where they are written
 pub record RoomIf (writing : Bool) (tr : List Record) (b from k : ℕ) (list : List ℕ) : Type 0 where
   pub few : k ≤ 4096 * b
-  pub space : T writing → 5 * (k + length (firsts tr from b b)) ≤ length list
+  pub space : T writing → entryNumbers * (k + length (firsts tr from b b)) ≤ length list
 
 -- its entries are written from entry k on, or only counted
 pub record Writes (writing : Bool) (tr : List Record) (b from k : ℕ) (list list′ : List ℕ) (r : ℕ) : Type 0 where
   pub next : r ≡ k + length (firsts tr from b b)
-  pub list-is : list′ ≡ cond writing (sets list (5 * k) (raws tr (withSecond tr b (firsts tr from b b)))) list
+  pub list-is : list′ ≡ cond writing (sets list (entryNumbers * k) (raws tr (withSecond tr b (firsts tr from b b)))) list
 
 -- so are all entries
 pub record WritesAll (writing : Bool) (tr : List Record) (short : Bool) (list list′ : List ℕ) (r : ℕ) : Type 0 where
@@ -93,8 +93,8 @@ pub record Ample (short : Bool) (n entries : ℕ) : Type 0 where
 
 -- r tells whether a list space holds the entries, and whether there are any
 pub record Counts (tr : List Record) (short : Bool) (space r : ℕ) : Type 0 where
-  pub fits : r ≤ space / 5 → length (pairsBelow tr short (length tr)) ≤ space / 5
-  pub long : space / 5 < r → space / 5 < length (pairsBelow tr short (length tr))
+  pub fits : r ≤ space / entryNumbers → length (pairsBelow tr short (length tr)) ≤ space / entryNumbers
+  pub long : space / entryNumbers < r → space / entryNumbers < length (pairsBelow tr short (length tr))
   pub none : r ≡ 0 → length (pairsBelow tr short (length tr)) ≡ 0
 
 -- all entries are written, with their marks

@@ -15,6 +15,10 @@ use Rattle.coverage.specs.Leading.{coveredb}
 use Rattle.coverage.specs.Lists.{allRaces, shortList}
 use Rattle.races.specs.Traces.{cellsOf, settingOf}
 
+-- "An entry of either has first, second, cell, shape and mark."
+abbrev pub entryNumbers : ℕ
+entryNumbers = 5
+
 module _ (tr : List Record) where
   -- the pairs (first, second) of the short list, or of "the list of all races"
   unfoldable pub pairsOf : Bool → List (ℕ × ℕ)
@@ -29,7 +33,7 @@ module _ (tr : List Record) where
   unfoldable pub markOf : ℕ → ℕ → ℕ
   markOf a b = cond (coveredb (settingOf tr) a b) 0 1
 
-  -- "An entry of either has first, second, cell, shape and mark.", as numbers; records are numbered from 1
+  -- the same sentence, as numbers; records are numbered from 1
   unfoldable pub entry : ℕ → ℕ → List ℕ
   entry a b = (a + 1) ∷ (b + 1) ∷ at tr b .second ∷ shapeOf a b ∷ markOf a b ∷ []
 
@@ -52,7 +56,7 @@ workFor events work = leb events work
 
 -- "24: list space too short: fewer entries than the list has"
 abbrev pub listFor : ℕ → ℕ → Bool
-listFor count list = leb count (list / 5)
+listFor count list = leb count (list / entryNumbers)
 
 -- a trace whose clocks are filled: 24
 unfoldable pub listFilled : Bool → List Record → ℕ → ℕ → ListReply
@@ -77,7 +81,7 @@ listReply short b width clocks work list = listRead short b (readReply b) width 
 -- "list entries past the count and all other bytes are unchanged"
 unfoldable pub listAfter : List Record → ListReply → List (ℕ × ℕ) → List ℕ → List ℕ
 listAfter tr (refused n p) ps list = list
-listAfter tr (listed e r c k) ps list = numbers tr ps ++ drop (5 * length ps) list
+listAfter tr (listed e r c k) ps list = numbers tr ps ++ drop (entryNumbers * length ps) list
 
 module _ (tr : List Record) (events width : ℕ) where
   -- "23: .. The first event actions × width clocks are then 0"; 24: "The clocks stay filled."

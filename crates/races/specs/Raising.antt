@@ -10,7 +10,7 @@ use Rattle.records.specs.declared.Record.{Record}
 use Rattle.records.specs.Records.{at}
 use Rattle.order.specs.Fill.{eventsIn}
 use Rattle.order.specs.Walk.{walkFrom}
-use Rattle.races.specs.Lists.{pairsOf, markOf, numbers}
+use Rattle.races.specs.Lists.{entryNumbers, pairsOf, markOf, numbers}
 use Rattle.races.specs.ListPass.{raws}
 use Rattle.races.specs.Marking.{first, second, Remarked}
 use Rattle.races.specs.Filled.{RowsIn}
@@ -20,13 +20,13 @@ use Rattle.clocks.specs.Rows.{compareIn, rowsIf, mergeRow}
 pub record Unmarked (tr : List Record) (list : List ℕ) (count : ℕ) : Type 0 where
   pub short : Bool
   pub count-is : count ≡ length (pairsOf tr short)
-  pub list-is : list ≡ raws tr (pairsOf tr short) ++ drop (5 * count) list
+  pub list-is : list ≡ raws tr (pairsOf tr short) ++ drop (entryNumbers * count) list
 
 -- All marks are right, and the clocks are as before.
 pub record MarksList (tr : List Record) (clocks clocks′ list list′ : List ℕ) (count : ℕ) : Type 0 where
   pub clocks-stay : clocks′ ≡ clocks
   pub remarked : Remarked tr 0 count list list′
-  pub list-is : (u : Unmarked tr list count) → list′ ≡ numbers tr (pairsOf tr (u .short)) ++ drop (5 * count) list
+  pub list-is : (u : Unmarked tr list count) → list′ ≡ numbers tr (pairsOf tr (u .short)) ++ drop (entryNumbers * count) list
 
 -- the row of record i's event action, by a list of ranks
 abbrev pub rowIn : List Record → List ℕ → ℕ → ℕ
@@ -38,7 +38,7 @@ markIn of width clocks t u = cond (compareIn clocks width (getD of t 0) t u) 0 1
 
 -- the entries from k on that have one second access, whose row u is at hand: their marks are told by the rows
 pub record Markable (tr : List Record) (ranks of : List ℕ) (width : ℕ) (clocks : List ℕ) (u : ℕ) (list : List ℕ) (k count : ℕ) : Type 0 where
-  pub room : 5 * count ≤ length list
+  pub room : entryNumbers * count ≤ length list
   pub some : k < count
   pub numbers : (i : ℕ) → k ≤ i → i < count → 0 < first list i
   pub rows : (i : ℕ) → k ≤ i → i < count → second list i ≡ second list k → RowsIn of width clocks (rowIn tr ranks (first list i - 1)) u
@@ -56,11 +56,11 @@ pub record MarksSecond (tr : List Record) (list list′ : List ℕ) (k count e :
 -- Of the d entries from k on, the last first: the row of an open one is merged into row u, down to the first one whose first access writes (shape not 3).
 module _ (tr : List Record) (ranks : List ℕ) (width chains u : ℕ) (list : List ℕ) where
   unfoldable pub raiseBy : ℕ → List ℕ → List ℕ
-  raiseBy j clocks = rowsIf (eqb (getD list (5 * j + 4) 0) 1) (mergeRow width chains (rowIn tr ranks (first list j - 1)) u clocks) clocks
+  raiseBy j clocks = rowsIf (eqb (getD list (entryNumbers * j + 4) 0) 1) (mergeRow width chains (rowIn tr ranks (first list j - 1)) u clocks) clocks
 
   unfoldable pub raiseDown : ℕ → ℕ → List ℕ → List ℕ
   raiseDown k zero clocks = clocks
-  raiseDown k (suc d) clocks = let raised = raiseBy (k + d) clocks in rowsIf (eqb (getD list (5 * (k + d) + 3) 0) 3) (raiseDown k d raised) raised
+  raiseDown k (suc d) clocks = let raised = raiseBy (k + d) clocks in rowsIf (eqb (getD list (entryNumbers * (k + d) + 3) 0) 3) (raiseDown k d raised) raised
 
 -- Where raising stands: at the begin of that row, with the chains taken by it and those before; and the clocks.
 pub record Place : Type 0 where

@@ -7,17 +7,9 @@ ghost use Prim.Native.Nat.{_+_, _-_, _≤_, _<_};
 ghost use lib.Dec.{eqb};
 ghost use lib.ListN.{length, set};
 ghost use Rattle.records.specs.Bytes.{decode};
-ghost use Rattle.records.specs.Marks.{noMarks};
 ghost use Rattle.races.specs.Filled.{RowsIn};
 ghost use Rattle.races.specs.Candidates.{orderedIn, seenAfter, wayFrom, wayTo};
 ghost use Rattle.records.specs.Search.{leastKind, mayRace, NextAccess};
-
-// A number for each cell, none yet.
-pub(crate) fn no_numbers() -> [u16; 1025]
-    ensures { λ r. ⌜ r ≡ noMarks ⌝ }
-{
-    [0; 1025]
-}
 
 // By the number of a cell: do all its accesses from the start on happen before row u, or belong to it? It is 0 where there are none, and above 1,024
 // where no such row is known.

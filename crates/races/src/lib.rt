@@ -9,6 +9,9 @@ use trace::Refusal;
 ghost use mathlib.Core.Bool.{true, false};
 ghost use Rattle.races.specs.Paper.{Lists};
 
+// An entry's numbers, in this order: first, second, cell, shape (1 ww, 2 wr, 3 rw) and mark (1 open, 0 covered).
+pub const ENTRY_NUMBERS: usize = 5;
+
 // A list that was made: its event actions, records, chains used and entries.
 pub struct Summary {
     pub events: usize,
@@ -23,8 +26,7 @@ pub enum Listing {
     Refused(Refusal),
 }
 
-// The list of all races of a trace: entries of five numbers, first, second, cell, shape (1 ww, 2 wr, 3 rw) and mark (1 open, 0 covered), ordered by
-// second record, then first.
+// The list of all races of a trace, its entries ordered by second record, then first.
 pub fn all_races(
     bytes: &[u8],
     width: usize,

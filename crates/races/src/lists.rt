@@ -1,8 +1,8 @@
 // Both lists: for each second access, the first accesses that race with it, counted, then written, then marked.
+use crate::ENTRY_NUMBERS;
 use crate::Listing;
 use crate::Summary;
 use crate::candidates::is_ordered;
-use crate::candidates::no_numbers;
 use crate::candidates::note_access;
 use crate::candidates::way_from;
 use crate::candidates::way_to;
@@ -12,8 +12,10 @@ use order::Filling;
 use ranks::row_at;
 use records::Operation;
 use records::access;
-use records::marks;
 use records::search;
+use slices::bytes::clear;
+use slices::zeros::numbers_1024;
+use slices::zeros::numbers_1025;
 use trace::Refusal;
 ghost use mathlib.Core.Path.{_≡_};
 ghost use mathlib.Core.Bool.{cond};
@@ -23,7 +25,7 @@ ghost use lib.ListN.{length};
 ghost use lib.Seq.{sets};
 ghost use Rattle.records.specs.Bytes.{decode};
 ghost use Rattle.order.specs.Fill.{eventsIn, chainsUsed};
-ghost use Rattle.races.specs.Lists.{shapeOf, ListReply};
+ghost use Rattle.races.specs.Lists.{entryNumbers, shapeOf, ListReply};
 ghost use Rattle.races.specs.Paper.{listPaper, ListsFilled, Lists};
 ghost use Rattle.races.specs.ListPass.{fromOf, pairsBelow, raw, Second, OneRoom, OneWrites, RoomIf, Writes, WritesAll, Ample, Counts, ListsAll};
 ghost use Rattle.races.specs.Candidates.{Range, Tables};
@@ -44,10 +46,10 @@ fn shape_of(recs: &[u8], a: usize, b: usize) -> u16
 
 // Entry k of the list: the race of records a and b, its mark still 0.
 fn put_entry(recs: &[u8], a: usize, b: usize, list: &mut [u16], k: usize)
-    requires { ⌜ (a < b) × (b < 4096) × (5 * k + 5 ≤ length (now list)) ⌝ }
-    ensures { λ u. ⌜ now (list .exit) ≡ sets (now (list .entry)) (5 * k) (raw (decode (now (recs .entry))) a b) ⌝ }
+    requires { ⌜ (a < b) × (b < 4096) × (entryNumbers * k + entryNumbers ≤ length (now list)) ⌝ }
+    ensures { λ u. ⌜ now (list .exit) ≡ sets (now (list .entry)) (entryNumbers * k) (raw (decode (now (recs .entry))) a b) ⌝ }
 {
-    let at = 5 * k;
+    let at = ENTRY_NUMBERS * k;
     list[at] = (a + 1) as u16;
     list[at + 1] = (b + 1) as u16;
     list[at + 2] = access::cell_at(recs, b).0;
@@ -183,12 +185,12 @@ fn list_all(
     writing: bool,
 ) -> usize
     requires { ⌜ Filled (decode (now recs)) (now ranks) (now of) width (now clocks) ×
-        (T writing → 5 * length (pairsBelow (decode (now recs)) short (length (decode (now recs)))) ≤ length (now list)) ⌝ }
+        (T writing → entryNumbers * length (pairsBelow (decode (now recs)) short (length (decode (now recs)))) ≤ length (now list)) ⌝ }
     ensures { λ r. ⌜ WritesAll writing (decode (now (recs .entry))) short (now (list .entry)) (now (list .exit)) r ⌝ }
 {
     let n = access::count(recs);
-    let mut seen = no_numbers();
-    let mut written = no_numbers();
+    let mut seen = numbers_1025();
+    let mut written = numbers_1025();
     let mut k = 0;
     let mut begun = 0;
     let mut b = 0;
@@ -222,7 +224,7 @@ fn list_all(
 // Does the list space hold the list, however many entries it has? The short list has at most two for a record, the list of all races at most one for
 // each pair of records.
 fn is_ample(short: bool, records: usize, space: usize) -> bool
-    ensures { λ r. ⌜ (T r → (1 < records) × Ample short records (space / 5)) ⌝ }
+    ensures { λ r. ⌜ (T r → (1 < records) × Ample short records (space / entryNumbers)) ⌝ }
 {
     if records < 2 {
         return false;
@@ -231,9 +233,9 @@ fn is_ample(short: bool, records: usize, space: usize) -> bool
         return false;
     }
     if short {
-        return records <= space / 10;
+        return records <= space / ENTRY_NUMBERS / 2;
     }
-    records * records / 2 <= space / 5
+    records * records / 2 <= space / ENTRY_NUMBERS
 }
 
 // How many entries there are, or 1 where there is space for them in any case.
@@ -267,7 +269,7 @@ fn write_all(
     short: bool,
 ) -> usize
     requires { ⌜ Filled (decode (now recs)) (now ranks) (now of) width (now clocks) × (events ≡ eventsIn (decode (now recs))) ⌝ }
-    requires { ⌜ 5 * length (pairsBelow (decode (now recs)) short (length (decode (now recs)))) ≤ length (now list) ⌝ }
+    requires { ⌜ entryNumbers * length (pairsBelow (decode (now recs)) short (length (decode (now recs)))) ≤ length (now list) ⌝ }
     ensures { λ r. ⌜ ListsAll (decode (now (recs .entry))) short (now (list .entry)) (now (list .exit)) r × (now (clocks .exit) ≡ now (clocks .entry)) ⌝ }
 {
     let found = list_all(recs, ranks, of, width, clocks, list, short, true);
@@ -313,7 +315,7 @@ fn list_filled(
         (now (list .exit)) r ⌝ }
 {
     let counted = count_all(recs, all, of, width, clocks, list, short);
-    if list.len() / 5 < counted {
+    if list.len() / ENTRY_NUMBERS < counted {
         return refused(trace::LIST_SPACE);
     }
     let records = access::count(recs);
@@ -336,8 +338,8 @@ pub(crate) fn list_races(
     ensures { λ r. ⌜ Lists short (now (bytes .entry)) width (now (clocks .entry)) (now (clocks .exit)) (now (work .entry)) (now (work .exit))
         (now (list .entry)) (now (list .exit)) r ⌝ }
 {
-    let mut of = order::no_chains();
-    let mut all = ranks::none();
+    let mut of = numbers_1024();
+    let mut all = numbers_1025();
     let prepared = order::prepare(
         bytes,
         Operation(1),
@@ -350,7 +352,7 @@ pub(crate) fn list_races(
     );
     let t = prepared.trace;
     let events = t.events;
-    marks::clear(work, events);
+    clear(work, events);
     let answer = prepared.answer;
     let Filling::Filled(chains) = answer else {
         return Listing::Refused(order::refusal_of(answer));

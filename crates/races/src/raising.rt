@@ -1,5 +1,6 @@
 // The marks of a list's entries by the rows of the combined order, happens-before and the races of the list: made in place in the lent clocks, event
 // action by event action.
+use crate::ENTRY_NUMBERS;
 use crate::racing::comes_before;
 use crate::refilling::refill;
 use clocks::merge_row;
@@ -11,6 +12,7 @@ ghost use lib.ListN.{length, getD};
 ghost use Rattle.records.specs.Bytes.{decode};
 ghost use Rattle.order.specs.Fill.{eventsIn};
 ghost use Rattle.races.specs.Filled.{Filled, RowsIn};
+ghost use Rattle.races.specs.Lists.{entryNumbers};
 ghost use Rattle.races.specs.Marking.{first};
 ghost use Rattle.races.specs.Raising.{Unmarked, MarksList, markIn, Markable, MarksSecond, raiseBy, raiseDown, MayGo, Went, MarksAll};
 
@@ -40,14 +42,14 @@ fn mark_second(
     requires { ⌜ Markable (decode (now recs)) (now ranks) (now of) width (now clocks) u (now list) k count ⌝ }
     ensures { λ r. ⌜ MarksSecond (decode (now (recs .entry))) (now (list .entry)) (now (list .exit)) k count r ⌝ }
 {
-    let second = list[5 * k + 1];
+    let second = list[ENTRY_NUMBERS * k + 1];
     let mut e = k;
     while e < count {
-        if list[5 * e + 1] != second {
+        if list[ENTRY_NUMBERS * e + 1] != second {
             return e;
         }
-        let t = row_at(recs, ranks, (list[5 * e] - 1) as usize);
-        list[5 * e + 4] = mark_of(of, width, clocks, t, u);
+        let t = row_at(recs, ranks, (list[ENTRY_NUMBERS * e] - 1) as usize);
+        list[ENTRY_NUMBERS * e + 4] = mark_of(of, width, clocks, t, u);
         e += 1;
     }
     e
@@ -64,14 +66,14 @@ fn raise_by(
     list: &[u16],
     j: usize,
 )
-    requires { ⌜ (5 * j + 5 ≤ length (now list)) × (u < 65536) × (0 < first (now list) j) ⌝ }
+    requires { ⌜ (entryNumbers * j + entryNumbers ≤ length (now list)) × (u < 65536) × (0 < first (now list) j) ⌝ }
     ensures { λ r. ⌜ now (clocks .exit)
         ≡ raiseBy (decode (now (recs .entry))) (now (ranks .entry)) width chains u (now (list .entry)) j (now (clocks .entry)) ⌝ }
 {
-    if list[5 * j + 4] != 1 {
+    if list[ENTRY_NUMBERS * j + 4] != 1 {
         return;
     }
-    let t = row_at(recs, ranks, (list[5 * j] - 1) as usize);
+    let t = row_at(recs, ranks, (list[ENTRY_NUMBERS * j] - 1) as usize);
     merge_row(clocks, width, chains, t as u16, u as u16);
 }
 
@@ -87,7 +89,7 @@ fn raise(
     k: usize,
     e: usize,
 )
-    requires { ⌜ (k ≤ e) × (5 * e ≤ length (now list)) × (u < 65536) × ((i : ℕ) → k ≤ i → i < e → 0 < first (now list) i) ⌝ }
+    requires { ⌜ (k ≤ e) × (entryNumbers * e ≤ length (now list)) × (u < 65536) × ((i : ℕ) → k ≤ i → i < e → 0 < first (now list) i) ⌝ }
     ensures { λ r. ⌜ now (clocks .exit)
         ≡ raiseDown (decode (now (recs .entry))) (now (ranks .entry)) width chains u (now (list .entry)) k (e - k) (now (clocks .entry)) ⌝ }
 {
@@ -95,7 +97,7 @@ fn raise(
     while k < j {
         j -= 1;
         raise_by(recs, ranks, width, chains, clocks, u, list, j);
-        if list[5 * j + 3] != 3 {
+        if list[ENTRY_NUMBERS * j + 3] != 3 {
             return;
         }
     }
@@ -169,7 +171,7 @@ fn mark_all(
     };
     let mut k = 0;
     while k < count {
-        let u = row_at(recs, ranks, (list[5 * k + 1] - 1) as usize);
+        let u = row_at(recs, ranks, (list[ENTRY_NUMBERS * k + 1] - 1) as usize);
         s = go_on(recs, ranks, of, width, clocks, s, u);
         let e = mark_second(recs, ranks, of, width, clocks, u, list, k, count);
         if e < count {

@@ -8,7 +8,8 @@ use native.Mathlib.Numerals.{add-one}
 use lib.ListN.{length, length-set, length-replicate}
 use Rattle.records.specs.declared.Record.{Record}
 use Rattle.records.specs.Records.{at, past, isBegin, begins}
-use Rattle.ranks.specs.Ranks.{noRanks, withRank, rankIf, ranksUpto, ranksOf}
+use Rattle.slices.specs.Slices.{zeros}
+use Rattle.ranks.specs.Ranks.{withRank, rankIf, ranksUpto, ranksOf}
 
 rank-if-length : (b : Bool) (m : List ℕ) (e k : ℕ) → length (rankIf b m e k) ≡ length m
 unfolding withRank
@@ -16,7 +17,7 @@ rank-if-length true m e k = length-set m e (k % 65536)
 rank-if-length false m e k = refl
 
 pub ranks-length : (tr : List Record) (i : ℕ) → length (ranksUpto tr i) ≡ 1025
-unfolding ranksUpto noRanks
+unfolding ranksUpto zeros
 ranks-length tr zero = length-replicate {A = ℕ} 1025 0
 ranks-length tr (suc i) = rank-if-length (isBegin (at tr i)) (ranksUpto tr i) (at tr i .first) (begins (past tr i) + 1) ∙ ranks-length tr i
 

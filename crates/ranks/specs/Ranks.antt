@@ -2,7 +2,8 @@
 use Prim.Native.Nat.{ℕ, zero, suc, _+_, _%_}
 use mathlib.Core.Bool.{Bool, true, false}
 use mathlib.Core.List.{List}
-use lib.ListN.{length, set, replicate}
+use lib.ListN.{length, set}
+use Rattle.slices.specs.Slices.{zeros}
 use Rattle.records.specs.declared.Record.{Record}
 use Rattle.records.specs.Records.{at, past, isBegin, begins}
 use Rattle.ranks.specs.declared.Ordering.{Ordering}
@@ -15,8 +16,8 @@ says (Link p u) = link p u
 says (Begin u) = begin u
 says Nothing = other
 
-unfoldable pub noRanks : List ℕ
-noRanks = replicate 1025 0
+abbrev pub noRanks : List ℕ
+noRanks = zeros 1025
 
 unfoldable pub withRank : List ℕ → ℕ → ℕ → List ℕ
 withRank m e k = set m e (k % 65536)

@@ -1,15 +1,19 @@
 // The rank of an event: the place of its begin among the begins, counted from 1, and 0 where it has none. An event action's row is its rank less 1.
 use records::EventId;
 use records::access;
+use slices::numbers::clear;
+use slices::numbers::get;
+use slices::numbers::put;
+use slices::zeros::numbers_1025;
 ghost use mathlib.Core.Path.{_≡_};
-ghost use lib.ListN.{length, getD, replicate};
+ghost use lib.ListN.{getD};
 ghost use Rattle.records.specs.Bytes.{decode};
 ghost use Rattle.records.specs.Records.{at};
 ghost use Rattle.ranks.specs.Said.{linkOf, opOf, begin};
 ghost use mathlib.Core.Bool.{cond};
 ghost use Prim.Native.Nat.{_+_, _-_, _<_};
 ghost use lib.Dec.{eqb};
-ghost use Rattle.ranks.specs.Ranks.{noRanks, withRank, rankIf, ranksOf, says};
+ghost use Rattle.ranks.specs.Ranks.{withRank, rankIf, ranksOf, says};
 
 // What a record says of links and begins, between rows.
 pub enum Ordering {
@@ -18,20 +22,10 @@ pub enum Ordering {
     Nothing,
 }
 
-// A table of no ranks.
-pub fn none() -> [u16; 1025]
-    ensures { λ r. ⌜ r ≡ noRanks ⌝ }
-{
-    [0; 1025]
-}
-
 fn set_rank(ranks: &mut [u16], e: EventId, rank: usize)
     ensures { λ u. ⌜ now (ranks .exit) ≡ withRank (now (ranks .entry)) (e .0) rank ⌝ }
 {
-    let at = e.0 as usize;
-    if at < ranks.len() {
-        ranks[at] = (rank % 65536) as u16;
-    }
+    put(ranks, e.0 as usize, (rank % 65536) as u16);
 }
 
 // A record of that kind and event after `found` begins: the ranks and the number of begins after it.
@@ -46,23 +40,12 @@ fn note_rank(ranks: &mut [u16], kind: u8, e: EventId, found: usize) -> usize
     found + 1
 }
 
-fn clear(ranks: &mut [u16])
-    ensures { λ u. ⌜ now (ranks .exit) ≡ replicate (length (now (ranks .entry))) 0 ⌝ }
-{
-    let n = ranks.len();
-    let mut i = 0;
-    while i < n {
-        ranks[i] = 0;
-        i += 1;
-    }
-}
-
 // The ranks of all events, by event number, in the lent table.
 pub fn fill_ranks(recs: &[u8], all: &mut [u16; 1025])
     ensures { λ u. ⌜ now (all .exit) ≡ ranksOf (decode (now (recs .entry))) ⌝ }
 {
     let n = access::count(recs);
-    clear(all);
+    clear(all, 1025);
     let mut found = 0;
     let mut i = 0;
     while i < n {
@@ -77,7 +60,7 @@ pub fn fill_ranks(recs: &[u8], all: &mut [u16; 1025])
 pub fn ranks(recs: &[u8]) -> [u16; 1025]
     ensures { λ r. ⌜ r ≡ ranksOf (decode (now (recs .entry))) ⌝ }
 {
-    let mut all = none();
+    let mut all = numbers_1025();
     fill_ranks(recs, &mut all);
     all
 }
@@ -86,11 +69,7 @@ pub fn ranks(recs: &[u8]) -> [u16; 1025]
 pub fn rank_of(ranks: &[u16], e: EventId) -> u16
     ensures { λ r. ⌜ r ≡ getD (now (ranks .entry)) (e .0) 0 ⌝ }
 {
-    let at = e.0 as usize;
-    if at < ranks.len() {
-        return ranks[at];
-    }
-    0
+    get(ranks, e.0 as usize)
 }
 
 // The row of record i's event action; 0 where that has none.

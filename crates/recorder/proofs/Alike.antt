@@ -16,9 +16,10 @@ use Rattle.trace.specs.Rule.{situation, rule}
 use Rattle.trace.specs.Reading.{Reply, accepted, demand, orElse, walk, readReply}
 use Rattle.trace.specs.Reading.{refused as refuses}
 use Rattle.trace.specs.Reading.{closing as ending}
-use Rattle.trace.specs.Encoding.{traceOf}
+use Rattle.records.specs.Encoding.{traceOf}
 use Rattle.records.proofs.Records.{past-length}
-use Rattle.trace.proofs.Encoded.{AllNarrow, read-narrow}
+use Rattle.records.proofs.Encoded.{AllNarrow}
+use Rattle.trace.proofs.Encoded.{read-narrow}
 use Rattle.recorder.specs.declared.Recorder.{Recorder}
 use Rattle.recorder.specs.Recording.{refused, taken, closes, Left, pass, full, stopsInside, noTrailer, stepLeft, closeLeft}
 use Rattle.recorder.specs.History.{Recording}

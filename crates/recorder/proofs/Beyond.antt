@@ -7,10 +7,10 @@ use native.Mathlib.Omega.{arith}
 use lib.ListN.{length, drop, length-append}
 use lib.Seq.{drop-drop}
 use Rattle.records.specs.declared.Record.{Record}
-use Rattle.trace.specs.Encoding.{encode}
-use Rattle.trace.proofs.Encoded.{encode-length}
+use Rattle.records.specs.Encoding.{encode}
+use Rattle.records.proofs.Encoded.{encode-length}
 use Rattle.recorder.specs.declared.Recorder.{Recorder}
-use Rattle.recorder.specs.Recording.{stored}
+use Rattle.records.specs.Encoding.{stored}
 use Rattle.recorder.specs.History.{Recording, opening, lent, step, refused-step, refused-closing, OneSpace, BeyondIsUnchanged}
 use Rattle.recorder.proofs.Left.{spaced}
 use Rattle.recorder.proofs.Holds.{holds, steps, open-is, open-long, stored-length, stored-beyond, step-refused, close-refused}

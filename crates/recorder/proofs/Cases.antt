@@ -9,9 +9,10 @@ use Rattle.records.specs.Records.{past, has, begun, ended, begins}
 use Rattle.trace.specs.Place.{place}
 use Rattle.trace.specs.Rule.{numbered, wellFormed, misplaced, again, early, judge}
 use Rattle.trace.specs.Reading.{recordsIn}
-use Rattle.trace.specs.Encoding.{encode, trailer, traceOf}
+use Rattle.records.specs.Encoding.{encode, trailer, traceOf}
 use Rattle.trace.proofs.Examples.{rec}
-use Rattle.recorder.specs.Recording.{refused, closes, Left, pass, stored, held, before, judged, closedAlready, space, full, stopsInside, noTrailer}
+use Rattle.records.specs.Encoding.{stored}
+use Rattle.recorder.specs.Recording.{refused, closes, Left, pass, held, before, judged, closedAlready, space, full, stopsInside, noTrailer}
 use Rattle.recorder.specs.Recording.{openLeft, stepLeft, closeLeft}
 use Rattle.recorder.specs.History.{Recording, opening, lent, step, refused-closing}
 

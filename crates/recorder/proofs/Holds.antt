@@ -17,10 +17,12 @@ use Rattle.trace.specs.Place.{between, place}
 use Rattle.trace.specs.Rule.{situation, owner, rule}
 use Rattle.records.specs.Bytes.{part}
 use Rattle.trace.specs.Reading.{recordsIn}
-use Rattle.trace.specs.Encoding.{encode}
-use Rattle.trace.proofs.Encoded.{AllNarrow, encode-length, encode-append, decode-encode, passes-narrow}
+use Rattle.records.specs.Encoding.{encode}
+use Rattle.records.proofs.Encoded.{AllNarrow, encode-length, encode-append, decode-encode}
+use Rattle.trace.proofs.Encoded.{passes-narrow}
 use Rattle.recorder.specs.declared.Recorder.{Recorder}
-use Rattle.recorder.specs.Recording.{Outcome, refused, opens, taken, closes, Left, pass, stored, held, before, judged, closedAlready, space, full}
+use Rattle.records.specs.Encoding.{stored}
+use Rattle.recorder.specs.Recording.{Outcome, refused, opens, taken, closes, Left, pass, held, before, judged, closedAlready, space, full}
 use Rattle.recorder.specs.Recording.{stopsInside, noTrailer, openLeft, stepLeft, closeLeft}
 use Rattle.recorder.specs.History.{Unaltered, Recording, opening, lent, step, refused-step, refused-closing}
 use Rattle.recorder.proofs.Left.{refusing, stepping, pass-on, step-open, full-zero, spaced}

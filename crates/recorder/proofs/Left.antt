@@ -11,10 +11,11 @@ use lib.ListN.{length}
 use Rattle.records.specs.declared.Record.{Record}
 use Rattle.records.specs.Records.{begins}
 use Rattle.trace.specs.Place.{between, place}
-use Rattle.trace.specs.Encoding.{encode, trailer}
+use Rattle.records.specs.Encoding.{encode, trailer}
 use Rattle.trace.specs.Paper.{Verdict, passes, fails, verdict}
 use Rattle.recorder.specs.declared.Recorder.{Recorder}
-use Rattle.recorder.specs.Recording.{refused, taken, closes, Left, pass, stored, held, before, judged, closedAlready, space, full, stopsInside, noTrailer}
+use Rattle.records.specs.Encoding.{stored}
+use Rattle.recorder.specs.Recording.{refused, taken, closes, Left, pass, held, before, judged, closedAlready, space, full, stopsInside, noTrailer}
 use Rattle.recorder.specs.Recording.{stepLeft, closeLeft}
 
 abbrev pub refusing : List ℕ → Recorder → ℕ → ℕ → Left

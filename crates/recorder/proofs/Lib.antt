@@ -1,5 +1,4 @@
 pub mod Looking
-pub mod Stored
 pub mod Left
 pub mod Appended
 pub mod Holds

@@ -13,10 +13,11 @@ use Rattle.records.specs.Records.{at, past, begins}
 use Rattle.trace.specs.Place.{between}
 use Rattle.trace.specs.Rule.{situation}
 use Rattle.trace.specs.Reading.{Acceptable}
-use Rattle.trace.specs.Encoding.{trailer, traceOf}
+use Rattle.records.specs.Encoding.{trailer, traceOf}
 use Rattle.trace.proofs.Encoded.{records-encoded, read-encoded}
 use Rattle.recorder.specs.declared.Recorder.{Recorder}
-use Rattle.recorder.specs.Recording.{closes, Left, pass, stored, stopsInside, noTrailer, closeLeft}
+use Rattle.records.specs.Encoding.{stored}
+use Rattle.recorder.specs.Recording.{closes, Left, pass, stopsInside, noTrailer, closeLeft}
 use Rattle.recorder.specs.History.{ClosedTrace, ClosedIsTrace, ClosingIsAnswered}
 use Rattle.recorder.proofs.Left.{closing, pass-on, close-open, close-inside, close-short, close-done}
 use Rattle.recorder.proofs.Holds.{Holds, holds, held-is, before-is, stored-front, stored-beyond, through-closes}

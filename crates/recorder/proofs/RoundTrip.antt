@@ -11,9 +11,10 @@ use Rattle.records.specs.declared.Record.{Record}
 use Rattle.records.specs.Records.{noRecord, at, past, begins}
 use Rattle.trace.specs.Rule.{rule}
 use Rattle.trace.specs.Reading.{Acceptable}
-use Rattle.trace.specs.Encoding.{encode, trailer, traceOf}
+use Rattle.records.specs.Encoding.{encode, trailer, traceOf}
 use Rattle.trace.proofs.Accepted.{accepts}
-use Rattle.trace.proofs.Encoded.{encode-length, records-encoded, read-encoded, one-trace}
+use Rattle.records.proofs.Encoded.{encode-length}
+use Rattle.trace.proofs.Encoded.{records-encoded, read-encoded, one-trace}
 use Rattle.recorder.specs.declared.Recorder.{Recorder}
 use Rattle.recorder.specs.Recording.{taken, Left, space, openLeft, stepLeft}
 use Rattle.recorder.specs.History.{Recording, opening, step, OneSpace}

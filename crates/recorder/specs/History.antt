@@ -4,19 +4,20 @@ use Prim.Native.Nat.{ℕ, _+_, _*_, _<_, _≤_}
 use mathlib.Core.Path.{_≡_}
 use mathlib.Core.List.{List, [], _∷_, _++_}
 use lib.ListN.{length, take, drop}
+use Rattle.records.specs.Bytes.{recordBytes, trailerBytes}
 use Rattle.records.specs.declared.Record.{Record}
 use Rattle.records.specs.Records.{past, begins}
 use Rattle.trace.specs.Place.{between}
 use Rattle.trace.specs.Rule.{situation}
 use Rattle.trace.specs.Reading.{accepted, recordsIn, readReply, Acceptable}
-use Rattle.trace.specs.Encoding.{traceOf}
+use Rattle.records.specs.Encoding.{traceOf}
 use Rattle.recorder.specs.declared.Recorder.{Recorder}
 use Rattle.recorder.specs.Recording.{Outcome, refused, opens, taken, closes, held, openLeft, stepLeft, closeLeft}
 
 -- "if nobody else altered the bytes meanwhile": the bytes w′ begin with the records that the recorder has stored in w. They may be fewer or more than those of
 -- w, and other bytes may stand after the records.
 abbrev pub Unaltered : Recorder → List ℕ → List ℕ → Type 0
-Unaltered r w w′ = take (5 * held r) w′ ≡ take (5 * held r) w
+Unaltered r w w′ = take (recordBytes * held r) w′ ≡ take (recordBytes * held r) w
 
 -- "What is closed is a trace of the steps taken if nobody else altered the bytes meanwhile": what stands after an opening over the bytes b and some calls. The
 -- first list has the steps taken, in order; refused calls may stand between them. The second has the bytes for the next call: what the call before left or, by
@@ -43,7 +44,7 @@ OneSpace (refused-closing c n p e) = OneSpace c
 -- are those of the bytes w that were lent.
 pub record ClosedTrace (w : List ℕ) (tr : List Record) (n : ℕ) (out : List ℕ) : Type 0 where
   pub acceptable : Acceptable tr
-  pub long : n ≡ 5 * length tr + 8
+  pub long : n ≡ recordBytes * length tr + trailerBytes
   pub trace : take n out ≡ traceOf tr
   pub reads : readReply (take n out) ≡ accepted 0 (length tr) (begins (past tr (length tr)))
   pub records : recordsIn (take n out) 0 (length tr) ≡ tr
@@ -53,8 +54,8 @@ pub record ClosedTrace (w : List ℕ) (tr : List Record) (n : ℕ) (out : List �
 -- closed already.
 pub record ClosingAnswers (tr : List Record) (w : List ℕ) (answer : Outcome) : Type 0 where
   pub inside : (situation (past tr (length tr)) ≡ between → ⊥) → answer ≡ refused 9 (length tr)
-  pub too-few : situation (past tr (length tr)) ≡ between → length w < 5 * length tr + 8 → answer ≡ refused 25 0
-  pub closed : situation (past tr (length tr)) ≡ between → 5 * length tr + 8 ≤ length w → answer ≡ closes (5 * length tr + 8)
+  pub too-few : situation (past tr (length tr)) ≡ between → length w < recordBytes * length tr + trailerBytes → answer ≡ refused 25 0
+  pub closed : situation (past tr (length tr)) ≡ between → recordBytes * length tr + trailerBytes ≤ length w → answer ≡ closes (recordBytes * length tr + trailerBytes)
 
 abbrev pub ClosingIsAnswered : Type 0
 ClosingIsAnswered = (b : List ℕ) (tr : List Record) (w : List ℕ) (r : Recorder) → Recording b tr w r → ClosingAnswers tr w (closeLeft w r .answer)

@@ -2,15 +2,16 @@
 -- Assumes nothing.
 use Prim.Native.Nat.{ℕ, zero, suc, min, _+_, _*_}
 use mathlib.Core.Bool.{Bool, true, false, cond, _&&_}
-use mathlib.Core.List.{List, [], _∷_, _++_}
+use mathlib.Core.List.{List, [], _∷_}
 use lib.Dec.{leb, ltb, eqb}
-use lib.ListN.{length, take, drop}
+use lib.ListN.{length}
+use Rattle.records.specs.Bytes.{recordBytes, trailerBytes}
 use Rattle.records.specs.declared.Record.{Record}
 use Rattle.records.specs.Records.{past, begun, ended, begins}
 use Rattle.trace.specs.Place.{between, place}
 use Rattle.trace.specs.Rule.{judge}
 use Rattle.trace.specs.Reading.{recordsIn}
-use Rattle.trace.specs.Encoding.{encode, trailer}
+use Rattle.records.specs.Encoding.{encode, trailer, stored}
 use Rattle.records.specs.declared.EventId.{EventId}
 use Rattle.recorder.specs.declared.Recorder.{Recorder}
 use Rattle.recorder.specs.declared.Opened.{Opened}
@@ -72,10 +73,6 @@ unfoldable pub pass : List ℕ → Recorder → ℕ → ℕ → Left → Left
 pass b r zero p next = next
 pass b r (suc n) p next = record { answer = refused (suc n) p; recorder = r; bytes = b }
 
--- the bytes with vs from p on, all others unchanged
-unfoldable pub stored : List ℕ → ℕ → List ℕ → List ℕ
-stored b p vs = take p b ++ vs ++ drop (p + length vs) b
-
 -- How many records are stored: at most 4,096, whatever the state says.
 unfoldable pub held : Recorder → ℕ
 held r = min (r .count) 4096
@@ -98,7 +95,7 @@ closedAlready r = cond (r .closed) 26 0
 
 -- "25: recorder only, 4,096 records stored, or no space left for the record and a trailer"
 unfoldable pub space : List ℕ → ℕ → Bool
-space b n = ltb n 4096 && leb (5 * n + 5 + 8) (length b)
+space b n = ltb n 4096 && leb (recordBytes * n + recordBytes + trailerBytes) (length b)
 
 unfoldable pub full : List ℕ → ℕ → ℕ
 full b n = cond (space b n) 0 25
@@ -109,12 +106,12 @@ stopsInside r = cond (eqb (r .situation) between) 0 9
 
 -- "25 if the bytes lent to it are too few for the trailer"
 unfoldable pub noTrailer : List ℕ → ℕ → ℕ
-noTrailer b n = cond (leb (5 * n + 8) (length b)) 0 25
+noTrailer b n = cond (leb (recordBytes * n + trailerBytes) (length b)) 0 25
 
 -- "opening over fewer than 8 bytes also"; "a refused opening gives a closed recorder"
 unfoldable pub openLeft : List ℕ → Left
 openLeft b =
-    cond (leb 8 (length b))
+    cond (leb trailerBytes (length b))
     (record { answer = opens; recorder = record { count = 0; situation = between; owner = record { 0 = 0 }; closed = false }; bytes = b })
     (record { answer = refused 25 0; recorder = record { count = 0; situation = between; owner = record { 0 = 0 }; closed = true }; bytes = b })
 
@@ -127,7 +124,7 @@ stepLeft b r x =
     (record {
       answer = taken;
       recorder = record { count = held r + 1; situation = place (r .situation) (x .kind); owner = record { 0 = x .first }; closed = false };
-      bytes = stored b (5 * held r) (encode (x ∷ []));
+      bytes = stored b (recordBytes * held r) (encode (x ∷ []));
     })))
 
 -- "closing gives 26, then 9, then 25 if the bytes lent to it are too few for the trailer"; "its length is given". The place of 9 is the last record.
@@ -137,7 +134,7 @@ closeLeft b r =
     (pass b r (stopsInside r) (held r)
     (pass b r (noTrailer b (held r)) 0
     (record {
-      answer = closes (5 * held r + 8);
+      answer = closes (recordBytes * held r + trailerBytes);
       recorder = record { count = r .count; situation = r .situation; owner = r .owner; closed = true };
-      bytes = stored b (5 * held r) (trailer (5 * held r) (begins (before b (held r))));
+      bytes = stored b (recordBytes * held r) (trailer (recordBytes * held r) (begins (before b (held r))));
     })))

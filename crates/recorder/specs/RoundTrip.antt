@@ -4,10 +4,11 @@ use Prim.Native.Nat.{ℕ, _+_, _*_, _≤_}
 use mathlib.Core.Path.{_≡_}
 use mathlib.Core.List.{List}
 use lib.ListN.{length, take, drop}
+use Rattle.records.specs.Bytes.{recordBytes, trailerBytes}
 use Rattle.records.specs.declared.Record.{Record}
 use Rattle.records.specs.Records.{past, begins}
 use Rattle.trace.specs.Reading.{accepted, recordsIn, readReply, Acceptable}
-use Rattle.trace.specs.Encoding.{Bytes, traceOf}
+use Rattle.records.specs.Encoding.{Bytes, traceOf}
 use Rattle.recorder.specs.declared.Recorder.{Recorder}
 use Rattle.recorder.specs.Recording.{closes, closeLeft}
 use Rattle.recorder.specs.History.{Recording, OneSpace}
@@ -31,9 +32,9 @@ pub record ReadBack (b : List ℕ) (tr : List Record) : Type 0 where
 
 -- Recording any acceptable sequence of records step by step, where there is space, and then reading gives the sequence back.
 abbrev pub RecordedThenRead : Type 0
-RecordedThenRead = (tr : List Record) → Acceptable tr → (b : List ℕ) → 5 * length tr + 8 ≤ length b → ReadBack b tr
+RecordedThenRead = (tr : List Record) → Acceptable tr → (b : List ℕ) → recordBytes * length tr + trailerBytes ≤ length b → ReadBack b tr
 
 -- Reading any accepted bytes and then recording what was read, where there is space, gives those bytes from record 1 on, trailer included.
 abbrev pub ReadThenRecorded : Type 0
 ReadThenRecorded = (b : List ℕ) → Bytes b → (start n m : ℕ) → readReply b ≡ accepted start n m
-    → (space : List ℕ) → 5 * n + 8 ≤ length space → RecordsAs space (recordsIn b start n) (drop start b)
+    → (space : List ℕ) → recordBytes * n + trailerBytes ≤ length space → RecordsAs space (recordsIn b start n) (drop start b)

@@ -1,18 +1,21 @@
 // The recorder: a trace written step by step into lent bytes, each step checked by the reader's rules. Nothing in its state or in the bytes is trusted:
 // over altered bytes, or with a state made up by somebody, every call is still without fault.
 mod look;
-mod store;
 
 use records::EventId;
 use records::Operation;
+use records::RECORD_BYTES;
 use records::Record;
+use records::TRAILER_BYTES;
+use records::store::put_record;
+use records::store::put_trailer;
 use trace::Checked;
 use trace::Refusal;
 ghost use mathlib.Core.Path.{_≡_};
 ghost use mathlib.Core.Bool.{false};
 ghost use Prim.Native.Nat.{_≤_};
 ghost use Rattle.recorder.specs.Recording.{steppedPaper, closingPaper, left, ofOpening, ofStep, ofClosing, ofNumbers};
-ghost use Rattle.recorder.specs.Recording.{held, openLeft, stepLeft, closeLeft};
+ghost use Rattle.recorder.specs.Recording.{held, space, openLeft, stepLeft, closeLeft};
 
 // The recorder's one state: how many records are stored, the situation, the open or joining event, and whether the trace is closed.
 pub struct Recorder {
@@ -63,6 +66,16 @@ fn stored_records(r: Recorder) -> usize
     4096
 }
 
+// Is there space for one record more, and a trailer?
+fn has_space(bytes: &[u8], n: usize) -> bool
+    ensures { λ b. ⌜ b ≡ space (now (bytes .entry)) n ⌝ }
+{
+    if 4096 <= n {
+        return false;
+    }
+    RECORD_BYTES * n + RECORD_BYTES + TRAILER_BYTES <= bytes.len()
+}
+
 // After a step that is taken the recorder has these numbers.
 fn step_taken(count: u16, situation: u8, owner: EventId) -> Next
     ensures { λ n. ⌜ (n .recorder ≡ ofNumbers count situation owner false) × (n .answer ≡ Stepped.Taken) ⌝ }
@@ -108,7 +121,7 @@ fn not_closed(r: Recorder, number: u16, place: u16) -> Ended
 pub fn open_on(bytes: &[u8]) -> Opened
     ensures { λ o. ⌜ ofOpening o (now (bytes .entry)) ≡ openLeft (now (bytes .entry)) ⌝ }
 {
-    let short = bytes.len() < 8;
+    let short = bytes.len() < TRAILER_BYTES;
     let recorder = Recorder {
         count: 0,
         situation: 0,
@@ -155,10 +168,10 @@ pub fn step_numbers(
     match checked {
         Checked::Refused(f) => not_taken(r, f.number, f.place.0),
         Checked::Next(next) => {
-            if !store::has_space(bytes, n) {
+            if !has_space(bytes, n) {
                 return not_taken(r, trace::NO_SPACE, 0);
             }
-            store::put_record(bytes, 5 * n, rec);
+            put_record(bytes, RECORD_BYTES * n, rec);
             step_taken((n + 1) as u16, next, EventId(rec.first))
         }
     }
@@ -187,12 +200,12 @@ pub fn close_numbers(
     if situation != 0 {
         return not_closed(r, trace::STOPS_INSIDE, n as u16);
     }
-    let at = 5 * n;
-    if bytes.len() < at + 8 {
+    let at = RECORD_BYTES * n;
+    if bytes.len() < at + TRAILER_BYTES {
         return not_closed(r, trace::NO_SPACE, 0);
     }
     let begins = look::begins(bytes, n);
-    store::put_trailer(bytes, at, begins);
+    put_trailer(bytes, at, at, begins);
     Ended {
         recorder: Recorder {
             count: count,
@@ -200,7 +213,7 @@ pub fn close_numbers(
             owner: owner,
             closed: true,
         },
-        answer: Closing::Closed(at + 8),
+        answer: Closing::Closed(at + TRAILER_BYTES),
     }
 }
 

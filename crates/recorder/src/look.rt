@@ -3,7 +3,6 @@ use crate::Recorder;
 use records::EventId;
 use records::Operation;
 use records::Record;
-use records::Trace;
 use records::access;
 use trace::Checked;
 use trace::rule;
@@ -12,26 +11,12 @@ ghost use mathlib.Core.Bool.{_&&_, _||_};
 ghost use Prim.Native.Nat.{_+_, _≤_};
 ghost use lib.Dec.{eqb};
 ghost use lib.ListN.{length};
-ghost use Rattle.records.specs.Bytes.{decode, part};
+ghost use Rattle.records.specs.Bytes.{decode};
 ghost use Rattle.records.specs.Records.{past, has};
 ghost use Rattle.records.specs.Records.{begins as begin-count};
 ghost use Rattle.trace.specs.Place.{place};
 ghost use Rattle.trace.specs.Paper.{checkedPaper, verdict};
 ghost use Rattle.recorder.specs.Recording.{ofKind, before, judged};
-
-// The bytes of the first n records.
-fn records(bytes: &[u8], n: usize) -> &[u8]
-    ensures { λ r. ⌜ now r ≡ part (now (bytes .entry)) 0 n ⌝ }
-{
-    access::records(
-        bytes,
-        Trace {
-            start: 0,
-            records: n,
-            events: 0,
-        },
-    )
-}
 
 // Is one of the records of that kind, for event e?
 fn seen(recs: &[u8], kind: u8, e: EventId) -> bool
@@ -76,7 +61,7 @@ pub(crate) fn check(bytes: &[u8], n: usize, r: Recorder, rec: Record) -> Checked
     requires { ⌜ n ≤ 4096 ⌝ }
     ensures { λ c. ⌜ checkedPaper c ≡ verdict (judged (now (bytes .entry)) n r rec) (n + 1) (place (r .situation) (rec .kind)) ⌝ }
 {
-    let recs = records(bytes, n);
+    let recs = access::records_from(bytes, 0, n);
     let first_begun = seen_if(starts(rec.kind), recs, 1, EventId(rec.first));
     let second_begun = seen_if(rec.kind == 3, recs, 1, EventId(rec.second));
     let second_ended = seen_if(rec.kind == 4, recs, 2, EventId(rec.second));
@@ -96,5 +81,5 @@ pub(crate) fn check(bytes: &[u8], n: usize, r: Recorder, rec: Record) -> Checked
 pub(crate) fn begins(bytes: &[u8], n: usize) -> usize
     ensures { λ m. ⌜ m ≡ begin-count (before (now (bytes .entry)) n) ⌝ }
 {
-    access::count_begins(records(bytes, n))
+    access::count_begins(access::records_from(bytes, 0, n))
 }

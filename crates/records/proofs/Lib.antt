@@ -3,4 +3,5 @@ pub mod Decoded
 pub mod Positions
 pub mod Leading
 pub mod SearchLaws
-pub mod MarkLaws
+pub mod Encoded
+pub mod Stored

@@ -3,13 +3,18 @@
 use Prim.Native.Nat.{ℕ, zero, suc, _+_, _*_, _/_}
 use mathlib.Core.List.{List, [], _∷_}
 use lib.ListN.{getD, length, take, drop}
+use Rattle.slices.specs.Slices.{twoBytes}
 use Rattle.records.specs.declared.Record.{Record}
 
--- two bytes as a number
-abbrev pub twoBytes : List ℕ → ℕ → ℕ
-twoBytes b p = getD b p 0 + 256 * getD b (p + 1) 0
+-- "A record is 5 bytes"
+abbrev pub recordBytes : ℕ
+recordBytes = 5
 
--- the record in the five bytes from p on
+-- "The trace closes with an 8-byte trailer"
+abbrev pub trailerBytes : ℕ
+trailerBytes = 8
+
+-- the record in the bytes from p on
 unfoldable pub recordAt : List ℕ → ℕ → Record
 recordAt b p = record {
   kind = getD b p 0;
@@ -20,12 +25,12 @@ recordAt b p = record {
 -- k records from record i on, counted from 0
 unfoldable pub recordsFrom : List ℕ → ℕ → ℕ → List Record
 recordsFrom b i zero = []
-recordsFrom b i (suc k) = recordAt b (5 * i) ∷ recordsFrom b (suc i) k
+recordsFrom b i (suc k) = recordAt b (recordBytes * i) ∷ recordsFrom b (suc i) k
 
 -- all records in the bytes
 unfoldable pub decode : List ℕ → List Record
-decode b = recordsFrom b 0 (length b / 5)
+decode b = recordsFrom b 0 (length b / recordBytes)
 
 -- the bytes of n records that start at start
 unfoldable pub part : List ℕ → ℕ → ℕ → List ℕ
-part b start n = take (5 * n) (drop start b)
+part b start n = take (recordBytes * n) (drop start b)

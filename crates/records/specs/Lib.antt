@@ -1,4 +1,4 @@
 pub mod Bytes
 pub mod Records
-pub mod Marks
+pub mod Encoding
 pub mod Search

@@ -1,19 +1,16 @@
 // The records of a trace, in the bytes from record 1 to the trailer. Positions count from 0; past the last whole record all fields are 0.
 use crate::EventId;
+use crate::RECORD_BYTES;
 use crate::Record;
 use crate::Trace;
 use crate::Var;
+use slices::bytes::pair;
 ghost use mathlib.Core.Path.{_≡_};
-ghost use Prim.Native.Nat.{_+_, _-_, _*_, _/_, _≤_, _<_};
-ghost use lib.ListN.{getD, length, take, drop};
-ghost use Rattle.records.specs.Bytes.{twoBytes, decode, part};
+ghost use Prim.Native.Nat.{_+_, _-_, _≤_};
+ghost use lib.ListN.{length};
+ghost use Rattle.slices.specs.Slices.{twoBytes};
+ghost use Rattle.records.specs.Bytes.{decode, part};
 ghost use Rattle.records.specs.Records.{at, past, begins, leading};
-
-fn pair(low: u8, high: u8) -> u16
-    ensures { λ r. ⌜ r ≡ low + 256 * high ⌝ }
-{
-    (low as u16) + 256 * (high as u16)
-}
 
 // Two bytes as a number, low byte first.
 fn two_bytes(bytes: &[u8], at: usize) -> u16
@@ -23,55 +20,61 @@ fn two_bytes(bytes: &[u8], at: usize) -> u16
     pair(bytes[at], bytes[at + 1])
 }
 
-// The bytes of the records of a trace that was read; of any other trace, those that are there.
-pub fn records(bytes: &[u8], t: Trace) -> &[u8]
-    ensures { λ r. ⌜ now r ≡ part (now (bytes .entry)) (t .start) (t .records) ⌝ }
+// The bytes of that many records that start there; where the bytes hold fewer, those.
+pub fn records_from(bytes: &[u8], start: usize, records: usize) -> &[u8]
+    ensures { λ r. ⌜ now r ≡ part (now (bytes .entry)) start records ⌝ }
 {
-    let start = t.start;
     let n = bytes.len();
     if n < start {
         return &bytes[n..];
     }
-    let rest = (n - start) / 5;
-    if rest < t.records {
+    let rest = (n - start) / RECORD_BYTES;
+    if rest < records {
         return &bytes[start..];
     }
-    let end = start + 5 * t.records;
+    let end = start + RECORD_BYTES * records;
     &bytes[start..end]
+}
+
+// The bytes of the records of a trace that was read; of any other trace, those that are there.
+pub fn records(bytes: &[u8], t: Trace) -> &[u8]
+    ensures { λ r. ⌜ now r ≡ part (now (bytes .entry)) (t .start) (t .records) ⌝ }
+{
+    records_from(bytes, t.start, t.records)
 }
 
 // How many records there are.
 pub fn count(recs: &[u8]) -> usize
     ensures { λ r. ⌜ r ≡ length (decode (now (recs .entry))) ⌝ }
 {
-    recs.len() / 5
+    recs.len() / RECORD_BYTES
 }
 
 pub fn kind_at(recs: &[u8], i: usize) -> u8
     ensures { λ r. ⌜ r ≡ at (decode (now (recs .entry))) i .kind ⌝ }
 {
-    if recs.len() / 5 <= i {
+    if recs.len() / RECORD_BYTES <= i {
         return 0;
     }
-    recs[5 * i]
+    recs[RECORD_BYTES * i]
 }
 
 fn first_of(recs: &[u8], i: usize) -> u16
     ensures { λ r. ⌜ r ≡ at (decode (now (recs .entry))) i .first ⌝ }
 {
-    if recs.len() / 5 <= i {
+    if recs.len() / RECORD_BYTES <= i {
         return 0;
     }
-    two_bytes(recs, 5 * i + 1)
+    two_bytes(recs, RECORD_BYTES * i + 1)
 }
 
 fn second_of(recs: &[u8], i: usize) -> u16
     ensures { λ r. ⌜ r ≡ at (decode (now (recs .entry))) i .second ⌝ }
 {
-    if recs.len() / 5 <= i {
+    if recs.len() / RECORD_BYTES <= i {
         return 0;
     }
-    two_bytes(recs, 5 * i + 3)
+    two_bytes(recs, RECORD_BYTES * i + 3)
 }
 
 // The event that record i belongs to.

@@ -1,7 +1,7 @@
-// The records of a trace: identifiers, where records stand in the bytes and what each says, and sets of events as marks.
+// The records of a trace: identifiers, where records stand in the bytes and what each says, read and written.
 pub mod access;
-pub mod marks;
 pub mod search;
+pub mod store;
 
 // An event's number, 1 to 1,024: the source's EventId.
 pub struct EventId(pub u16);
@@ -18,6 +18,11 @@ pub struct Record {
     pub first: u16,
     pub second: u16,
 }
+
+// A record's bytes, and the trailer's.
+pub const RECORD_BYTES: usize = 5;
+
+pub const TRAILER_BYTES: usize = 8;
 
 // An accepted trace: where record 1 starts in the bytes, how many records and how many event actions.
 pub struct Trace {

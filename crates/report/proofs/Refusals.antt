@@ -8,7 +8,7 @@ use lib.Dec.{eqb, leb}
 use lib.ListN.{length, getD}
 use Rattle.records.specs.declared.Record.{Record}
 use Rattle.records.specs.Records.{begins, begun, ended}
-use Rattle.records.specs.Bytes.{twoBytes}
+use Rattle.slices.specs.Slices.{twoBytes}
 use Rattle.trace.specs.Place.{place, between, unknownKind}
 use Rattle.trace.specs.Rule.{situation, owner, wellFormed, misplaced, again, early, judge, rule}
 use Rattle.trace.specs.Reading.{Reply, refused, accepted, demand, orElse, closing, walk, distance, trailerReply, frameReply, recordsIn, recordsReply, readReply}

@@ -7,8 +7,9 @@ use native.Mathlib.Omega.{arith}
 use native.Mathlib.Numerals.{add-one}
 use borrow.Author.Tests.{lt-ltb, le-ltb, leb-true}
 use lib.Dec.{T, leb, eqb}
-use lib.ListN.{length, getD, take, drop, length-append, length-take, length-drop, length-replicate}
+use lib.ListN.{length, getD, take, drop, length-append, length-take, length-drop}
 use lib.Seq.{getD-append-add}
+use Rattle.slices.proofs.Cleared.{zeros-length}
 use Rattle.records.specs.declared.Record.{Record}
 use Rattle.records.specs.Records.{at}
 use Rattle.listing.specs.Lines.{refusedLine, headerLine, pairLine, putAt, Printed}
@@ -120,8 +121,7 @@ isListed (listed e r c k) = true
 -- What the program's call of the short list gives, and its lines.
 module _ (b clocks′ work′ list′ : List ℕ) (r : Listing) (h : length b ≤ 32768) (l : Lists true b 32 noClocks clocks′ noWork work′ noList list′ r) where
   spaces : (length noClocks ≡ 32768) × (length noWork ≡ 1024) × (length noList ≡ 40960)
-  unfolding noClocks noWork noList
-  spaces = (length-replicate {A = ℕ} 32768 0, length-replicate {A = ℕ} 1024 0, length-replicate {A = ℕ} 40960 0)
+  spaces = (zeros-length 32768, zeros-length 1024, zeros-length 40960)
 
   answer : listPaper r ≡ listRead true b (readReply b) 32 32768 1024 40960
   unfolding listReply

@@ -4,12 +4,13 @@ use mathlib.Core.Path.{_≡_}
 use mathlib.Core.Bool.{true, cond}
 use mathlib.Core.List.{List, [], _∷_, _++_}
 use lib.Dec.{ltb}
-use lib.ListN.{length, getD, drop, replicate}
+use lib.ListN.{length, getD, drop}
 use Rattle.records.specs.declared.Record.{Record}
 use Rattle.records.specs.Records.{at}
 use Rattle.trace.specs.Reading as reading
 use Rattle.trace.specs.Reading.{Reply, recordsIn, readReply}
-use Rattle.races.specs.Lists.{ListReply, refused, listed, listTrace, pairsOf, shapeOf, markOf}
+use Rattle.slices.specs.Slices.{zeros}
+use Rattle.races.specs.Lists.{entryNumbers, ListReply, refused, listed, listTrace, pairsOf, shapeOf, markOf}
 use Rattle.listing.specs.Lines.{headerLine, pairLine, refusedLine, putAt, afterLine}
 
 -- "then the short list: first, second, cell, shape (ww, wr or rw, first access then second), mark (open or covered)."; records are numbered from 1
@@ -56,21 +57,21 @@ pub record Prints (s : List ℕ) (at : ℕ) (ls : List (List ℕ)) (s′ : List 
 
 -- the line of entry i of a list of numbers, and of k entries from i on
 unfoldable pub entryLine : List ℕ → ℕ → List ℕ
-entryLine list i = pairLine (getD list (5 * i) 0) (getD list (5 * i + 1) 0) (getD list (5 * i + 2) 0) (getD list (5 * i + 3) 0) (getD list (5 * i + 4) 0)
+entryLine list i = pairLine (getD list (entryNumbers * i) 0) (getD list (entryNumbers * i + 1) 0) (getD list (entryNumbers * i + 2) 0) (getD list (entryNumbers * i + 3) 0) (getD list (entryNumbers * i + 4) 0)
 
 unfoldable pub entryLines : List ℕ → ℕ → ℕ → List (List ℕ)
 entryLines list i zero = []
 entryLines list i (suc k) = entryLine list i ∷ entryLines list (suc i) k
 
 -- the program's spaces
-unfoldable pub noClocks : List ℕ
-noClocks = replicate 32768 0
+abbrev pub noClocks : List ℕ
+noClocks = zeros 32768
 
-unfoldable pub noWork : List ℕ
-noWork = replicate 1024 0
+abbrev pub noWork : List ℕ
+noWork = zeros 1024
 
-unfoldable pub noList : List ℕ
-noList = replicate 40960 0
+abbrev pub noList : List ℕ
+noList = zeros 40960
 
 -- The whole text stands from the first byte on, the bytes after it are as before, and the answer is its length.
 pub record Whole (b s s′ : List ℕ) (r : ℕ) : Type 0 where

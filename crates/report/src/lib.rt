@@ -1,12 +1,14 @@
 // The whole text that the trace program prints, for every input.
+use races::ENTRY_NUMBERS;
 use races::Listing;
 use records::Operation;
 use records::Var;
+use slices::numbers::get;
+use slices::zeros::bytes_1024;
 ghost use mathlib.Core.Path.{_≡_};
 ghost use Prim.Native.Nat.{_*_, _≤_};
-ghost use lib.ListN.{getD};
 ghost use Rattle.listing.specs.Lines.{Printed};
-ghost use Rattle.report.specs.Text.{entryLine, entryLines, Prints, linesOf, noClocks, noWork, noList};
+ghost use Rattle.report.specs.Text.{entryLine, entryLines, Prints, linesOf, noClocks, noList};
 
 // At most that many bytes of input; more is refusal 13.
 pub const LONGEST: usize = 32768;
@@ -17,25 +19,10 @@ fn no_clocks() -> [u16; 32768]
     [0; 32768]
 }
 
-fn no_work() -> [u8; 1024]
-    ensures { λ r. ⌜ r ≡ noWork ⌝ }
-{
-    [0; 1024]
-}
-
 fn no_list() -> [u16; 40960]
     ensures { λ r. ⌜ r ≡ noList ⌝ }
 {
     [0; 40960]
-}
-
-fn number_at(list: &[u16], i: usize) -> u16
-    ensures { λ r. ⌜ r ≡ getD (now (list .entry)) i 0 ⌝ }
-{
-    if i < list.len() {
-        return list[i];
-    }
-    0
 }
 
 // The line of entry i of the list.
@@ -43,15 +30,15 @@ fn put_entry(list: &[u16], i: usize, text: &mut [u8], at: usize) -> usize
     requires { ⌜ i ≤ 8192 ⌝ }
     ensures { λ r. ⌜ Printed (now (text .entry)) at (entryLine (now (list .entry)) i) (now (text .exit)) r ⌝ }
 {
-    let from = 5 * i;
+    let from = ENTRY_NUMBERS * i;
     listing::put_pair(
         text,
         at,
-        Operation(number_at(list, from)),
-        Operation(number_at(list, from + 1)),
-        Var(number_at(list, from + 2)),
-        number_at(list, from + 3),
-        number_at(list, from + 4),
+        Operation(get(list, from)),
+        Operation(get(list, from + 1)),
+        Var(get(list, from + 2)),
+        get(list, from + 3),
+        get(list, from + 4),
     )
 }
 
@@ -77,7 +64,7 @@ pub fn report(input: &[u8], text: &mut [u8]) -> usize
         return listing::put_refusal(text, 0, 13, Operation(0));
     }
     let mut clocks = no_clocks();
-    let mut work = no_work();
+    let mut work = bytes_1024();
     let mut list = no_list();
     let found = races::short_list(input, 32, &mut clocks, &mut work, &mut list);
     match found {

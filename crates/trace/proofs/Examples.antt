@@ -10,7 +10,7 @@ use Rattle.trace.specs.Place.{place}
 use Rattle.trace.specs.Rule.{situation, owner, numbered, wellFormed, misplaced, again, early, judge, rule}
 use Rattle.trace.specs.Reading.{Reply, refused, accepted, demand, orElse, closing, walk, distance, trailerReply, frameReply, recordsIn, recordsReply}
 use Rattle.trace.specs.Reading.{readReply}
-use Rattle.trace.specs.Encoding.{encode, trailer}
+use Rattle.records.specs.Encoding.{encode, trailer}
 
 -- a record, by "Kind, first, second"
 abbrev pub rec : ℕ → ℕ → ℕ → Record

@@ -13,7 +13,7 @@ use lib.ListN.{length, drop, drop-of-length-le}
 use lib.Seq.{drop-cons}
 use Rattle.records.specs.declared.Record.{Record}
 use Rattle.records.specs.Records.{noRecord, at, past, begins}
-use Rattle.records.specs.Marks.{noMarks}
+use Rattle.slices.specs.Slices.{zeros}
 use Rattle.trace.specs.Place.{between, inside, place}
 use Rattle.trace.specs.Rule.{situation, owner, numbered, wellFormed, misplaced, again, early, judge, rule}
 use Rattle.trace.specs.Status.{hasBegun, hasEnded, noted}
@@ -49,7 +49,7 @@ pub record Going (tr : List Record) (start m s e f i : ℕ) (st : List ℕ) : Ty
   pub tracks : Tracks st (past tr i)
   pub comes : walk start m [] tr ≡ walk start m (past tr i) (drop i tr)
 
-pub going-start : (tr : List Record) (start m : ℕ) → Going tr start m 0 0 0 0 noMarks
+pub going-start : (tr : List Record) (start m : ℕ) → Going tr start m 0 0 0 0 (zeros 1025)
 unfolding situation owner past begins
 going-start tr start m = record {
   within = omega arith;

@@ -1,30 +1,13 @@
--- Marks after one more; a record that is well formed, and which facts count for its rule.
+-- A record that is well formed, and which facts count for its rule.
 -- Assumes nothing.
-use Prim.Native.Nat.{ℕ, _<_}
+use Prim.Native.Nat.{ℕ}
 use mathlib.Core.Path.{_≡_, refl}
 use mathlib.Core.Bool.{Bool, true, false, cond, and-eq-true-iff}
-use mathlib.Core.List.{List}
-use mathlib.Core.Logic.{_≢_}
 use native.Mathlib.Omega.{arith}
 use borrow.Author.Tests.{ne-eqb, ltb-true}
 use lib.Dec.{ltb, eqb}
-use lib.ListN.{length, length-set}
-use lib.Seq.{getD-set-same, getD-set-other}
 use Rattle.records.specs.declared.Record.{Record}
-use Rattle.records.specs.Marks.{isMarked, withMark}
 use Rattle.trace.specs.Rule.{numbered, wellFormed, again, early, judge}
-
-pub marked-same : (m : List ℕ) (e : ℕ) → e < length m → isMarked (withMark m e) e ≡ true
-unfolding isMarked withMark
-marked-same m e h = rw (getD-set-same m e 1 0 h)
-
-pub marked-other : (m : List ℕ) (e f : ℕ) → f ≢ e → isMarked (withMark m e) f ≡ isMarked m f
-unfolding isMarked withMark
-marked-other m e f n = rw (getD-set-other m e f 1 0 n)
-
-pub marked-size : (m : List ℕ) (e : ℕ) → length (withMark m e) ≡ length m
-unfolding withMark
-marked-size m e = length-set m e 1
 
 pub formed : (r : Record) → wellFormed r ≡ true → (numbered (r .first) ≡ true) × (cond (ltb (r .kind) 3) (eqb (r .second) 0) (numbered (r .second)) ≡ true)
 unfolding wellFormed

@@ -13,7 +13,7 @@ use lib.ListN.{length, getD, set, length-set, length-replicate, getD-replicate}
 use lib.Seq.{getD-set-same, getD-set-other}
 use Rattle.records.specs.declared.Record.{Record}
 use Rattle.records.specs.Records.{isBegin, isEnd, has, begun, ended}
-use Rattle.records.specs.Marks.{noMarks}
+use Rattle.slices.specs.Slices.{zeros}
 use Rattle.trace.specs.Status.{hasBegun, hasEnded, noted}
 
 pub record Tracks (m : List ℕ) (before : List Record) : Type 0 where
@@ -21,8 +21,8 @@ pub record Tracks (m : List ℕ) (before : List Record) : Type 0 where
   pub begins : (e : ℕ) → e < 1025 → hasBegun m e ≡ begun e before
   pub ends : (e : ℕ) → e < 1025 → hasEnded m e ≡ ended e before
 
-pub tracks-start : Tracks noMarks []
-unfolding noMarks hasBegun hasEnded begun ended has
+pub tracks-start : Tracks (zeros 1025) []
+unfolding zeros hasBegun hasEnded begun ended has
 tracks-start = record {
   size = length-replicate {A = ℕ} 1025 0;
   begins = λ e h. rw (getD-replicate {A = ℕ} 1025 e 0 0 h);

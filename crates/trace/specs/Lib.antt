@@ -4,4 +4,3 @@ pub mod Inner
 pub mod Status
 pub mod Reading
 pub mod Paper
-pub mod Encoding

@@ -8,7 +8,8 @@ use lib.Dec.{leb, eqb}
 use lib.ListN.{getD, length}
 use Rattle.records.specs.declared.Record.{Record}
 use Rattle.records.specs.Records.{at, past, begins}
-use Rattle.records.specs.Bytes.{twoBytes, decode, part}
+use Rattle.slices.specs.Slices.{twoBytes}
+use Rattle.records.specs.Bytes.{recordBytes, trailerBytes, decode, part}
 use Rattle.trace.specs.Place.{between}
 use Rattle.trace.specs.Rule.{situation, rule}
 
@@ -50,12 +51,12 @@ unfoldable pub trailerReply : List ℕ → ℕ → ℕ → Reply
 trailerReply b t d =
     demand (eqb (getD b (t + 7) 0) 167) 1 0
     (demand (eqb (getD b (t + 6) 0) 1) 2 0
-    (demand (eqb (d % 5) 0 && leb d 20480 && leb d t) 3 0
-    (accepted (t - d) (d / 5) (twoBytes b (t + 4)))))
+    (demand (eqb (d % recordBytes) 0 && leb d 20480 && leb d t) 3 0
+    (accepted (t - d) (d / recordBytes) (twoBytes b (t + 4)))))
 
 -- "The trace closes with an 8-byte trailer that points back"
 unfoldable pub frameReply : List ℕ → Reply
-frameReply b = demand (leb 8 (length b)) 1 0 (trailerReply b (length b - 8) (distance b (length b - 8)))
+frameReply b = demand (leb trailerBytes (length b)) 1 0 (trailerReply b (length b - trailerBytes) (distance b (length b - trailerBytes)))
 
 -- the n records that start at start
 unfoldable pub recordsIn : List ℕ → ℕ → ℕ → List Record

@@ -9,7 +9,7 @@ use records::EventId;
 use records::Record;
 use records::access::count;
 use records::access::record_at;
-use records::marks;
+use slices::zeros::bytes_1025;
 ghost use mathlib.Core.Path.{_≡_};
 ghost use mathlib.Core.Bool.{true, cond};
 ghost use mathlib.Core.List.{[]};
@@ -118,7 +118,7 @@ pub(crate) fn scan(recs: &[u8], start: usize, events: usize) -> Reading
 {
     let records = count(recs);
     let places = place::table();
-    let mut status = marks::none();
+    let mut status = bytes_1025();
     let mut now_in: u8 = 0;
     let mut owner: u16 = 0;
     let mut found = 0;

@@ -30,11 +30,11 @@ returns c =
     let e = sym (c .before .before .before .read-within .ensures) ∙ sym (upward (c .before .before .before .read-within .result) (c .before .before .match .keys2)) in
     fills _ _ _ _ noChains [] [] _ noTrace (stopped _ _ _ _ _ _ _ _ _ _ _ _ (simp (c .refusal-of .ensures)) refl refl e)
 
-no-chains-requires : tie.Need-no-chains-requires
-no-chains-requires c κs = search needs
+numbers-1024-requires : tie.Need-numbers-1024-requires
+numbers-1024-requires c κs = search needs
 
-none-requires : tie.Need-none-requires
-none-requires c κs = search needs
+numbers-1025-requires : tie.Need-numbers-1025-requires
+numbers-1025-requires c κs = search needs
 
 records-requires : tie.Need-records-requires
 records-requires c κs = search needs
@@ -51,7 +51,7 @@ fill-rows-requires c κs =
       read-acceptable b (t .start) (t .records) (t .events) (g .read) _ (c .before .before .before .records .ensures),
       read-events b (t .start) (t .records) (t .events) (g .read) _ (c .before .before .before .records .ensures),
       g .has-space,
-      c .before .before .before .before .before .no-chains .ensures,
+      c .before .before .before .before .before .numbers-1024 .ensures,
     )
 
 same-length : tie.Need-same-length
@@ -74,8 +74,8 @@ fill-spec =
     enum-told
     refusal-of-requires
     returns
-    no-chains-requires
-    none-requires
+    numbers-1024-requires
+    numbers-1025-requires
     records-requires
     slice-aggregate-fill-rows
     fill-rows-requires

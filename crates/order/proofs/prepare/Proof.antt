@@ -2,7 +2,7 @@
 -- Assumes nothing.
 use Rattle.order.proofs.PrepareLaws.{stopped, fitting, passed}
 use Rattle.order.proofs.EntryLaws.{records-are, read-acceptable, read-events}
-use Rattle.order.proofs.SpaceLaws.{cleared-chains}
+use Rattle.slices.proofs.Cleared.{cleared-whole}
 use Rattle.order.specs.Paper.{fillPaper}
 use Rattle.trace.specs.Paper.{paper}
 use Rattle.trace.proofs.Upward.{upward}
@@ -34,7 +34,7 @@ unfilled-requires c κs = search needs
 returns : tie.Need-returns
 returns c =
     let e = sym (c .before .before .before .before .read-within .ensures) ∙ sym (upward (c .before .before .before .before .read-within .result) (c .before .before .before .match .keys2)) in
-    stopped _ _ _ _ _ _ _ _ _ _ _ _ (ap fillPaper (c .unfilled .ensures .0) ∙ simp (c .before .refusal-of .ensures)) (c .unfilled .ensures .1) (cleared-chains (now (c .before .before .before .before .before .before .before .before .before .args .of)) _ (omega arith) (c .before .before .before .before .before .clear .ensures)) e
+    stopped _ _ _ _ _ _ _ _ _ _ _ _ (ap fillPaper (c .unfilled .ensures .0) ∙ simp (c .before .refusal-of .ensures)) (c .unfilled .ensures .1) (cleared-whole (now (c .before .before .before .before .before .before .before .before .before .args .of)) (omega arith) (c .before .before .before .before .before .clear .ensures)) e
 
 records-requires : tie.Need-records-requires
 records-requires c κs = search needs
@@ -48,7 +48,7 @@ fill-rows-requires c κs =
       read-acceptable b (t .start) (t .records) (t .events) (g .read) _ (c .before .before .before .records .ensures),
       read-events b (t .start) (t .records) (t .events) (g .read) _ (c .before .before .before .records .ensures),
       g .has-space,
-      cleared-chains (now (a .of)) _ (omega arith) (c .before .before .before .before .before .before .before .before .clear .ensures),
+      cleared-whole (now (a .of)) (omega arith) (c .before .before .before .before .before .before .before .before .clear .ensures),
     )
 
 same-length : tie.Need-same-length

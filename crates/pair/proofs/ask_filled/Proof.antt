@@ -6,7 +6,7 @@ use borrow.Author.Tests.{not-true, not-false}
 use Rattle.records.specs.Bytes.{decode}
 use Rattle.pair.proofs.PairLaws.{no-race, no-list, markable, row-in, for-cover, for-kept, covered, uncovered, marks-fit, as-before}
 use borrow.Author.Needs.{needs}
-use Rattle.records.proofs.MarkLaws.{cleared-within}
+use Rattle.slices.proofs.Cleared.{cleared-within}
 use Rattle.pair.proofs.ask_filled.Statement.{statement}
 use Rattle.pair.proofs.ask_filled.Tie as tie
 

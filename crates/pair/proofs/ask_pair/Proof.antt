@@ -12,11 +12,11 @@ use borrow.Author.Needs.{needs}
 use Rattle.pair.proofs.ask_pair.Statement.{statement}
 use Rattle.pair.proofs.ask_pair.Tie as tie
 
-no-chains-requires : tie.Need-no-chains-requires
-no-chains-requires c κs = search needs
+numbers-1024-requires : tie.Need-numbers-1024-requires
+numbers-1024-requires c κs = search needs
 
-none-requires : tie.Need-none-requires
-none-requires c κs = search needs
+numbers-1025-requires : tie.Need-numbers-1025-requires
+numbers-1025-requires c κs = search needs
 
 smaller-requires : tie.Need-smaller-requires
 smaller-requires c κs = search needs
@@ -121,8 +121,8 @@ pub ask-pair-spec : {M : Type 1} → statement M
 ask-pair-spec =
     tie.close
     (tie.spec
-    no-chains-requires
-    none-requires
+    numbers-1024-requires
+    numbers-1025-requires
     smaller-requires
     larger-requires
     prepare-requires

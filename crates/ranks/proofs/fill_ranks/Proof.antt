@@ -1,9 +1,9 @@
 -- `ranks::fill_ranks` meets its contract.
 -- Assumes nothing.
 use Rattle.records.proofs.Decoded.{decoded-length}
-use lib.ListN.{length, replicate}
+use Rattle.slices.proofs.Cleared.{cleared-whole}
 use Rattle.ranks.proofs.RankLaws.{ranks-more}
-use Rattle.ranks.specs.Ranks.{noRanks, ranksUpto, ranksOf}
+use Rattle.ranks.specs.Ranks.{ranksUpto, ranksOf}
 use Rattle.records.proofs.Records.{past-more}
 use Rattle.records.specs.Records.{past, begins}
 use Rattle.records.specs.Bytes.{decode}
@@ -34,10 +34,10 @@ clear-requires : tie.Need-clear-requires Inv-loop μ-loop
 clear-requires c κs = search needs
 
 loop-holds : tie.Need-loop-holds Inv-loop μ-loop
-unfolding ranksUpto noRanks begins past
+unfolding ranksUpto begins past
 loop-holds c =
     let start = c .before .before .before .before in
-    let e : length (now (start .args .all)) ≡ 1025 = omega arith in (c .clear .ensures ∙ ap (λ (k : ℕ). replicate k 0) e, refl, search needs, search needs)
+    (cleared-whole (now (start .args .all)) (omega arith) (c .clear .ensures), refl, search needs, search needs)
 
 kind-at-requires : tie.Need-kind-at-requires Inv-loop μ-loop
 kind-at-requires c κs = search needs

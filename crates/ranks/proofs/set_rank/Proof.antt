@@ -1,39 +1,25 @@
 -- `ranks::set_rank` meets its contract.
 -- Assumes nothing.
 use Rattle.ranks.specs.Ranks.{withRank}
-use lib.Seq.{set-out}
-use Prim.Native.Nat.{_%_}
-use mathlib.Core.Path.{refl, sym}
-use denote.Ref.{now}
 use borrow.Author.Needs.{needs}
 use Rattle.ranks.proofs.set_rank.Statement.{statement}
 use Rattle.ranks.proofs.set_rank.Tie as tie
 
-cast-at : tie.Need-cast-at
-cast-at c = search needs
+cast-put : tie.Need-cast-put
+cast-put c = search needs
 
-cast-ranks : tie.Need-cast-ranks
-cast-ranks c = search needs
+cast-put-2 : tie.Need-cast-put-2
+cast-put-2 c = search needs
 
-mul-ranks : tie.Need-mul-ranks
-mul-ranks c = search needs
-
-slice-write-ranks : tie.Need-slice-write-ranks
-slice-write-ranks c = search needs
+put-requires : tie.Need-put-requires
+put-requires c κs = search needs
 
 same-length : tie.Need-same-length
 same-length c = search needs
 
 returns : tie.Need-returns
 unfolding withRank
-returns c = refl
-
-returns-2 : tie.Need-returns-2
-unfolding withRank
-returns-2 c =
-    let a = c .before .before .args in
-    sym (set-out (now (a .ranks)) (a .e .0) (a .rank % 65536) (c .if1 .left))
+returns c = c .before .before .put .ensures
 
 pub set-rank-spec : {M : Type 1} → statement M
-set-rank-spec =
-    tie.close (tie.spec cast-at cast-ranks mul-ranks slice-write-ranks same-length returns returns-2)
+set-rank-spec = tie.close (tie.spec cast-put cast-put-2 put-requires same-length returns)

@@ -2,6 +2,12 @@
 -- Assumes nothing.
 use Rattle.recorder.specs.Recording.{ofNumbers}
 use Rattle.recorder.proofs.Left.{close-closed, close-inside, close-short, close-done}
+use Rattle.records.specs.Bytes.{recordBytes}
+use Rattle.records.specs.Encoding.{trailer}
+use Rattle.records.proofs.Stored.{stored-is}
+use mathlib.Core.Path.{_∙_}
+use native.Mathlib.Omega.{arith}
+use Prim.Native.Nat.{_*_}
 use denote.Ref.{now}
 use borrow.Author.Needs.{needs}
 use Rattle.recorder.proofs.close_numbers.Statement.{statement}
@@ -75,7 +81,9 @@ returns-4 c =
     let at-if1 = at-stored-records .before in
     let a = at-if1 .before .before .args in
     let r = ofNumbers (a .count) (a .situation) (a .owner) (a .closed) in
-    simp (c .before .before .put-trailer .ensures, at-begins .begins .ensures)
+    let at = recordBytes * at-stored-records .stored-records .result in
+    let put = stored-is (now (a .bytes)) at (trailer at (at-begins .begins .result)) (unfold trailer in omega arith) in
+    simp (c .before .before .put-trailer .ensures ∙ put, at-begins .begins .ensures)
     (close-done (now (a .bytes)) r (at-if1 .if1 .left) (at-stored-records .stored-records .result) (at-stored-records .stored-records .ensures .0)
     (at-if2 .if2 .left) (at-if3 .if3 .left))
 

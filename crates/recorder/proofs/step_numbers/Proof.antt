@@ -2,9 +2,14 @@
 -- Assumes nothing.
 use Rattle.recorder.specs.Recording.{ofNumbers}
 use Rattle.recorder.proofs.Left.{full-none, full-not, spaced, step-closed, step-judged, step-full, step-taken}
+use Rattle.records.specs.Bytes.{recordBytes}
+use Rattle.records.specs.Encoding.{encode}
+use Rattle.records.proofs.Stored.{stored-is}
 use Rattle.trace.specs.Paper.{checkedPaper}
 use borrow.Author.Tests.{not-true, not-false}
 use mathlib.Core.Path.{sym, ap, _∙_}
+use mathlib.Core.List.{[], _∷_}
+use Prim.Native.Nat.{_*_}
 use denote.Ref.{now}
 use native.Mathlib.Omega.{arith}
 use borrow.Author.Needs.{needs}
@@ -64,12 +69,7 @@ mul-put-record : tie.Need-mul-put-record
 mul-put-record c = search needs
 
 put-record-requires : tie.Need-put-record-requires
-put-record-requires c κs =
-    let at-stored-records = c .before .before .before .before .before .before .before .before .before in
-    let start = at-stored-records .before .before .before in
-    let p = spaced (now (start .args .bytes)) (at-stored-records .stored-records .result)
-    (sym (c .before .before .has-space .ensures) ∙ not-false (c .before .before .has-space .result) (c .before .if2 .left)) in
-    omega arith
+put-record-requires c κs = search needs
 
 add-step-taken : tie.Need-add-step-taken
 add-step-taken c = search needs
@@ -112,9 +112,12 @@ returns-4 c =
     let a = start .args in
     let r = ofNumbers (a .count) (a .situation) (a .owner) (a .closed) in
     let g = at-checked2 .checked2 .given in
-    let f = full-not (now (a .bytes)) (at-stored-records .stored-records .result)
-    (sym (at-has-space .has-space .ensures) ∙ not-false (at-has-space .has-space .result) (at-if2 .if2 .left)) in
-    simp (c .step-taken .ensures .0, c .step-taken .ensures .1, at-put-record .put-record .ensures)
+    let s = sym (at-has-space .has-space .ensures) ∙ not-false (at-has-space .has-space .result) (at-if2 .if2 .left) in
+    let f = full-not (now (a .bytes)) (at-stored-records .stored-records .result) s in
+    let room = spaced (now (a .bytes)) (at-stored-records .stored-records .result) s in
+    let at = recordBytes * at-stored-records .stored-records .result in
+    let put = stored-is (now (a .bytes)) at (encode (a .rec ∷ [])) (unfold encode in omega arith) in
+    simp (c .step-taken .ensures .0, c .step-taken .ensures .1, at-put-record .put-record .ensures, put)
     (step-taken (now (a .bytes)) r (at-if1 .if1 .left) (at-stored-records .stored-records .result) (at-stored-records .stored-records .ensures .0) (a .rec)
     (g .0 .0) (sym (ap checkedPaper (g .1)) ∙ at-check .check .ensures) f)
 

@@ -1,12 +1,12 @@
 -- `report::no_clocks` meets its contract.
 -- Assumes nothing.
 use mathlib.Core.Path.{refl}
-use Rattle.report.specs.Text.{noClocks}
+use Rattle.slices.specs.Slices.{zeros}
 use Rattle.report.proofs.no_clocks.Statement.{statement}
 use Rattle.report.proofs.no_clocks.Tie as tie
 
 returns : tie.Need-returns
-unfolding noClocks
+unfolding zeros
 returns c = refl
 
 pub no-clocks-spec : {M : Type 1} → statement M

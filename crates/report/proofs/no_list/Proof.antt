@@ -1,12 +1,12 @@
 -- `report::no_list` meets its contract.
 -- Assumes nothing.
 use mathlib.Core.Path.{refl}
-use Rattle.report.specs.Text.{noList}
+use Rattle.slices.specs.Slices.{zeros}
 use Rattle.report.proofs.no_list.Statement.{statement}
 use Rattle.report.proofs.no_list.Tie as tie
 
 returns : tie.Need-returns
-unfolding noList
+unfolding zeros
 returns c = refl
 
 pub no-list-spec : {M : Type 1} → statement M

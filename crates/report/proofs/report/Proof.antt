@@ -22,8 +22,8 @@ returns c =
 no-clocks-requires : tie.Need-no-clocks-requires
 no-clocks-requires c κs = search needs
 
-no-work-requires : tie.Need-no-work-requires
-no-work-requires c κs = search needs
+bytes-1024-requires : tie.Need-bytes-1024-requires
+bytes-1024-requires c κs = search needs
 
 no-list-requires : tie.Need-no-list-requires
 no-list-requires c κs = search needs
@@ -58,7 +58,7 @@ put-entries-requires c κs =
     let start = spaces .before .before .before .before in
     let input = now (start .before .before .args .input) in
     let short = spaces .before .before .before .if1 .left in
-    let zeros = over-zeros (spaces .before .before .no-clocks .ensures) (spaces .before .no-work .ensures) (spaces .no-list .ensures) in
+    let zeros = over-zeros (spaces .before .before .no-clocks .ensures) (spaces .before .bytes-1024 .ensures) (spaces .no-list .ensures) in
     let lists = zeros (called .short-list .ensures) in
     listed-few input _ _ _ _ short lists _ _ _ _ (ap listPaper (found .found .given .1))
 
@@ -84,7 +84,7 @@ returns-2 c =
     let start = spaces .before .before .before .before in
     let input = now (start .before .before .args .input) in
     let short = spaces .before .before .before .if1 .left in
-    let zeros = over-zeros (spaces .before .before .no-clocks .ensures) (spaces .before .no-work .ensures) (spaces .no-list .ensures) in
+    let zeros = over-zeros (spaces .before .before .no-clocks .ensures) (spaces .before .bytes-1024 .ensures) (spaces .no-list .ensures) in
     let lists = zeros (called .short-list .ensures) in
     rw (listed-lines input _ _ _ _ short lists _ _ _ _ (ap listPaper (found .found .given .1)))
     (prints-then (s7 .put-header .ensures) (c .before .before .put-entries .ensures))
@@ -100,7 +100,7 @@ returns-3 c =
     let start = spaces .before .before .before .before in
     let input = now (start .before .before .args .input) in
     let short = spaces .before .before .before .if1 .left in
-    let zeros = over-zeros (spaces .before .before .no-clocks .ensures) (spaces .before .no-work .ensures) (spaces .no-list .ensures) in
+    let zeros = over-zeros (spaces .before .before .no-clocks .ensures) (spaces .before .bytes-1024 .ensures) (spaces .no-list .ensures) in
     let lists = zeros (called .short-list .ensures) in
     rw (refused-lines input _ _ _ _ short lists _ _ (ap listPaper (found .found2 .given .1))) (prints-one (c .before .before .put-refusal2 .ensures))
 
@@ -112,7 +112,7 @@ report-spec =
     same-length
     returns
     no-clocks-requires
-    no-work-requires
+    bytes-1024-requires
     no-list-requires
     slice-aggregate-short-list
     slice-aggregate-short-list-2

@@ -10,8 +10,8 @@ use borrow.Author.Needs.{needs}
 use Rattle.order.proofs.linking.note.Statement.{statement}
 use Rattle.order.proofs.linking.note.Tie as tie
 
-number-at-requires : tie.Need-number-at-requires
-number-at-requires c κs = search needs
+get-requires : tie.Need-get-requires
+get-requires c κs = search needs
 
 hint-of-requires : tie.Need-hint-of-requires
 hint-of-requires c κs = search needs
@@ -43,7 +43,7 @@ returns-2 c =
     let a = s .before .before .before .before .args in
     let hs = now (a .hints) in
     let h = s .hint-of .ensures in
-    let n = s .before .number-at .ensures in
+    let n = s .before .get .ensures in
     let e : s .hint-of .result ≡ max (getD hs (a .u) 0) (1024 - getD hs (a .p) 0) = omega (arith, c .if2 .taken) in
     ap (set hs (a .u)) e
 
@@ -56,7 +56,7 @@ returns-3 c =
     let a = s .before .before .before .before .args in
     let hs = now (a .hints) in
     let h = s .hint-of .ensures in
-    let n = s .before .number-at .ensures in
+    let n = s .before .get .ensures in
     let e : max (getD hs (a .u) 0) (1024 - getD hs (a .p) 0) ≡ getD hs (a .u) 0 = omega (arith, c .if2 .left) in
     sym (ap (set hs (a .u)) e ∙ set-getD hs (a .u) 0)
 
@@ -64,7 +64,7 @@ pub note-spec : {M : Type 1} → statement M
 note-spec =
     tie.close
     (tie.spec
-    number-at-requires
+    get-requires
     hint-of-requires
     same-length
     returns

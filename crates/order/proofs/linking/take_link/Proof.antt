@@ -6,8 +6,8 @@ use borrow.Author.Needs.{needs}
 use Rattle.order.proofs.linking.take_link.Statement.{statement}
 use Rattle.order.proofs.linking.take_link.Tie as tie
 
-number-at-requires : tie.Need-number-at-requires
-number-at-requires c κs = search needs
+get-requires : tie.Need-get-requires
+get-requires c κs = search needs
 
 note-requires : tie.Need-note-requires
 note-requires c κs = search needs
@@ -25,7 +25,7 @@ returns : tie.Need-returns
 returns c =
     let s4 = c .before .before .before .before in
     let s7 = s4 .before .before .before in
-    let hint = s7 .before .before .number-at .ensures in
+    let hint = s7 .before .before .get .ensures in
     (rw (eq-eqb _ 0 (sym hint ∙ s4 .if1 .taken)) (c .before .before .copy-row .ensures), s7 .note .ensures)
 
 merge-row-requires : tie.Need-merge-row-requires
@@ -41,14 +41,14 @@ returns-2 : tie.Need-returns-2
 returns-2 c =
     let s4 = c .before .before .before .before in
     let s7 = s4 .before .before .before in
-    let hint = s7 .before .before .number-at .ensures in
+    let hint = s7 .before .before .get .ensures in
     (rw (ne-eqb _ 0 (λ z. s4 .if1 .left (hint ∙ z))) (c .before .before .merge-row .ensures), s7 .note .ensures)
 
 pub take-link-spec : {M : Type 1} → statement M
 take-link-spec =
     tie.close
     (tie.spec
-    number-at-requires
+    get-requires
     note-requires
     copy-row-requires
     same-length

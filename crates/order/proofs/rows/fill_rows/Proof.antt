@@ -1,12 +1,12 @@
 -- `order::rows::fill_rows` meets its contract.
 -- Assumes nothing.
 use Rattle.order.proofs.FillEnds.{ready, ends-short, ends-whole}
-use Rattle.order.proofs.SpaceLaws.{no-chains-length, cleared-chains}
+use Rattle.slices.proofs.Cleared.{zeros-length, cleared-whole}
 use Rattle.order.proofs.TableLaws.{events-few}
 use Rattle.records.specs.Bytes.{decode}
 use lib.ListN.{length}
 use native.Mathlib.Omega.{arith}
-use mathlib.Core.Path.{refl, ap, _∙_}
+use mathlib.Core.Path.{sym, refl, ap, _∙_}
 use Prim.Native.Nat.{_≤_, _<_}
 use denote.Ref.{now}
 use borrow.Author.Needs.{needs}
@@ -19,8 +19,8 @@ cast-rows c = omega (arith, c .before .before .before .pre .1, events-few (c .be
 fill-ranks-requires : tie.Need-fill-ranks-requires
 fill-ranks-requires c κs = search needs
 
-no-chains-requires : tie.Need-no-chains-requires
-no-chains-requires c κs = search needs
+numbers-1024-requires : tie.Need-numbers-1024-requires
+numbers-1024-requires c κs = search needs
 
 clear-rows-requires : tie.Need-clear-rows-requires
 clear-rows-requires c κs = search needs
@@ -31,7 +31,7 @@ slice-aggregate-pass c = search needs
 pass-requires : tie.Need-pass-requires
 pass-requires c κs =
     let a = c .before .before .before .before .before .before .before .before .before .before .before .before .before .before .before in
-    ready _ (a .pre .0) _ _ (a .pre .1) (now (a .args .clocks)) _ (a .pre .2) (c .before .before .before .before .before .before .before .clear-rows .ensures) _ _ _ (c .before .before .before .before .before .before .before .before .before .before .fill-ranks .ensures) (c .before .before .before .before .before .before .before .before .before .no-chains .ensures) (a .pre .3)
+    ready _ (a .pre .0) _ _ (a .pre .1) (now (a .args .clocks)) _ (a .pre .2) (c .before .before .before .before .before .before .before .clear-rows .ensures) _ _ _ (c .before .before .before .before .before .before .before .before .before .before .fill-ranks .ensures) (c .before .before .before .before .before .before .before .before .before .numbers-1024 .ensures) (a .pre .3)
 
 count-requires : tie.Need-count-requires
 count-requires c κs = search needs
@@ -40,7 +40,7 @@ clear-rows-requires-2 : tie.Need-clear-rows-requires-2
 clear-rows-requires-2 c κs = search needs
 
 clear-requires : tie.Need-clear-requires
-clear-requires c κs = omega (arith, c .before .before .before .before .before .before .before .before .before .before .before .before .pass .kept .1 .1 .1 .1 .1 .0, ap length (c .before .before .before .before .before .before .before .before .before .before .before .before .before .before .before .before .before .before .before .before .before .before .before .before .before .before .before .before .pre .3), no-chains-length)
+clear-requires c κs = omega (arith, c .before .before .before .before .before .before .before .before .before .before .before .before .pass .kept .1 .1 .1 .1 .1 .0, ap length (c .before .before .before .before .before .before .before .before .before .before .before .before .before .before .before .before .before .before .before .before .before .before .before .before .before .before .before .before .pre .3), zeros-length 1024)
 
 add-t31 : tie.Need-add-t31
 add-t31 c = search needs
@@ -59,7 +59,7 @@ returns c =
     let a = c .before .before .before .before .before .before .before .before .before .before .before .before .before .before .before .before .before .before .before .before .before .before .before .before .before .before .before .before .before .before .before in
     let p = c .before .before .before .before .before .before .before .before .before .before .before .before .before .before .before .pass in
     let h : p .result .position < length (decode (now (a .args .recs))) = omega (arith, c .before .before .before .before .before .before .before .before .before .count .ensures, c .before .before .before .before .before .before .before .before .if1 .taken) in
-    let o = cleared-chains (p .last .1 .1 .1 .1 .1 .0) _ (p .kept .1 .1 .1 .1 .1 .0 ∙ (ap length (a .pre .3) ∙ no-chains-length)) (c .before .before .clear .ensures) in
+    let o = cleared-whole (p .last .1 .1 .1 .1 .1 .0) (sym (p .kept .1 .1 .1 .1 .1 .0 ∙ (ap length (a .pre .3) ∙ zeros-length 1024))) (c .before .before .clear .ensures) in
     ends-short _ (a .pre .0) _ _ (a .pre .1) (now (a .args .clocks)) _ (a .pre .2) (c .before .before .before .before .before .before .before .before .before .before .before .before .before .before .before .before .before .before .before .before .before .before .before .clear-rows .ensures) _ _ _ _ (p .ensures) h _ _ _ (p .kept .1 .1 .0) (c .before .before .before .before .before .before .clear-rows2 .ensures) o (c .before .before .before .before .before .before .before .before .before .before .before .before .before .before .before .before .before .before .before .before .before .before .before .before .before .before .fill-ranks .ensures) _ refl
 
 same-length-3 : tie.Need-same-length-3
@@ -81,7 +81,7 @@ fill-rows-spec =
     (tie.spec
     cast-rows
     fill-ranks-requires
-    no-chains-requires
+    numbers-1024-requires
     clear-rows-requires
     slice-aggregate-pass
     pass-requires

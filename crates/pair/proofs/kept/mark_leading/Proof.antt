@@ -2,17 +2,17 @@
 -- Assumes nothing.
 use denote.Ref.{now}
 use native.Mathlib.Omega.{arith}
-use Prim.Native.Nat.{ℕ}
-use mathlib.Core.Path.{ap, _∙_}
-use lib.ListN.{length, length-set, length-replicate}
+use mathlib.Core.Path.{refl, ap, _∙_}
+use lib.ListN.{length, length-set}
+use Rattle.slices.proofs.Cleared.{zeros-length, cleared-whole}
 use Rattle.pair.proofs.KeptLaws.{none-bytes}
 use Rattle.pair.proofs.KeptSteps.{in-trace, start-bounds, start-split, start-passing, marks-all}
 use borrow.Author.Needs.{needs}
 use Rattle.pair.proofs.kept.mark_leading.Statement.{statement}
 use Rattle.pair.proofs.kept.mark_leading.Tie as tie
 
-none-requires : tie.Need-none-requires
-none-requires c κs = search needs
+bytes-1025-requires : tie.Need-bytes-1025-requires
+bytes-1025-requires c κs = search needs
 
 clear-requires : tie.Need-clear-requires
 clear-requires c κs = search needs
@@ -23,7 +23,7 @@ mul-merge-into c = let s = c .before .before .before .before .before .before .be
 merge-into-requires : tie.Need-merge-into-requires
 merge-into-requires c κs =
     let s = c .before .before .before .before .before .before .before .before .before .before .before in
-    let e = ap length (c .before .before .before .clear .ensures) ∙ length-replicate {A = ℕ} (length (now (s .args .row))) 0 in
+    let e = ap length (cleared-whole (now (s .args .row)) refl (c .before .before .before .clear .ensures)) ∙ zeros-length (length (now (s .args .row))) in
     (omega (arith, start-bounds (s .pre)), omega (arith, start-bounds (s .pre), s .pre .row-room, e))
 
 block-start-requires : tie.Need-block-start-requires
@@ -33,7 +33,7 @@ slice-aggregate-note : tie.Need-slice-aggregate-note
 slice-aggregate-note c = search needs
 
 note-requires : tie.Need-note-requires
-note-requires c κs = let s = c .before .before .before .before .before .before .before .before .before .before .before .before .before .before .before .before in (s .pre .filled .acceptable, c .before .block-start .ensures .low, omega (arith, in-trace (s .pre)), rw (c .before .before .before .before .before .before .before .before .before .before .none .ensures) none-bytes)
+note-requires c κs = let s = c .before .before .before .before .before .before .before .before .before .before .before .before .before .before .before .before in (s .pre .filled .acceptable, c .before .block-start .ensures .low, omega (arith, in-trace (s .pre)), rw (c .before .before .before .before .before .before .before .before .before .before .bytes-1025 .ensures) none-bytes)
 
 slice-write-work : tie.Need-slice-write-work
 slice-write-work c = let s = c .before .before .before .before .before .before .before .before .before .before .before .before .before .before .before .before .before .before in omega (arith, start-bounds (s .pre), s .pre .clear .work-room)
@@ -44,8 +44,8 @@ slice-aggregate-pass-down c = search needs
 pass-down-requires : tie.Need-pass-down-requires
 pass-down-requires c κs =
     let s = c .before .before .before .before .before .before .before .before .before .before .before .before .before .before .before .before .before .before .before .before .before in
-    let e = ap length (c .before .before .before .before .before .before .before .before .before .before .before .before .before .clear .ensures) ∙ length-replicate {A = ℕ} (length (now (s .args .row))) 0 in
-    (start-passing (s .pre) (c .before .before .before .before .before .before .before .before .before .before .before .before .before .before .before .none .ensures) (c .before .before .before .before .note .ensures) _ (c .before .before .before .before .before .before .before .before .before .merge-into .ensures .size ∙ e), (start-split (s .pre) (c .before .before .before .before .before .before .block-start .ensures), omega (arith, start-bounds (s .pre))))
+    let e = ap length (cleared-whole (now (s .args .row)) refl (c .before .before .before .before .before .before .before .before .before .before .before .before .before .clear .ensures)) ∙ zeros-length (length (now (s .args .row))) in
+    (start-passing (s .pre) (c .before .before .before .before .before .before .before .before .before .before .before .before .before .before .before .bytes-1025 .ensures) (c .before .before .before .before .note .ensures) _ (c .before .before .before .before .before .before .before .before .before .merge-into .ensures .size ∙ e), (start-split (s .pre) (c .before .before .before .before .before .before .block-start .ensures), omega (arith, start-bounds (s .pre))))
 
 same-length : tie.Need-same-length
 same-length c = c .before .before .before .before .before .pass-down .ensures .passes .rest .size ∙ simp length-set
@@ -56,13 +56,13 @@ same-length-2 c = search needs
 returns : tie.Need-returns
 returns c =
     let s = c .before .before .before .before .before .before .before .before .before .before .before .before .before .before .before .before .before .before .before .before .before .before .before .before .before .before .before in
-    marks-all (s .pre) (c .before .before .before .before .before .before .before .before .before .before .before .before .before .before .before .before .before .before .before .before .before .none .ensures) (c .before .before .before .before .before .before .before .before .before .before .note .ensures) _ _ _ _ _ (c .before .before .before .before .before .before .before .before .before .before .before .before .before .before .before .before .before .before .before .clear .ensures) (c .before .before .before .before .before .before .before .before .before .before .before .before .before .before .before .merge-into .ensures) (c .before .before .before .before .before .before .before .before .before .before .before .before .block-start .ensures) (c .before .before .before .before .before .pass-down .ensures)
+    marks-all (s .pre) (c .before .before .before .before .before .before .before .before .before .before .before .before .before .before .before .before .before .before .before .before .before .bytes-1025 .ensures) (c .before .before .before .before .before .before .before .before .before .before .note .ensures) _ _ _ _ _ (cleared-whole (now (s .args .row)) refl (c .before .before .before .before .before .before .before .before .before .before .before .before .before .before .before .before .before .before .before .clear .ensures)) (c .before .before .before .before .before .before .before .before .before .before .before .before .before .before .before .merge-into .ensures) (c .before .before .before .before .before .before .before .before .before .before .before .before .block-start .ensures) (c .before .before .before .before .before .pass-down .ensures)
 
 pub mark-leading-spec : {M : Type 1} → statement M
 mark-leading-spec =
     tie.close
     (tie.spec
-    none-requires
+    bytes-1025-requires
     clear-requires
     mul-merge-into
     merge-into-requires

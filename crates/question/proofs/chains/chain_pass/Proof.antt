@@ -1,14 +1,13 @@
 -- `question::chains::chain_pass` meets its contract.
 -- Assumes nothing.
 use Rattle.question.proofs.MemberLaws.{Going, going-start, going-room, going-next, going-stop, going-end}
-use Rattle.question.proofs.MarkListLaws.{no-marks-length}
-use Rattle.order.specs.Fill.{noChains}
+use Rattle.slices.proofs.Cleared.{zeros-length}
 use Rattle.records.specs.Bytes.{decode}
 use borrow.Author.Needs.{needs}
-use lib.ListN.{length, length-replicate}
+use lib.ListN.{length}
 use native.Mathlib.Omega.{arith}
 use mathlib.Core.Path.{_≡_, sym, ap, _∙_}
-use Prim.Native.Nat.{ℕ, _-_, _≤_, _<_}
+use Prim.Native.Nat.{_-_, _≤_, _<_}
 use denote.Ref.{now}
 use Rattle.question.proofs.chains.chain_pass.Statement.{statement}
 use Rattle.question.proofs.chains.chain_pass.Tie as tie
@@ -22,15 +21,14 @@ abbrev μ-loop : tie.MeasureT-loop
 count-requires : tie.Need-count-requires Inv-loop μ-loop
 count-requires c κs = search needs
 
-no-marks-requires : tie.Need-no-marks-requires Inv-loop μ-loop
-no-marks-requires c κs = search needs
+bytes-1024-requires : tie.Need-bytes-1024-requires Inv-loop μ-loop
+bytes-1024-requires c κs = search needs
 
-no-chains-requires : tie.Need-no-chains-requires Inv-loop μ-loop
-no-chains-requires c κs = search needs
+numbers-1024-requires : tie.Need-numbers-1024-requires Inv-loop μ-loop
+numbers-1024-requires c κs = search needs
 
 loop-holds : tie.Need-loop-holds Inv-loop μ-loop
-unfolding noChains
-loop-holds c = (going-start _ _ _ _ _ (ap length (c .no-chains .ensures) ∙ length-replicate {A = ℕ} 1024 0) (c .before .before .before .before .before .pre), ap length (c .before .no-marks .ensures) ∙ no-marks-length 1024)
+loop-holds c = (going-start _ _ _ _ _ (ap length (c .numbers-1024 .ensures) ∙ zeros-length 1024) (c .before .before .before .before .before .pre), ap length (c .before .bytes-1024 .ensures) ∙ zeros-length 1024)
 
 slice-aggregate-turn : tie.Need-slice-aggregate-turn Inv-loop μ-loop
 slice-aggregate-turn c = sym (c .before .before .loop .inv .1)
@@ -71,8 +69,8 @@ chain-pass-spec =
     Inv-loop
     μ-loop
     count-requires
-    no-marks-requires
-    no-chains-requires
+    bytes-1024-requires
+    numbers-1024-requires
     loop-holds
     slice-aggregate-turn
     slice-aggregate-turn-2

@@ -1,19 +1,14 @@
 -- `question::chains::is_marked` meets its contract.
 -- Assumes nothing.
-use lib.ListN.{List·getD-eq-default}
-use denote.Ref.{now}
 use borrow.Author.Needs.{needs}
 use Rattle.question.proofs.chains.is_marked.Statement.{statement}
 use Rattle.question.proofs.chains.is_marked.Tie as tie
 
+get-requires : tie.Need-get-requires
+get-requires c κs = search needs
+
 returns : tie.Need-returns
-returns c = simp (List·getD-eq-default (now (c .before .args .marks)) 0 {n = c .before .args .row} (c .if1 .taken))
-
-shared-slice-read-result : tie.Need-shared-slice-read-result
-shared-slice-read-result c = search needs
-
-returns-2 : tie.Need-returns-2
-returns-2 c = search needs
+returns c = simp (c .get .ensures)
 
 pub is-marked-spec : {M : Type 1} → statement M
-is-marked-spec = tie.close (tie.spec returns shared-slice-read-result returns-2)
+is-marked-spec = tie.close (tie.spec get-requires returns)

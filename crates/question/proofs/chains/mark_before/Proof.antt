@@ -6,6 +6,7 @@ use Rattle.question.specs.ChainPass.{saidBy}
 use Rattle.question.specs.Marking.{marksDownIn}
 use Rattle.records.specs.Bytes.{decode}
 use lib.ListN.{length, set}
+use Rattle.slices.proofs.Cleared.{cleared-whole}
 use native.Mathlib.Omega.{arith}
 use mathlib.Core.Path.{_≡_, refl, sym, ap, _∙_}
 use Prim.Native.Nat.{_-_}
@@ -19,11 +20,11 @@ Inv-loop recs ranks i u marks₀ j₀ marks j = (marksDownIn (saidBy ranks (deco
 abbrev μ-loop : tie.MeasureT-loop
 μ-loop recs ranks i u marks₀ j₀ marks j = j
 
-clear-marks-requires : tie.Need-clear-marks-requires Inv-loop μ-loop
-clear-marks-requires c κs = search needs
+clear-requires : tie.Need-clear-requires Inv-loop μ-loop
+clear-requires c κs = search needs
 
-set-mark-requires : tie.Need-set-mark-requires Inv-loop μ-loop
-set-mark-requires c κs = search needs
+put-requires : tie.Need-put-requires Inv-loop μ-loop
+put-requires c κs = search needs
 
 loop-holds : tie.Need-loop-holds Inv-loop μ-loop
 loop-holds c = (refl, refl)
@@ -44,13 +45,17 @@ loop-again c =
     (ap (marksDownIn op (l .j - 1)) (c .before .before .mark-link .ensures) ∙ sym (marks-down op (l .j) (l .marks) (c .before .before .before .before .loop-test .taken)) ∙ l .inv .0, ap length (c .before .before .mark-link .ensures) ∙ mark-in-length (op (l .j - 1)) (l .marks) ∙ l .inv .1)
 
 same-length : tie.Need-same-length Inv-loop μ-loop
-same-length c = c .before .loop .inv .1 ∙ (c .before .before .before .before .set-mark .kept .0 ∙ c .before .before .before .before .before .before .before .before .clear-marks .kept .0)
+same-length c = c .before .loop .inv .1 ∙ (c .before .before .before .before .put .kept .0 ∙ c .before .before .before .before .before .before .before .before .clear .kept .0)
 
 returns : tie.Need-returns Inv-loop μ-loop
 unfolding marksDownIn
 returns c =
     let z : c .before .loop .j ≡ 0 = omega arith in
-    rw z at (c .before .loop .inv .0) ∙ ap (marksDownIn _ (c .before .before .before .before .before .before .before .before .before .before .before .before .before .args .i)) (c .before .before .before .before .set-mark .ensures ∙ ap (λ m. set m (c .before .before .before .before .before .before .before .before .before .before .before .before .before .args .u) 1) (c .before .before .before .before .before .before .before .before .clear-marks .ensures))
+    let at-put = c .before .before .before .before in
+    let at-clear = at-put .before .before .before .before in
+    let a = at-clear .before .before .before .before .before .args in
+    rw z at (c .before .loop .inv .0)
+    ∙ ap (marksDownIn _ (a .i)) (at-put .put .ensures ∙ ap (λ m. set m (a .u) 1) (cleared-whole (now (a .marks)) refl (at-clear .clear .ensures)))
 
 pub mark-before-spec : {M : Type 1} → statement M
 mark-before-spec =
@@ -58,8 +63,8 @@ mark-before-spec =
     (tie.spec
     Inv-loop
     μ-loop
-    clear-marks-requires
-    set-mark-requires
+    clear-requires
+    put-requires
     loop-holds
     sub-j
     mark-link-requires

@@ -20,11 +20,11 @@ cast-is-marked c = search needs
 is-marked-requires : tie.Need-is-marked-requires
 is-marked-requires c κs = search needs
 
-cast-set-mark : tie.Need-cast-set-mark
-cast-set-mark c = search needs
+cast-put : tie.Need-cast-put
+cast-put c = search needs
 
-set-mark-requires : tie.Need-set-mark-requires
-set-mark-requires c κs = search needs
+put-requires : tie.Need-put-requires
+put-requires c κs = search needs
 
 enum-told : tie.Need-enum-told
 enum-told c = search needs
@@ -37,7 +37,7 @@ same-length c = search needs
 
 returns : tie.Need-returns
 unfolding markIn
-returns c = rw (sym (c .before .before .before .before .before .before .before .before .before .before .ordering-at .ensures) ∙ ap says (c .before .before .before .before .before .before .before .before .said .given .1)) (c .before .before .set-mark .ensures ∙ simp (← c .before .before .before .before .before .is-marked .ensures, c .before .before .before .before .if1 .taken))
+returns c = rw (sym (c .before .before .before .before .before .before .before .before .before .before .ordering-at .ensures) ∙ ap says (c .before .before .before .before .before .before .before .before .said .given .1)) (c .before .before .put .ensures ∙ simp (← c .before .before .before .before .before .is-marked .ensures, c .before .before .before .before .if1 .taken))
 
 same-length-2 : tie.Need-same-length-2
 same-length-2 c = search needs
@@ -62,8 +62,8 @@ mark-link-spec =
     enum-known-said
     cast-is-marked
     is-marked-requires
-    cast-set-mark
-    set-mark-requires
+    cast-put
+    put-requires
     enum-told
     enum-told-2
     same-length

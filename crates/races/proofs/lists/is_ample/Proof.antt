@@ -20,7 +20,7 @@ returns-2 c = λ x. absurd x
 returns-3 : tie.Need-returns-3
 returns-3 c = λ x.
     let a = c .before .before .before .args in
-    let l = leb→le (a .records) (a .space / 10) x in
+    let l = leb→le (a .records) (a .space / 5 / 2) x in
     (omega arith, record { for-short = λ e. omega arith; for-all = λ e. absurd (not-both (a .short) (c .if3 .taken) e) })
 
 mul-result : tie.Need-mul-result

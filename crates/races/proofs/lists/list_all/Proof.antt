@@ -21,14 +21,14 @@ abbrev μ-loop : tie.MeasureT-loop
 count-requires : tie.Need-count-requires Inv-loop μ-loop
 count-requires c κs = search needs
 
-no-numbers-requires : tie.Need-no-numbers-requires Inv-loop μ-loop
-no-numbers-requires c κs = search needs
+numbers-1025-requires : tie.Need-numbers-1025-requires Inv-loop μ-loop
+numbers-1025-requires c κs = search needs
 
-no-numbers-requires-2 : tie.Need-no-numbers-requires-2 Inv-loop μ-loop
-no-numbers-requires-2 c κs = search needs
+numbers-1025-requires-2 : tie.Need-numbers-1025-requires-2 Inv-loop μ-loop
+numbers-1025-requires-2 c κs = search needs
 
 loop-holds : tie.Need-loop-holds Inv-loop μ-loop
-loop-holds c = (listing-start _ _ _ _, rw (c .before .no-numbers .ensures, c .no-numbers2 .ensures) (tables-none (decode (now (c .before .before .before .before .before .before .before .before .args .recs))) (c .before .before .before .before .before .before .before .before .args .short)), sym (counted-zero (decode (now (c .before .before .before .before .before .before .before .before .args .recs)))))
+loop-holds c = (listing-start _ _ _ _, rw (c .before .numbers-1025 .ensures, c .numbers-10252 .ensures) (tables-none (decode (now (c .before .before .before .before .before .before .before .before .args .recs))) (c .before .before .before .before .before .before .before .before .args .short)), sym (counted-zero (decode (now (c .before .before .before .before .before .before .before .before .args .recs)))))
 
 kind-at-requires : tie.Need-kind-at-requires Inv-loop μ-loop
 kind-at-requires c κs = search needs
@@ -79,8 +79,8 @@ list-all-spec =
     Inv-loop
     μ-loop
     count-requires
-    no-numbers-requires
-    no-numbers-requires-2
+    numbers-1025-requires
+    numbers-1025-requires-2
     loop-holds
     kind-at-requires
     begun-after-requires

@@ -11,11 +11,11 @@ use borrow.Author.Needs.{needs}
 use Rattle.races.proofs.lists.list_races.Statement.{statement}
 use Rattle.races.proofs.lists.list_races.Tie as tie
 
-no-chains-requires : tie.Need-no-chains-requires
-no-chains-requires c κs = search needs
+numbers-1024-requires : tie.Need-numbers-1024-requires
+numbers-1024-requires c κs = search needs
 
-none-requires : tie.Need-none-requires
-none-requires c κs = search needs
+numbers-1025-requires : tie.Need-numbers-1025-requires
+numbers-1025-requires c κs = search needs
 
 prepare-requires : tie.Need-prepare-requires
 prepare-requires c κs = search needs
@@ -93,8 +93,8 @@ pub list-races-spec : {M : Type 1} → statement M
 list-races-spec =
     tie.close
     (tie.spec
-    no-chains-requires
-    none-requires
+    numbers-1024-requires
+    numbers-1025-requires
     prepare-requires
     clear-requires
     enum-known-answer

@@ -9,8 +9,8 @@ use borrow.Author.Needs.{needs}
 use Rattle.recorder.proofs.look.check.Statement.{statement}
 use Rattle.recorder.proofs.look.check.Tie as tie
 
-records-requires : tie.Need-records-requires
-records-requires c κs = search needs
+records-from-requires : tie.Need-records-from-requires
+records-from-requires c κs = search needs
 
 starts-requires : tie.Need-starts-requires
 starts-requires c κs = search needs
@@ -42,13 +42,13 @@ returns c =
     let at-records = at-starts .before in
     let start = at-records .before .before in
     let a = start .args in
-    c .check .ensures ∙ simp (at-seen-if .seen-if .ensures, at-seen-if2 .seen-if2 .ensures, c .before .before .seen-if3 .ensures, at-starts .starts .ensures, at-records .records .ensures, judge-asked)
+    c .check .ensures ∙ simp (at-seen-if .seen-if .ensures, at-seen-if2 .seen-if2 .ensures, c .before .before .seen-if3 .ensures, at-starts .starts .ensures, at-records .records-from .ensures, judge-asked)
 
 pub check-spec : {M : Type 1} → statement M
 check-spec =
     tie.close
     (tie.spec
-    records-requires
+    records-from-requires
     starts-requires
     seen-if-requires
     seen-if-requires-2

@@ -5,17 +5,17 @@ use borrow.Author.Needs.{needs}
 use Rattle.trace.proofs.frame.distance_at.Statement.{statement}
 use Rattle.trace.proofs.frame.distance_at.Tie as tie
 
-two-bytes-requires : tie.Need-two-bytes-requires
-two-bytes-requires c κs = search needs
+two-requires : tie.Need-two-requires
+two-requires c κs = search needs
 
 cast-result : tie.Need-cast-result
 cast-result c = search needs
 
-add-two-bytes : tie.Need-add-two-bytes
-add-two-bytes c = search needs
+add-two : tie.Need-add-two
+add-two c = search needs
 
-two-bytes-requires-2 : tie.Need-two-bytes-requires-2
-two-bytes-requires-2 c κs = search needs
+two-requires-2 : tie.Need-two-requires-2
+two-requires-2 c κs = search needs
 
 cast-result-2 : tie.Need-cast-result-2
 cast-result-2 c = search needs
@@ -28,16 +28,16 @@ add-result c = search needs
 
 returns : tie.Need-returns
 unfolding distance
-returns c = simp (c .before .two-bytes .ensures, c .two-bytes2 .ensures)
+returns c = simp (c .before .two .ensures, c .two2 .ensures)
 
 pub distance-at-spec : {M : Type 1} → statement M
 distance-at-spec =
     tie.close
     (tie.spec
-    two-bytes-requires
+    two-requires
     cast-result
-    add-two-bytes
-    two-bytes-requires-2
+    add-two
+    two-requires-2
     cast-result-2
     mul-result
     add-result

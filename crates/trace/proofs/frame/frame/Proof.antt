@@ -34,11 +34,11 @@ returns-2 c =
 sub-accept : tie.Need-sub-accept
 sub-accept c = let l = c .before .fault .ensures .1 (c .if2 .left) in search needs
 
-add-two-bytes : tie.Need-add-two-bytes
-add-two-bytes c = search needs
+add-two : tie.Need-add-two
+add-two c = search needs
 
-two-bytes-requires : tie.Need-two-bytes-requires
-two-bytes-requires c κs = search needs
+two-requires : tie.Need-two-requires
+two-requires c κs = search needs
 
 cast-accept : tie.Need-cast-accept
 cast-accept c = search needs
@@ -52,7 +52,7 @@ returns-3 c =
     let at-distance-at = c .before .before .before .before in
     let at-if1 = at-distance-at .before in
     c .accept .ensures
-    ∙ simp (le-leb _ _ (at-if1 .if1 .left), ← at-distance-at .distance-at .ensures, c .before .two-bytes .ensures) (simp (c .before .before .if2 .left) at (c .before .before .before .fault .ensures .0))
+    ∙ simp (le-leb _ _ (at-if1 .if1 .left), ← at-distance-at .distance-at .ensures, c .before .two .ensures) (simp (c .before .before .if2 .left) at (c .before .before .before .fault .ensures .0))
 
 pub frame-spec : {M : Type 1} → statement M
 frame-spec =
@@ -65,8 +65,8 @@ frame-spec =
     refuse-requires-2
     returns-2
     sub-accept
-    add-two-bytes
-    two-bytes-requires
+    add-two
+    two-requires
     cast-accept
     accept-requires
     returns-3)

@@ -26,14 +26,14 @@ count-requires c κs = search needs
 table-requires : tie.Need-table-requires Inv-loop μ-loop
 table-requires c κs = search needs
 
-none-requires : tie.Need-none-requires Inv-loop μ-loop
-none-requires c κs = search needs
+bytes-1025-requires : tie.Need-bytes-1025-requires Inv-loop μ-loop
+bytes-1025-requires c κs = search needs
 
 loop-holds : tie.Need-loop-holds Inv-loop μ-loop
 loop-holds c =
     let start = c .before .before .before .before in
     let a = start .args in
-    rw (c .none .ensures) (going-start (decode (now (a .recs))) (a .start) (a .events))
+    rw (c .bytes-1025 .ensures) (going-start (decode (now (a .recs))) (a .start) (a .events))
 
 record-at-requires : tie.Need-record-at-requires Inv-loop μ-loop
 record-at-requires c κs = search needs
@@ -158,7 +158,7 @@ scan-spec =
     μ-loop
     count-requires
     table-requires
-    none-requires
+    bytes-1025-requires
     loop-holds
     record-at-requires
     next-requires

@@ -5,12 +5,12 @@ use borrow.Author.Needs.{needs}
 use Rattle.trace.proofs.status.has_begun.Statement.{statement}
 use Rattle.trace.proofs.status.has_begun.Tie as tie
 
-status-of-requires : tie.Need-status-of-requires
-status-of-requires c κs = search needs
+get-requires : tie.Need-get-requires
+get-requires c κs = search needs
 
 returns : tie.Need-returns
 unfolding hasBegun
-returns c = simp (c .status-of .ensures)
+returns c = simp (c .get .ensures)
 
 pub has-begun-spec : {M : Type 1} → statement M
-has-begun-spec = tie.close (tie.spec status-of-requires returns)
+has-begun-spec = tie.close (tie.spec get-requires returns)

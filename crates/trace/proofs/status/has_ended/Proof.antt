@@ -5,12 +5,12 @@ use borrow.Author.Needs.{needs}
 use Rattle.trace.proofs.status.has_ended.Statement.{statement}
 use Rattle.trace.proofs.status.has_ended.Tie as tie
 
-status-of-requires : tie.Need-status-of-requires
-status-of-requires c κs = search needs
+get-requires : tie.Need-get-requires
+get-requires c κs = search needs
 
 returns : tie.Need-returns
 unfolding hasEnded
-returns c = simp (c .status-of .ensures)
+returns c = simp (c .get .ensures)
 
 pub has-ended-spec : {M : Type 1} → statement M
-has-ended-spec = tie.close (tie.spec status-of-requires returns)
+has-ended-spec = tie.close (tie.spec get-requires returns)
