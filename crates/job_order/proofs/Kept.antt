@@ -7,7 +7,8 @@ use mathlib.Core.List.{List}
 use native.Mathlib.Omega.{arith}
 use borrow.Author.Tests.{ne-eqb}
 use Rattle.records.specs.declared.Record.{Record}
-use Rattle.recorder.specs.Recording.{Left, refused, stepLeft, closeLeft}
+use Rattle.trace.specs.Reply.{refused}
+use Rattle.recorder.specs.Recording.{Left, stepLeft, closeLeft}
 use Rattle.recorder.proofs.Left.{refusing}
 use Rattle.recorder.proofs.Holds.{step-refused, close-refused}
 use Rattle.job_order.specs.Recording.{State, state, recorderOf, closedAfter, stateAfter, Leaves, Steps, Closes}
@@ -21,11 +22,11 @@ pub record Unchanged (b b′ : List ℕ) (s s′ : State) : Type 0 where
   pub bytes : b′ ≡ b
 
 module _ (b b′ : List ℕ) (s s′ : State) (n p : ℕ) where
-  unchanged : (l : Left) → Leaves l s s′ b′ → l ≡ refusing b (recorderOf s) n p → Unchanged b b′ s s′
-  unchanged l h e =
+  unchanged : {A : Type 0} (l : Left A) → Leaves l s s′ b′ → l ≡ refusing b (recorderOf s) n p → Unchanged b b′ s s′
+  unchanged {A} l h e =
       record {
-        numbers = h .state-after ∙ ap (λ (q : Left). stateAfter (s .closed) (q .recorder)) e ∙ ap (state (s .count) (s .situation) (s .owner)) (closed-kept (s .closed));
-        bytes = h .bytes-after ∙ ap (λ (q : Left). q .bytes) e;
+        numbers = h .state-after ∙ ap (λ (q : Left A). stateAfter (s .closed) (q .recorder)) e ∙ ap (state (s .count) (s .situation) (s .owner)) (closed-kept (s .closed));
+        bytes = h .bytes-after ∙ ap (λ (q : Left A). q .bytes) e;
       }
 
   pub refused-step : (x : Record) (number place : ℕ) → Steps b b′ s s′ x number place → stepLeft b (recorderOf s) x .answer ≡ refused n p → Unchanged b b′ s s′

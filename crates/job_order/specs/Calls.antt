@@ -5,62 +5,64 @@ use mathlib.Core.Path.{_≡_}
 use mathlib.Core.Bool.{Bool, cond}
 use mathlib.Core.List.{List, [], _∷_}
 use lib.ListN.{length}
-use Rattle.trace.specs.Reading as reading
-use Rattle.trace.specs.Reading.{Reply, readReply}
-use Rattle.order.specs.Fill as filling
-use Rattle.order.specs.Fill.{FillReply, fillReply, clocksAfter}
-use Rattle.question.specs.Question as order
-use Rattle.question.specs.Question.{OrderReply, orderReply}
-use Rattle.races.specs.Lists as lists
-use Rattle.races.specs.Lists.{ListReply, listReply, clocksRead, workRead, listAfterRead}
-use Rattle.pair.specs.Pair as pair
-use Rattle.pair.specs.Pair.{PairReply, pairReply, clocksAfterPair, workAfterPair, ListAfterPair}
+use Rattle.records.specs.declared.Trace.{Trace}
+use Rattle.trace.specs.Reply.{Reply, refused, gives}
+use Rattle.trace.specs.Reading.{readReply, recordsRead}
+use Rattle.order.specs.Lent.{clocksAfter, workAfter, fillReady, fillReply}
+use Rattle.question.specs.Question.{orderReply}
+use Rattle.races.specs.declared.Summary.{Summary}
+use Rattle.races.specs.Lists.{pairsOf, listReady, listReply, listAfter}
+use Rattle.pair.specs.Pair.{PairMark, isOpen, isCovered, pairReady, pairReply, ListAfter}
+
+-- result and place, then what is given, or zeros
+abbrev pub numbersOf : {A : Type 0} → List ℕ → (A → List ℕ) → Reply A → List ℕ
+numbersOf zeros given (refused n p) = n ∷ p ∷ zeros
+numbersOf zeros given (gives a) = 0 ∷ 0 ∷ given a
 
 -- result, place, start, records, events
-abbrev pub readNumbers : Reply → List ℕ
-readNumbers (reading.refused n p) = n ∷ p ∷ 0 ∷ 0 ∷ 0 ∷ []
-readNumbers (reading.accepted start records events) = 0 ∷ 0 ∷ start ∷ records ∷ events ∷ []
+abbrev pub readNumbers : Reply Trace → List ℕ
+readNumbers reply = numbersOf (0 ∷ 0 ∷ 0 ∷ []) (λ t. t .start ∷ t .records ∷ t .events ∷ []) reply
 
 pub record Reads (b : List ℕ) (number place start records events : ℕ) : Type 0 where
   pub given : number ∷ place ∷ start ∷ records ∷ events ∷ [] ≡ readNumbers (readReply b)
 
 -- result, place, chains
-abbrev pub fillNumbers : FillReply → List ℕ
-fillNumbers (filling.refused n p) = n ∷ p ∷ 0 ∷ []
-fillNumbers (filling.filled chains) = 0 ∷ 0 ∷ chains ∷ []
+abbrev pub fillNumbers : Reply ℕ → List ℕ
+fillNumbers reply = numbersOf (0 ∷ []) (λ chains. chains ∷ []) reply
 
 pub record FillsOut (b : List ℕ) (width : ℕ) (clocks clocks′ : List ℕ) (number place chains : ℕ) : Type 0 where
   pub given : number ∷ place ∷ chains ∷ [] ≡ fillNumbers (fillReply b width (length clocks))
-  pub clocks-after : clocks′ ≡ clocksAfter b width clocks
+  pub clocks-after : clocks′ ≡ clocksAfter b (fillReady b width (length clocks)) width clocks
 
 -- result, place, yes (1 or 0)
-abbrev pub orderNumbers : OrderReply → List ℕ
-orderNumbers (order.refused n p) = n ∷ p ∷ 0 ∷ []
-orderNumbers (order.answered says) = 0 ∷ 0 ∷ cond says 1 0 ∷ []
+abbrev pub orderNumbers : Reply Bool → List ℕ
+orderNumbers reply = numbersOf (0 ∷ []) (λ says. cond says 1 0 ∷ []) reply
 
 pub record Answers (b : List ℕ) (width : ℕ) (clocks : List ℕ) (t u number place yes : ℕ) : Type 0 where
   pub given : number ∷ place ∷ yes ∷ [] ≡ orderNumbers (orderReply b width clocks t u)
 
 -- result, place, events, records, chains, count
-abbrev pub listNumbers : ListReply → List ℕ
-listNumbers (lists.refused n p) = n ∷ p ∷ 0 ∷ 0 ∷ 0 ∷ 0 ∷ []
-listNumbers (lists.listed events records chains count) = 0 ∷ 0 ∷ events ∷ records ∷ chains ∷ count ∷ []
+abbrev pub listNumbers : Reply Summary → List ℕ
+listNumbers reply = numbersOf (0 ∷ 0 ∷ 0 ∷ 0 ∷ []) (λ s. s .events ∷ s .records ∷ s .chains ∷ s .count ∷ []) reply
 
 pub record ListsOut (short : Bool) (b : List ℕ) (width : ℕ) (clocks clocks′ work work′ list list′ : List ℕ)
     (number place events records chains count : ℕ) : Type 0 where
   pub given : number ∷ place ∷ events ∷ records ∷ chains ∷ count ∷ [] ≡ listNumbers (listReply short b width (length clocks) (length work) (length list))
-  pub clocks-after : clocks′ ≡ clocksRead b (readReply b) width (length work) clocks
-  pub work-after : work′ ≡ workRead b (readReply b) width (length clocks) work
-  pub list-after : list′ ≡ listAfterRead short b (readReply b) width (length clocks) (length work) list
+  pub clocks-after : clocks′ ≡ clocksAfter b (listReady b width (length clocks) (length work)) width clocks
+  pub work-after : work′ ≡ workAfter (listReady b width (length clocks) (length work)) work
+  pub list-after : list′ ≡ listAfter (recordsRead b) (listReply short b width (length clocks) (length work) (length list))
+      (pairsOf (recordsRead b) short) list
 
 -- result, place, covered (1 or 0), count: that of an open pair is settled, and that of a covered one goes with its cover, "Only one part is free"
-abbrev pub pairNumbers : PairReply → ℕ → List ℕ
-pairNumbers (pair.refused n p) count = n ∷ p ∷ 0 ∷ 0 ∷ []
-pairNumbers (pair.isOpen k) count = 0 ∷ 0 ∷ 0 ∷ k ∷ []
-pairNumbers pair.isCovered count = 0 ∷ 0 ∷ 1 ∷ count ∷ []
+abbrev pub markNumbers : ℕ → PairMark → List ℕ
+markNumbers count (isOpen k) = 0 ∷ k ∷ []
+markNumbers count isCovered = 1 ∷ count ∷ []
+
+abbrev pub pairNumbers : Reply PairMark → ℕ → List ℕ
+pairNumbers reply count = numbersOf (0 ∷ 0 ∷ []) (markNumbers count) reply
 
 pub record AsksPair (b : List ℕ) (width : ℕ) (clocks clocks′ work work′ list list′ : List ℕ) (a c number place covered count : ℕ) : Type 0 where
   pub given : number ∷ place ∷ covered ∷ count ∷ [] ≡ pairNumbers (pairReply b width (length clocks) (length work) (length list) a c) count
-  pub clocks-after : clocks′ ≡ clocksAfterPair b (readReply b) width clocks (length work) a c
-  pub work-after : work′ ≡ workAfterPair b (readReply b) width (length clocks) work a c
-  pub list-after : ListAfterPair b (readReply b) (a - 1) (c - 1) (pairReply b width (length clocks) (length work) (length list) a c) count list list′
+  pub clocks-after : clocks′ ≡ clocksAfter b (pairReady b width (length clocks) (length work) a c) width clocks
+  pub work-after : work′ ≡ workAfter (pairReady b width (length clocks) (length work) a c) work
+  pub list-after : ListAfter (recordsRead b) (a - 1) (c - 1) (pairReply b width (length clocks) (length work) (length list) a c) count list list′

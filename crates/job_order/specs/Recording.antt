@@ -6,7 +6,8 @@ use mathlib.Core.List.{List}
 use lib.Dec.{eqb}
 use Rattle.records.specs.declared.Record.{Record}
 use Rattle.recorder.specs.declared.Recorder.{Recorder}
-use Rattle.recorder.specs.Recording.{Outcome, refused, opens, taken, closes, Left, openLeft, stepLeft, closeLeft}
+use Rattle.trace.specs.Reply.{Reply, refused, gives}
+use Rattle.recorder.specs.Recording.{Left, openLeft, stepLeft, closeLeft}
 
 pub record State : Type 0 where
   pub count : ℕ
@@ -29,30 +30,24 @@ abbrev pub stateAfter : ℕ → Recorder → State
 stateAfter k r = state (r .count) (r .situation) (r .owner .0) (closedAfter k (r .closed))
 
 -- the call's result: 0 where nothing is refused
-abbrev pub numberOf : Outcome → ℕ
+abbrev pub numberOf : {A : Type 0} → Reply A → ℕ
 numberOf (refused n p) = n
-numberOf opens = 0
-numberOf taken = 0
-numberOf (closes n) = 0
+numberOf (gives a) = 0
 
-abbrev pub placeOf : Outcome → ℕ
+abbrev pub placeOf : {A : Type 0} → Reply A → ℕ
 placeOf (refused n p) = p
-placeOf opens = 0
-placeOf taken = 0
-placeOf (closes n) = 0
+placeOf (gives a) = 0
 
-abbrev pub lengthOf : Outcome → ℕ
+abbrev pub lengthOf : Reply ℕ → ℕ
 lengthOf (refused n p) = 0
-lengthOf opens = 0
-lengthOf taken = 0
-lengthOf (closes n) = n
+lengthOf (gives n) = n
 
 pub record Opens (b : List ℕ) (s′ : State) (number : ℕ) : Type 0 where
   pub number-is : number ≡ numberOf (openLeft b .answer)
   pub state-after : s′ ≡ stateAfter 0 (openLeft b .recorder)
 
 -- what a call leaves of the state s and the bytes, by what the recorder leaves
-pub record Leaves (l : Left) (s s′ : State) (b′ : List ℕ) : Type 0 where
+pub record Leaves {A : Type 0} (l : Left A) (s s′ : State) (b′ : List ℕ) : Type 0 where
   pub state-after : s′ ≡ stateAfter (s .closed) (l .recorder)
   pub bytes-after : b′ ≡ l .bytes
 

@@ -1,5 +1,5 @@
 -- Chains and clock rows by event number, of every accepted trace. Assumes nothing.
-use Prim.Native.Nat.{ℕ, suc, _+_, _*_, _-_, _≤_, _<_, max}
+use Prim.Native.Nat.{ℕ, suc, _+_, _*_, _≤_, _<_, max}
 use mathlib.Core.Path.{_≡_, refl, sym, ap, _∙_, subst}
 use mathlib.Core.List.{List, [], _∷_, _++_, List·Memᴰ·head, List·Memᴰ·tail}
 use mathlib.Core.Logic.{_≢_, _⊎_, inl, inr}
@@ -217,10 +217,10 @@ module _ {tr : List Record} (a : Acceptable tr) (w : ℕ) (enough : shortRow tr 
 
 pub by-event : ByEvent
 by-event = record {
-  begin-order = λ b s n m q x e d f. let a = accepts b s n m q .acceptable in (sooner-row a, row-sooner a d f);
-  every-row = λ b s n m q r h. let p = accepts b s n m q in event-of (p .acceptable) r (omega (arith, h, events-of b s n m q));
-  chain-rule = λ b s n m q e x. chain-rule (accepts b s n m q .acceptable) x;
-  clock-row = λ b s n m q w cs cs′ k p e x.
-      let t = filled-trace b s n m w cs k q (sym (p .answer)) in
-      rw (p .clocks-after, t .clocks-are) (clock-row (t .acceptable) w (t .had-chains ∙ t .events-are) (drop (m * w) cs) e x);
+  begin-order = λ b t q x e d f. let a = accepts b t q .acceptable in (sooner-row a, row-sooner a d f);
+  every-row = λ b t q r h. let p = accepts b t q in event-of (p .acceptable) r (omega (arith, h, events-of b t q));
+  chain-rule = λ b t q e x. chain-rule (accepts b t q .acceptable) x;
+  clock-row = λ b t q w cs cs′ k p e x.
+      let f = filled-trace b t w cs k q (p .answer) in
+      rw (p .clocks-after, f .clocks-are) (clock-row (f .acceptable) w (f .had-chains ∙ f .events-are) (drop (t .events * w) cs) e x);
 }

@@ -1,14 +1,14 @@
 -- At the entry of a public function: what a reading says of the records that are handed on.
 -- Assumes nothing.
 use Prim.Native.Nat.{ℕ}
-use mathlib.Core.Path.{_≡_, refl, sym, ap, _∙_, subst}
+use mathlib.Core.Path.{_≡_, sym, ap, _∙_}
 use mathlib.Core.List.{List}
 use lib.ListN.{length}
-use Rattle.records.specs.declared.Record.{Record}
+use Rattle.records.specs.declared.Trace.{Trace}
 use Rattle.trace.specs.declared.Reading.{Reading}
 use Rattle.records.specs.Bytes.{decode, part}
-use Rattle.records.specs.Records.{past, begins}
-use Rattle.trace.specs.Reading.{Reply, refused, accepted, recordsIn, readReply, Acceptable}
+use Rattle.trace.specs.Reply.{refused}
+use Rattle.trace.specs.Reading.{recordsIn, readReply, Accepts, Acceptable}
 use Rattle.trace.specs.Paper.{paper, refusalIn}
 use Rattle.trace.proofs.Accepted.{accepts}
 use Rattle.trace.proofs.Upward.{upward}
@@ -19,17 +19,17 @@ use Rattle.order.specs.Fill.{eventsIn}
 pub refused-reading : (b : List ℕ) (r : Reading) → paper r ≡ readReply b → tagOf (declared enum) r ≡ 1 → readReply b ≡ refused (refusalIn r .number) (refusalIn r .place .0)
 refused-reading b r e t = sym e ∙ sym (upward r t)
 
-module _ (b : List ℕ) (s n m : ℕ) (e : accepted s n m ≡ readReply b) (recs : List ℕ) (r : recs ≡ part b s n) where
-  pub records-are : decode recs ≡ recordsIn b s n
+module _ (b : List ℕ) (t : Trace) (e : Accepts b t) (recs : List ℕ) (r : recs ≡ part b (t .start) (t .records)) where
+  pub records-are : decode recs ≡ recordsIn b t
   unfolding recordsIn
   records-are = ap decode r
 
   pub read-acceptable : Acceptable (decode recs)
-  read-acceptable = rw records-are (accepts b s n m e .acceptable)
+  read-acceptable = rw records-are (accepts b t e .acceptable)
 
-  pub read-events : m ≡ eventsIn (decode recs)
+  pub read-events : t .events ≡ eventsIn (decode recs)
   unfolding eventsIn
-  read-events = let p = accepts b s n m e in rw (records-are, p .counts) (sym (p .begun))
+  read-events = let p = accepts b t e in rw (records-are, p .counts) (sym (p .begun))
 
-  pub read-count : length (decode recs) ≡ n
-  read-count = rw records-are (accepts b s n m e .counts)
+  pub read-count : length (decode recs) ≡ t .records
+  read-count = rw records-are (accepts b t e .counts)

@@ -14,7 +14,9 @@ use Rattle.trace.specs.Reading.{Acceptable}
 use Rattle.ranks.specs.Ranks.{ranksOf}
 use Rattle.clocks.specs.Rows.{spaceFor, clearRows}
 use Rattle.clocks.proofs.RowLaws.{clear-rows-fit}
-use Rattle.order.specs.Fill.{eventsIn, shortRow, traceClocks, noChains, refused, filled, demand, fillTrace, clocksAfterTrace, chainsAfterReply}
+use Rattle.trace.specs.Reply.{refused, gives, demand, unless}
+use Rattle.order.specs.Fill.{eventsIn, shortRow, chainsUsed, traceClocks, noChains}
+use Rattle.order.specs.Lent.{enoughChains, clocksFilled, chainsFilled}
 use Rattle.order.specs.declared.Filling.{Filling}
 use Rattle.order.specs.Paper.{fillPaper, FillsTrace}
 use Rattle.order.specs.PassEnds.{Ready, Passes}
@@ -58,18 +60,18 @@ module _ (tr : List Record) (a : Acceptable tr) (events width : ℕ) (ee : event
       none : shortRow tr width ≢ events
       none e = not-whole h (e ∙ ee)
 
-      short-reply : fillTrace tr events width (length cs) ≡ refused 23 (position + 1)
-      unfolding fillTrace demand
-      short-reply = rw (space, ne-eqb (shortRow tr width) events none, ← p .short (not-whole h) .place)
+      short-reply : enoughChains tr events width (gives (chainsUsed tr)) ≡ refused 23 (position + 1)
+      unfolding enoughChains demand
+      short-reply = rw (ne-eqb (shortRow tr width) events none, ← p .short (not-whole h) .place)
 
-      short-clocks : (cs₃ : List ℕ) → length cs₂ ≡ length cs₁ → cs₃ ≡ clearRows width events cs₂ → cs₃ ≡ clocksAfterTrace tr events width cs
-      unfolding clocksAfterTrace
+      short-clocks : (cs₃ : List ℕ) → length cs₂ ≡ length cs₁ → cs₃ ≡ clearRows width events cs₂ → cs₃ ≡ clocksFilled tr events width cs
+      unfolding clocksFilled unless
       short-clocks cs₃ l e =
           let k = cleared-length (events * width) cs cs₁ fits c₁ in
-          rw (space, ne-eqb (shortRow tr width) events none) (e ∙ (clear-rows-fit width cs₂ events narrow (omega (arith, fits)) ∙ ap (λ r. replicate (events * width) 0 ++ r) rest-of))
+          rw short-reply (e ∙ (clear-rows-fit width cs₂ events narrow (omega (arith, fits)) ∙ ap (λ r. replicate (events * width) 0 ++ r) rest-of))
 
       pub ends-short : (cs₃ of₃ all : List ℕ) → length cs₂ ≡ length cs₁ → cs₃ ≡ clearRows width events cs₂ → of₃ ≡ noChains → all ≡ ranksOf tr → (r : Filling) → fillPaper r ≡ refused 23 (position + 1) → FillsTrace tr events width cs cs₃ r of₃ all
-      unfolding chainsAfterReply
+      unfolding chainsFilled unless
       ends-short cs₃ of₃ all l e o k r q = record { answer = q ∙ sym short-reply; clocks-after = short-clocks cs₃ l e; chains-after = rw short-reply o; ranks-after = k }
 
     -- the rows are filled
@@ -77,19 +79,19 @@ module _ (tr : List Record) (a : Acceptable tr) (events width : ℕ) (ee : event
       enough : shortRow tr width ≡ eventsIn tr
       enough = not-short h (ℕ-discrete (shortRow tr width) (eventsIn tr))
 
-      whole-reply : fillTrace tr events width (length cs) ≡ filled chains
-      unfolding fillTrace demand
-      whole-reply = rw (space, eq-eqb (shortRow tr width) events (enough ∙ sym ee), ← p .whole enough .chains-are)
+      whole-reply : enoughChains tr events width (gives (chainsUsed tr)) ≡ gives chains
+      unfolding enoughChains demand
+      whole-reply = rw (eq-eqb (shortRow tr width) events (enough ∙ sym ee), ← p .whole enough .chains-are)
 
-      whole-clocks : cs₂ ≡ clocksAfterTrace tr events width cs
-      unfolding clocksAfterTrace
+      whole-clocks : cs₂ ≡ clocksFilled tr events width cs
+      unfolding clocksFilled unless
       whole-clocks =
-          rw (space, eq-eqb (shortRow tr width) events (enough ∙ sym ee))
+          rw whole-reply
           (p .whole enough .clocks-are ∙ rw (← ee) (ap (λ r. traceClocks tr width ++ r) (cleared-drop (events * width) cs cs₁ fits c₁)))
 
-      whole-chains : of ≡ chainsAfterReply tr (fillTrace tr events width (length cs))
-      unfolding chainsAfterReply
+      whole-chains : of ≡ chainsFilled tr events width
+      unfolding chainsFilled unless
       whole-chains = rw whole-reply (p .whole enough .of-are)
 
-      pub ends-whole : (all : List ℕ) → all ≡ ranksOf tr → (r : Filling) → fillPaper r ≡ filled chains → FillsTrace tr events width cs cs₂ r of all
+      pub ends-whole : (all : List ℕ) → all ≡ ranksOf tr → (r : Filling) → fillPaper r ≡ gives chains → FillsTrace tr events width cs cs₂ r of all
       ends-whole all k r q = record { answer = q ∙ sym whole-reply; clocks-after = whole-clocks; chains-after = whole-chains; ranks-after = k }

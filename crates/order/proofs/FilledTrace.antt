@@ -1,57 +1,49 @@
 -- An accepted trace, and the clocks that filling left. Assumes nothing.
 use Prim.Native.Nat.{ℕ, _*_}
-use mathlib.Core.Path.{_≡_, refl, sym}
-use mathlib.Core.Bool.{Bool, true, false}
+use mathlib.Core.Path.{_≡_, sym, _∙_}
+use mathlib.Core.Bool.{true}
 use mathlib.Core.List.{List, _++_}
-use native.Mathlib.Omega.{arith}
-use borrow.Author.Tests.{eq-eqb, eqb-true}
+use borrow.Author.Tests.{eqb-true}
+use lib.Dec.{eqb}
 use lib.ListN.{length, drop}
-use Rattle.trace.specs.Reading as reading
-use Rattle.trace.specs.Reading.{Acceptable, recordsIn, readReply}
+use Rattle.records.specs.declared.Trace.{Trace}
+use Rattle.trace.specs.Reply.{Reply, gives, demand, unless}
+use Rattle.trace.specs.Reading.{Acceptable, recordsIn, Accepts}
+use Rattle.trace.proofs.ReplyLaws.{same-given}
 use Rattle.trace.proofs.Accepted.{accepts}
 use Rattle.clocks.specs.Rows.{spaceFor}
-use Rattle.order.specs.Fill.{eventsIn, shortRow, traceClocks, FillReply, filled, demand, fillTrace, fillRead, fillReply}
-use Rattle.order.specs.Fill.{clocksAfterTrace, clocksAfterRead, clocksAfter}
+use Rattle.order.specs.Fill.{eventsIn, shortRow, traceClocks}
+use Rattle.order.specs.Lent.{enoughChains, clocksFilled, clocksAfter, fillReady, fillReply}
+use Rattle.order.proofs.LentLaws.{fits, filling}
 
 -- the number of event actions
-pub events-of : (b : List ℕ) (s n m : ℕ) → reading.accepted s n m ≡ readReply b → m ≡ eventsIn (recordsIn b s n)
+pub events-of : (b : List ℕ) (t : Trace) → Accepts b t → t .events ≡ eventsIn (recordsIn b t)
 unfolding eventsIn
-events-of b s n m e = let p = accepts b s n m e in rw (p .counts) (sym (p .begun))
+events-of b t e = let p = accepts b t e in rw (p .counts) (sym (p .begun))
 
-pub record FilledTrace (b : List ℕ) (s n m w : ℕ) (cs : List ℕ) : Type 0 where
-  pub acceptable : Acceptable (recordsIn b s n)
-  pub events-are : m ≡ eventsIn (recordsIn b s n)
-  pub had-space : spaceFor w m (length cs) ≡ true
-  pub had-chains : shortRow (recordsIn b s n) w ≡ m
-  pub clocks-are : clocksAfter b w cs ≡ traceClocks (recordsIn b s n) w ++ drop (m * w) cs
+-- the clocks of a call that goes on with the trace, where there are chains enough
+pub clocks-whole : (b : List ℕ) {ready : Reply Trace} {t : Trace} → gives t ≡ ready → (w : ℕ) (cs : List ℕ) → eqb (shortRow (recordsIn b t) w) (t .events) ≡ true
+    → clocksAfter b ready w cs ≡ traceClocks (recordsIn b t) w ++ drop (t .events * w) cs
+unfolding clocksAfter clocksFilled enoughChains demand unless
+clocks-whole b e w cs h = rw (← e, h)
 
-passed : (t : Bool) (x p k : ℕ) (y : FillReply) → demand t x p y ≡ filled k → (t ≡ true) × (y ≡ filled k)
-unfolding demand
-passed true x p k y q = (refl, q)
-passed false x p k y q = let z : _≡_ {A = ℕ} 0 1 = cc in absurd (omega arith)
+pub record FilledTrace (b : List ℕ) (t : Trace) (w : ℕ) (cs : List ℕ) : Type 0 where
+  pub acceptable : Acceptable (recordsIn b t)
+  pub events-are : t .events ≡ eventsIn (recordsIn b t)
+  pub had-space : spaceFor w (t .events) (length cs) ≡ true
+  pub had-chains : shortRow (recordsIn b t) w ≡ t .events
+  pub clocks-are : clocksAfter b (fillReady b w (length cs)) w cs ≡ traceClocks (recordsIn b t) w ++ drop (t .events * w) cs
 
-module _ (b : List ℕ) (s n m w : ℕ) (cs : List ℕ) (k : ℕ) (e : reading.accepted s n m ≡ readReply b) (f : fillReply b w (length cs) ≡ filled k) where
-  filled-by : fillTrace (recordsIn b s n) m w (length cs) ≡ filled k
-  unfolding fillReply fillRead
-  filled-by = rw (← e) at f
-
-  had-space : spaceFor w m (length cs) ≡ true
-  unfolding fillTrace
-  had-space = passed _ _ _ _ _ filled-by .0
-
-  had-chains : shortRow (recordsIn b s n) w ≡ m
-  unfolding fillTrace
-  had-chains = eqb-true _ _ (passed _ _ _ _ _ (passed _ _ _ _ _ filled-by .1) .0)
-
-  clocks-are : clocksAfter b w cs ≡ traceClocks (recordsIn b s n) w ++ drop (m * w) cs
-  unfolding clocksAfter clocksAfterRead clocksAfterTrace
-  clocks-are = rw (← e, had-space, eq-eqb _ _ had-chains)
-
-  pub filled-trace : FilledTrace b s n m w cs
-  filled-trace = record {
-    acceptable = accepts b s n m e .acceptable;
-    events-are = events-of b s n m e;
-    had-space = had-space;
-    had-chains = had-chains;
-    clocks-are = clocks-are;
-  }
+pub filled-trace : (b : List ℕ) (t : Trace) (w : ℕ) (cs : List ℕ) (k : ℕ) → Accepts b t → gives k ≡ fillReply b w (length cs) → FilledTrace b t w cs
+unfolding fillReply fillReady
+filled-trace b t w cs k e f =
+    let g = filling b _ w _ k f in
+    let h = fits _ w (length cs) _ (g .trace) (g .ready-is) in
+    let z : t ≡ g .trace = same-given (e ∙ sym (h .found-is)) in
+    rw z (record {
+      acceptable = accepts b (g .trace) (h .found-is) .acceptable;
+      events-are = events-of b (g .trace) (h .found-is);
+      had-space = h .has-space;
+      had-chains = eqb-true _ _ (g .enough);
+      clocks-are = clocks-whole b (g .ready-is) w cs (g .enough);
+    })

@@ -28,6 +28,7 @@ pub mod ComparedLaws
 pub mod SpaceLaws
 pub mod FillEnds
 pub mod EntryLaws
+pub mod LentLaws
 pub mod PrepareLaws
 -- By event number, of every accepted trace
 pub mod EventRows

@@ -124,10 +124,10 @@ put-rows tr w (suc u) cs h =
 pub that-row-and-no-other : ThatRowAndNoOther
 unfolding putRow traceClocks clocksOf
 that-row-and-no-other = record {
-  in-turn = λ b s n m q w cs cs′ k p.
-      let t = filled-trace b s n m w cs k q (sym (p .answer)) in
-      let h = has-room w m (length cs) (t .had-space) .fits in
-      p .clocks-after ∙ t .clocks-are ∙ rw (← t .events-are) (sym (put-rows (recordsIn b s n) w m cs h));
+  in-turn = λ b t q w cs cs′ k p.
+      let f = filled-trace b t w cs k q (p .answer) in
+      let h = has-room w (t .events) (length cs) (f .had-space) .fits in
+      p .clocks-after ∙ f .clocks-are ∙ rw (← f .events-are) (sym (put-rows (recordsIn b t) w (t .events) cs h));
   put = λ w u row cs e h. only-put w u row cs e h;
   cleared = only-cleared;
   copied = λ w chains p u cs. only-copied w u chains p cs;

@@ -5,7 +5,7 @@ use native.Mathlib.Omega.{arith}
 use denote.Enum.Declared.{tagOf, declared}
 use Rattle.order.specs.declared.Filling.{Filling}
 use Rattle.order.specs.declared.Filling.the-variants.{Filled, Refused}
-use Rattle.order.specs.Fill.{refused}
+use Rattle.trace.specs.Reply.{refused}
 use Rattle.order.specs.Paper.{fillPaper, refusalIn}
 use Rattle.order.proofs.Filling.{enum}
 

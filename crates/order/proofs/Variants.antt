@@ -9,7 +9,8 @@ use Rattle.records.specs.Bytes.{recordAt, recordsFrom, decode, part}
 use Rattle.records.specs.Records.{past, has, begun, ended, begins}
 use Rattle.trace.specs.Place.{place}
 use Rattle.trace.specs.Rule.{situation, owner, numbered, wellFormed, misplaced, again, early, judge, rule}
-use Rattle.trace.specs.Reading.{accepted, demand, orElse, closing, walk, distance, trailerReply, frameReply, recordsIn, recordsReply, readReply}
+use Rattle.trace.specs.Reply.{demand, orElse, then}
+use Rattle.trace.specs.Reading.{closing, walk, distance, trailerReply, frameReply, recordsIn, readReply, Accepts}
 use Rattle.records.specs.Encoding.{encode, trailer, traceOf}
 use Rattle.trace.proofs.Examples.{rec}
 use Rattle.ranks.specs.Said.{opOf}
@@ -25,9 +26,9 @@ abbrev records : List Record
 records = rec 1 1 0 ∷ rec 2 1 0 ∷ rec 1 2 0 ∷ rec 2 2 0 ∷ rec 4 3 1 ∷ rec 4 3 2 ∷ rec 1 3 0 ∷ rec 3 3 4 ∷ rec 3 3 5
     ∷ rec 2 3 0 ∷ rec 1 4 0 ∷ rec 2 4 0 ∷ rec 1 5 0 ∷ rec 2 5 0 ∷ []
 
-pub is-accepted : readReply (traceOf records) ≡ accepted 0 14 5
+pub is-accepted : Accepts (traceOf records) (record { start = 0; records = 14; events = 5 })
 unfolding encode trailer traceOf recordAt recordsFrom decode past has begun ended begins place situation owner numbered wellFormed misplaced again early
-    judge rule demand orElse closing walk distance trailerReply frameReply part recordsIn recordsReply readReply
+    judge rule demand orElse then closing walk distance trailerReply frameReply part recordsIn readReply
 is-accepted = refl
 
 -- the test by which that rule finds a chain: its last member is a direct predecessor

@@ -5,8 +5,8 @@ use mathlib.Core.List.{List, _++_}
 use mathlib.Core.Logic.{_≢_, _⊎_, _↔_}
 use lib.ListN.{length, getD, take, drop}
 use Rattle.records.specs.declared.Record.{Record}
-use Rattle.trace.specs.Reading as reading
-use Rattle.trace.specs.Reading.{recordsIn, readReply}
+use Rattle.records.specs.declared.Trace.{Trace}
+use Rattle.trace.specs.Reading.{recordsIn, Accepts}
 use Rattle.clocks.specs.Rows.{mergeRow, copyRow, clearRow}
 use Rattle.order.specs.Clocks.{table, chainOf, entry}
 use Rattle.order.specs.HappensBefore.{Begins, Link, HappensBefore, rank, traceLinks}
@@ -66,16 +66,16 @@ module _ (tr : List Record) where
 -- of every accepted trace, and of the clocks that filling left
 pub record ByEvent : Type 0 where
   -- "one row after another in begin order"
-  pub begin-order : (bytes : List ℕ) (start n m : ℕ) → reading.accepted start n m ≡ readReply bytes
-      → (s e : ℕ) → Begins (recordsIn bytes start n) s → Begins (recordsIn bytes start n) e
-      → Sooner (recordsIn bytes start n) s e ↔ (rowOf (recordsIn bytes start n) s < rowOf (recordsIn bytes start n) e)
-  pub every-row : (bytes : List ℕ) (start n m : ℕ) → reading.accepted start n m ≡ readReply bytes
-      → (r : ℕ) → r < m → (e : ℕ) × Begins (recordsIn bytes start n) e × (rowOf (recordsIn bytes start n) e ≡ r)
-  pub chain-rule : (bytes : List ℕ) (start n m : ℕ) → reading.accepted start n m ≡ readReply bytes
-      → (e : ℕ) → Begins (recordsIn bytes start n) e → ChainRule (recordsIn bytes start n) (chainIn (recordsIn bytes start n)) e
-  pub clock-row : (bytes : List ℕ) (start n m : ℕ) → reading.accepted start n m ≡ readReply bytes
+  pub begin-order : (bytes : List ℕ) (t : Trace) → Accepts bytes t
+      → (s e : ℕ) → Begins (recordsIn bytes t) s → Begins (recordsIn bytes t) e
+      → Sooner (recordsIn bytes t) s e ↔ (rowOf (recordsIn bytes t) s < rowOf (recordsIn bytes t) e)
+  pub every-row : (bytes : List ℕ) (t : Trace) → Accepts bytes t
+      → (r : ℕ) → r < t .events → (e : ℕ) × Begins (recordsIn bytes t) e × (rowOf (recordsIn bytes t) e ≡ r)
+  pub chain-rule : (bytes : List ℕ) (t : Trace) → Accepts bytes t
+      → (e : ℕ) → Begins (recordsIn bytes t) e → ChainRule (recordsIn bytes t) (chainIn (recordsIn bytes t)) e
+  pub clock-row : (bytes : List ℕ) (t : Trace) → Accepts bytes t
       → (width : ℕ) (clocks clocks′ : List ℕ) (k : ℕ) → Fills bytes width clocks clocks′ (Filled k)
-      → (e : ℕ) → Begins (recordsIn bytes start n) e → ClockRow (recordsIn bytes start n) width clocks′ e
+      → (e : ℕ) → Begins (recordsIn bytes t) e → ClockRow (recordsIn bytes t) width clocks′ e
 
 -- "that row's part of the lent clocks and no other": what stands before the part of row u, and what stands after it, is as it was
 pub record OnlyRow (width u : ℕ) (clocks clocks′ : List ℕ) : Type 0 where
@@ -94,9 +94,9 @@ putRows tr width (suc u) clocks = putRow width u (table width (entry (traceLinks
 -- "Filling one row writes that row's part of the lent clocks and no other."
 pub record ThatRowAndNoOther : Type 0 where
   -- filling is each row in turn, put in its part
-  pub in-turn : (bytes : List ℕ) (start n m : ℕ) → reading.accepted start n m ≡ readReply bytes
+  pub in-turn : (bytes : List ℕ) (t : Trace) → Accepts bytes t
       → (width : ℕ) (clocks clocks′ : List ℕ) (k : ℕ) → Fills bytes width clocks clocks′ (Filled k)
-      → clocks′ ≡ putRows (recordsIn bytes start n) width m clocks
+      → clocks′ ≡ putRows (recordsIn bytes t) width (t .events) clocks
   pub put : (width u : ℕ) (row clocks : List ℕ) → length row ≡ width → u * width + width ≤ length clocks
       → OnlyRow width u clocks (putRow width u row clocks)
   -- and so is each step by which a row is made: it is cleared, the row of a direct predecessor is copied over it, others are merged into it, and it

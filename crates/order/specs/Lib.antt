@@ -10,6 +10,7 @@ pub mod HappensBefore
 pub mod Compared
 pub mod Pass
 pub mod Fill
+pub mod Lent
 pub mod PassEnds
 pub mod Prepare
 pub mod Paper

@@ -9,11 +9,14 @@ use Rattle.trace.specs.declared.Refusal.{Refusal}
 use Rattle.ranks.specs.Ranks.{ranksOf}
 use Rattle.order.specs.declared.Filling.{Filling}
 use Rattle.order.specs.declared.Filling.the-variants.{Filled, Refused}
-use Rattle.order.specs.Fill.{FillReply, refused, filled, fillTrace, fillReply, clocksAfterTrace, clocksAfter, chainsAfterReply}
-use Rattle.order.specs.Prepare.{prepareReply, clocksPrepared, chainsPrepared, ranksPrepared, tracePrepared}
+use Rattle.trace.specs.Reply.{Reply, refused, gives, unless}
+use Rattle.trace.specs.Reading.{recordsIn}
+use Rattle.order.specs.Fill.{chainsUsed, noChains}
+use Rattle.order.specs.Lent.{enoughChains, onClocks, clocksFilled, clocksAfter, chainsFilled, fillReady, fillReply}
+use Rattle.order.specs.Prepare.{noTrace}
 
-abbrev pub fillPaper : Filling → FillReply
-fillPaper (Filled k) = filled k
+abbrev pub fillPaper : Filling → Reply ℕ
+fillPaper (Filled k) = gives k
 fillPaper (Refused f) = refused (f .number) (f .place .0)
 
 -- the refusal in a filling; one that was made has none, number 0
@@ -24,20 +27,20 @@ refusalIn (Refused f) = f
 -- filling: the answer and the lent clocks
 pub record Fills (b : List ℕ) (width : ℕ) (clocks clocks′ : List ℕ) (r : Filling) : Type 0 where
   pub answer : fillPaper r ≡ fillReply b width (length clocks)
-  pub clocks-after : clocks′ ≡ clocksAfter b width clocks
+  pub clocks-after : clocks′ ≡ clocksAfter b (fillReady b width (length clocks)) width clocks
 
--- the same of an accepted trace's records, the chain of each row, and the ranks of all events
+-- the same of an accepted trace's records that the clocks have space for, the chain of each row, and the ranks of all events
 pub record FillsTrace (tr : List Record) (events width : ℕ) (clocks clocks′ : List ℕ) (r : Filling) (of all : List ℕ) : Type 0 where
-  pub answer : fillPaper r ≡ fillTrace tr events width (length clocks)
-  pub clocks-after : clocks′ ≡ clocksAfterTrace tr events width clocks
-  pub chains-after : of ≡ chainsAfterReply tr (fillTrace tr events width (length clocks))
+  pub answer : fillPaper r ≡ enoughChains tr events width (gives (chainsUsed tr))
+  pub clocks-after : clocks′ ≡ clocksFilled tr events width clocks
+  pub chains-after : of ≡ chainsFilled tr events width
   pub ranks-after : all ≡ ranksOf tr
 
--- filling for a call that asks about records and has work space of that room: the answer, the trace to go on with, the lent clocks, the chain
--- of each row, and the ranks of all events
-pub record Prepares (b : List ℕ) (lowest highest width room : ℕ) (clocks clocks′ of′ all all′ : List ℕ) (r : Filling) (t : Trace) : Type 0 where
-  pub answer : fillPaper r ≡ prepareReply b lowest highest width (length clocks) room
-  pub trace-is : t ≡ tracePrepared b lowest highest width (length clocks) room
-  pub clocks-after : clocks′ ≡ clocksPrepared b lowest highest width room clocks
-  pub chains-after : of′ ≡ chainsPrepared b lowest highest width (length clocks) room
-  pub ranks-after : all′ ≡ ranksPrepared b lowest highest width (length clocks) room all
+-- filling for a call that goes on with the trace `ready`: the answer, the trace that it gets, the lent clocks, the chain of each row, and the
+-- ranks of all events
+pub record Prepares (b : List ℕ) (ready : Reply Trace) (width : ℕ) (clocks clocks′ of′ all all′ : List ℕ) (r : Filling) (t : Trace) : Type 0 where
+  pub answer : fillPaper r ≡ onClocks b ready width (λ t. gives (chainsUsed (recordsIn b t)))
+  pub trace-is : t ≡ unless ready noTrace (λ t. t)
+  pub clocks-after : clocks′ ≡ clocksAfter b ready width clocks
+  pub chains-after : of′ ≡ unless ready noChains (λ t. chainsFilled (recordsIn b t) (t .events) width)
+  pub ranks-after : all′ ≡ unless ready all (λ t. ranksOf (recordsIn b t))

@@ -13,6 +13,7 @@ use slices::zeros::numbers_1025;
 use trace::Reading;
 use trace::Refusal;
 ghost use mathlib.Core.Path.{_≡_};
+ghost use lib.ListN.{length};
 ghost use Rattle.trace.specs.Paper.{paper};
 ghost use Rattle.order.specs.Prepare.{asked, readWithin};
 ghost use Rattle.order.specs.Paper.{refusalIn, Fills, Prepares};
@@ -102,8 +103,8 @@ pub fn prepare(
     of: &mut [u16; 1024],
     all: &mut [u16; 1025],
 ) -> Prepared
-    ensures { λ r. ⌜ Prepares (now (bytes .entry)) (lowest .0) (highest .0) width room (now (clocks .entry)) (now (clocks .exit)) (now (of .exit))
-        (now (all .entry)) (now (all .exit)) (r .answer) (r .trace) ⌝ }
+    ensures { λ r. ⌜ Prepares (now (bytes .entry)) (readWithin (now (bytes .entry)) (lowest .0) (highest .0) width (length (now (clocks .entry))) room)
+        width (now (clocks .entry)) (now (clocks .exit)) (now (of .exit)) (now (all .entry)) (now (all .exit)) (r .answer) (r .trace) ⌝ }
 {
     clear(of, 1024);
     let reading = read_within(bytes, lowest.0, highest.0, width, clocks.len(), room);

@@ -1,18 +1,17 @@
 -- Beside the proved cases of document 01: T's short list, the refusals of the pair question in their order, and that the pair 6 11 of T has one
 -- cover. Assumes nothing.
-use Prim.Native.Nat.{ℕ, _-_}
+use Prim.Native.Nat.{ℕ}
 use mathlib.Core.Bool.{true}
 use mathlib.Core.Path.{_≡_, refl, ap, subst}
 use mathlib.Core.Logic.{_⊎_, inl, inr}
 use mathlib.Core.List.{List, [], _∷_, map, List·Memᴰ·head, List·Memᴰ·tail, List·Memᴰ·not-nil}
 use lib.Dec.{T}
-use Rattle.records.specs.declared.Record.{Record}
 use Rattle.records.specs.Bytes.{recordAt, recordsFrom, decode, part}
 use Rattle.records.specs.Records.{at, eventOf, past, has, begun, ended, begins}
 use Rattle.trace.specs.Place.{place}
 use Rattle.trace.specs.Rule.{situation, owner, numbered, wellFormed, misplaced, again, early, judge, rule}
-use Rattle.trace.specs.Reading as reading
-use Rattle.trace.specs.Reading.{orElse, closing, walk, distance, trailerReply, frameReply, recordsIn, recordsReply, readReply}
+use Rattle.trace.specs.Reply.{Reply, refused, demand, orElse, then}
+use Rattle.trace.specs.Reading.{closing, walk, distance, trailerReply, frameReply, recordsIn, readReply}
 use Rattle.records.specs.Encoding.{encode, trailer, traceOf}
 use Rattle.trace.proofs.Examples.{recordsT}
 use Rattle.clocks.specs.Rows.{spaceFor}
@@ -22,6 +21,8 @@ use Rattle.ranks.specs.Said.{opOf}
 use Rattle.order.specs.HappensBefore.{rankIn, rank, opAt, happensBefore}
 use Rattle.order.specs.Chains.{firstFrom, pick, put, lasts, chain, needs}
 use Rattle.order.specs.Fill.{eventsIn, beginPosition, shortRow}
+use Rattle.order.specs.Lent.{asking, spaced, enoughChains, onClocks}
+use Rattle.order.specs.Lent as lent
 use Rattle.coverage.specs.Below as below
 use Rattle.coverage.specs.Race.{before, Race, raceb}
 use Rattle.coverage.specs.Neighbours.{conflicts, writeBetween, neighbour}
@@ -32,7 +33,7 @@ use Rattle.coverage.specs.Lists.{allRaces, shortList}
 use Rattle.coverage.proofs.Pairs.{in-all}
 use Rattle.races.specs.Traces.{settingOf}
 use Rattle.races.specs.Lists.{pairsOf, shapeOf, markOf, entry, numbers}
-use Rattle.pair.specs.Pair.{PairReply, refused, isOpen, isCovered, demand, isRecord, areRecords, answered, pairFilled, pairTrace, pairRead, pairReply}
+use Rattle.pair.specs.Pair.{PairMark, isRecord, areRecords, answered, pairFilled, pairReady, pairReply}
 use Rattle.pair.specs.Pair.{keptEntries}
 
 -- a question about T: width, clock space, work space, list space, and two records by number
@@ -47,16 +48,16 @@ pub record Asked : Type 0 where
 -- with its reply
 pub record Case : Type 0 where
   pub asked : Asked
-  pub reply : PairReply
+  pub reply : Reply PairMark
 
 abbrev spaces : ℕ → ℕ → ℕ → ℕ → ℕ → ℕ → Asked
 spaces width clocks work list a b = record { width = width; clocks = clocks; work = work; list = list; first = a; second = b }
 
-abbrev given : Asked → PairReply → Case
+abbrev given : Asked → Reply PairMark → Case
 given q r = record { asked = q; reply = r }
 
 -- what the definitions say
-abbrev said : Asked → PairReply
+abbrev said : Asked → Reply PairMark
 said q = pairReply (traceOf recordsT) (q .width) (q .clocks) (q .work) (q .list) (q .first) (q .second)
 
 abbrev pub cases : List Case
@@ -75,8 +76,8 @@ cases =
 -- every case gets the reply that it expects
 pub hold : map (λ (c : Case). said (c .asked)) cases ≡ map (λ (c : Case). c .reply) cases
 unfolding encode trailer traceOf recordAt recordsFrom decode past has begun ended begins place situation owner numbered wellFormed misplaced again early judge
-    rule reading.demand orElse closing walk distance trailerReply frameReply part recordsIn recordsReply readReply firstFrom pick put lasts chain needs
-    eventsIn beginPosition shortRow spaceFor demand isRecord areRecords answered pairFilled pairTrace pairRead pairReply keptEntries entries lastKept
+    rule demand orElse then closing walk distance trailerReply frameReply part recordsIn readReply firstFrom pick put lasts chain needs
+    eventsIn beginPosition shortRow spaceFor asking lent.spaces spaced enoughChains onClocks isRecord areRecords answered pairFilled pairReady pairReply keptEntries entries lastKept
     below.upto leads reach below.some raceb before conflicts happensBefore rank rankIn opAt opOf linked leq along within some
 hold = refl
 

@@ -1,5 +1,5 @@
 -- How the pair question on an accepted trace ends. Assumes nothing.
-use Prim.Native.Nat.{ℕ, _+_, _*_, _-_, _/_, _≤_, _<_}
+use Prim.Native.Nat.{ℕ, _*_, _-_, _/_, _≤_, _<_}
 use mathlib.Core.Path.{_≡_, refl, sym, ap, _∙_, subst}
 use mathlib.Core.Logic.{_≢_}
 use mathlib.Core.Bool.{Bool, true, false}
@@ -20,7 +20,8 @@ use Rattle.pair.specs.declared.PairAnswer.the-variants.{Open, Covered}
 use Rattle.races.specs.Traces.{settingOf}
 use Rattle.races.specs.Filled.{Filled, rows, Clear}
 use Rattle.pair.specs.Leading.{mark, Marks}
-use Rattle.pair.specs.Pair.{refused, isOpen, pairPaper, demand, answered, withEntries, keptEntries, pairFilled, GivesCover, AnswersRace, AnswersFilled}
+use Rattle.trace.specs.Reply.{refused, gives, demand}
+use Rattle.pair.specs.Pair.{isOpen, pairPaper, answered, withEntries, keptEntries, pairFilled, GivesCover, AnswersRace, AnswersFilled}
 use Rattle.pair.specs.Kept.{Markable, MarksKept}
 use Rattle.races.proofs.FilledLaws.{ranks-length}
 use Rattle.races.proofs.CandidateLaws.{racing}
@@ -36,7 +37,7 @@ module _ (tr : List Record) (a b : ℕ) (list list′ : List ℕ) (k : ℕ) wher
 
   pub answers-open : coveredb (settingOf tr) a b ≡ false → k ≡ length (entries (settingOf tr) b) → list′ ≡ withEntries (keptEntries tr b) list → AnswersRace tr a b list list′ (Open k)
   unfolding answered
-  answers-open e n g = record { answer = rw e (ap isOpen n); list-after = rw e g }
+  answers-open e n g = record { answer = rw e (ap (λ (x : ℕ). gives (isOpen x)) n); list-after = rw e g }
 
 -- Records a and b over filled clocks.
 module _ (tr : List Record) (events a b : ℕ) (list : List ℕ) (r : PairAnswer) where

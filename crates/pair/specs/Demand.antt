@@ -5,8 +5,9 @@ use mathlib.Core.List.{List}
 use mathlib.Core.Logic.{_⊎_, _↔_}
 use lib.ListN.{length}
 use Rattle.records.specs.declared.Record.{Record}
-use Rattle.trace.specs.Reading as reading
-use Rattle.trace.specs.Reading.{recordsIn, readReply}
+use Rattle.records.specs.declared.Trace.{Trace}
+use Rattle.trace.specs.Reply.{refused}
+use Rattle.trace.specs.Reading.{recordsIn, Accepts}
 use Rattle.order.specs.Fill.{eventsIn}
 use Rattle.coverage.specs.Race.{Race}
 use Rattle.coverage.specs.Arrangement.{Accesses}
@@ -15,8 +16,7 @@ use Rattle.races.specs.Traces.{settingOf}
 use Rattle.races.specs.Demand.{Suffices, OpenBy, ListsSuffice, ListsDemand}
 use Rattle.pair.specs.declared.PairAnswer.{PairAnswer}
 use Rattle.pair.specs.declared.PairAnswer.the-variants as pair
-use Rattle.pair.specs.Pair as question
-use Rattle.pair.specs.Pair.{entryNumbers, PairPromise, GivesCover, pairTrace, keptEntries, withEntries}
+use Rattle.pair.specs.Pair.{entryNumbers, PairPromise, GivesCover, pairReply, keptEntries, withEntries}
 
 module _ (tr : List Record) where
   -- "24: .. for the pair question fewer than event actions": an entry is two numbers
@@ -36,14 +36,15 @@ module _ (tr : List Record) where
 -- so does `PairSuffices`: the pair question on a race is refused exactly where it fails
 pub record SufficesExactly : Type 0 where
   pub lists : ListsSuffice
-  pub pairs : (tr : List Record) (width clocks work list a b : ℕ) → Race (settingOf tr) a b
-      → PairSuffices tr width clocks work list ↔ ((n p : ℕ) → pairTrace tr (eventsIn tr) width clocks work list (a + 1) (b + 1) ≡ question.refused n p → ⊥)
+  pub pairs : (bytes : List ℕ) (t : Trace) → Accepts bytes t → (width clocks work list a b : ℕ) → Race (settingOf (recordsIn bytes t)) a b
+      → PairSuffices (recordsIn bytes t) width clocks work list
+      ↔ ((n p : ℕ) → pairReply bytes width clocks work list (a + 1) (b + 1) ≡ refused n p → ⊥)
 
 -- "Take every accepted trace, whatever the lent spaces held before, so long as they and the clock width suffice for the call."
 pub record ThirdDemand : Type 0 where
   -- the short list and the list of all races
   pub lists : ListsDemand
-  pub pairs : (bytes : List ℕ) (start n m : ℕ) → reading.accepted start n m ≡ readReply bytes
+  pub pairs : (bytes : List ℕ) (t : Trace) → Accepts bytes t
       → (width : ℕ) (clocks clocks′ work work′ list list′ : List ℕ) (a b : ℕ) (r : PairAnswer)
-      → PairSuffices (recordsIn bytes start n) width (length clocks) (length work) (length list) → Race (settingOf (recordsIn bytes start n)) a b
-      → PairPromise bytes width clocks clocks′ work work′ list list′ (a + 1) (b + 1) r → PairDemand (recordsIn bytes start n) a b list list′ r
+      → PairSuffices (recordsIn bytes t) width (length clocks) (length work) (length list) → Race (settingOf (recordsIn bytes t)) a b
+      → PairPromise bytes width clocks clocks′ work work′ list list′ (a + 1) (b + 1) r → PairDemand (recordsIn bytes t) a b list list′ r

@@ -18,12 +18,13 @@ ghost use Prim.Native.Nat.{_+_, _*_, _≤_, _<_};
 ghost use lib.ListN.{length, getD, set};
 ghost use Rattle.records.specs.Bytes.{decode};
 ghost use Rattle.ranks.specs.Ranks.{ranksOf};
+ghost use Rattle.trace.specs.Reply.{Reply};
 ghost use Rattle.order.specs.Fill.{chainsUsed};
 ghost use Rattle.coverage.specs.Race.{raceb};
 ghost use Rattle.coverage.specs.Leading.{entries};
 ghost use Rattle.races.specs.Traces.{settingOf};
 ghost use Rattle.races.specs.Filled.{Filled, rows, Clear};
-ghost use Rattle.pair.specs.Pair.{entryNumbers, pairPaper, PairReply, withEntries, keptEntries, AnswersFilled, PairPromise};
+ghost use Rattle.pair.specs.Pair.{entryNumbers, pairPaper, withEntries, keptEntries, AnswersFilled, PairPromise};
 ghost use Rattle.pair.specs.PairSearch.{PutsEnd};
 ghost use Rattle.pair.specs.Leading.{Marks};
 
@@ -98,7 +99,7 @@ fn is_race_in_order(
 }
 
 fn refused(number: u16) -> PairAnswer
-    ensures { λ r. ⌜ pairPaper r ≡ PairReply.refused number 0 ⌝ }
+    ensures { λ r. ⌜ pairPaper r ≡ Reply.refused number 0 ⌝ }
 {
     PairAnswer::Refused(Refusal {
         number: number,

@@ -11,47 +11,49 @@ use lib.Dec.{leb}
 use lib.ListN.{length, getD, set, take, drop, length-map, take-append-drop}
 use lib.Seq.{length-take-le, take-length, take-suc, drop-cons, append-snoc, set-at}
 use Rattle.records.specs.declared.Record.{Record}
-use Rattle.trace.specs.Reading as reading
-use Rattle.trace.specs.Reading.{Reply, recordsIn, readReply}
+use Rattle.trace.specs.Reply.{Reply, refused, gives, unless}
+use Rattle.trace.specs.Reading.{readReply, recordsRead}
+use Rattle.trace.proofs.Accepted.{records-read}
+use Rattle.trace.proofs.ReplyLaws.{same-given, passed}
+use Rattle.order.specs.Lent.{workFor}
+use Rattle.order.proofs.LentLaws as lent
 use Rattle.races.specs.declared.Listing.{Listing}
 use Rattle.races.specs.declared.Listing.the-variants.{Listed, Refused}
-use Rattle.races.specs.Lists.{pairsOf, entry, numbers, ListReply, refused, listed, demand, listFor, listFilled, listTrace, listRead, listReply, listAfter, listAfterRead}
+use Rattle.races.specs.declared.Summary.{Summary}
+use Rattle.races.specs.Lists.{pairsOf, entry, numbers, listFor, listFilled, listReady, listReply, listAfter}
 use Rattle.races.specs.Paper.{listPaper, Lists}
 use Rattle.pair_lists.specs.declared.Pair.{Pair}
 use Rattle.pair_lists.specs.declared.Made.{Made}
-use Rattle.pair_lists.specs.Pairs.{noPair, pairOf, space, pairsAfter, pairsAfterRead, numbersAfterRead, PairLists}
+use Rattle.pair_lists.specs.Pairs.{noPair, pairOf, space, pairsAfter, PairLists}
 use Rattle.pair_lists.specs.Copying.{countIn, Within, pairAt, puts}
 
 -- ---- the count of a reply, and how it stands to the list and to the space
-unfoldable countOf : ListReply → ℕ
+unfoldable countOf : Reply Summary → ℕ
 countOf (refused n p) = 0
-countOf (listed e r c k) = k
+countOf (gives s) = s .count
 
 counted-is : (l : Listing) → countIn l ≡ countOf (listPaper l)
 unfolding countOf
 counted-is (Listed s) = refl
 counted-is (Refused f) = refl
 
-unfoldable Fine : List (ℕ × ℕ) → ℕ → ListReply → Type 0
+unfoldable Fine : List (ℕ × ℕ) → ℕ → Reply Summary → Type 0
 Fine ps list (refused n p) = Unit {0}
-Fine ps list (listed e r c k) = (k ≡ length ps) × (5 * k ≤ list)
+Fine ps list (gives s) = (s .count ≡ length ps) × (5 * s .count ≤ list)
 
-fine-demand : (ps : List (ℕ × ℕ)) (list : ℕ) (t : Bool) (n p : ℕ) (next : ListReply) → (t ≡ true → Fine ps list next) → Fine ps list (demand t n p next)
-unfolding Fine demand
-fine-demand ps list true n p next f = f refl
-fine-demand ps list false n p next f = tt
-
-module _ (short : Bool) (tr : List Record) (events width clocks work list : ℕ) where
-  abbrev pairs-of : List (ℕ × ℕ)
-  pairs-of = pairsOf tr short
-
-  fine-filled : Fine pairs-of list (listFilled short tr events list)
-  unfolding listFilled Fine
-  fine-filled = fine-demand pairs-of list (leb (length pairs-of) (list / 5)) 24 0 _ (λ e. let h = leb-true (length pairs-of) (list / 5) e in (refl, omega (arith, h)))
-
-  fine-trace : Fine pairs-of list (listTrace short tr events width clocks work list)
-  unfolding listTrace
-  fine-trace = fine-demand pairs-of list _ 21 0 _ (λ _. fine-demand pairs-of list _ 22 0 _ (λ _. fine-demand pairs-of list _ 23 _ _ (λ _. fine-filled)))
+fine-reply : (short : Bool) (b : List ℕ) (width clocks work list : ℕ) → Fine (pairsOf (recordsRead b) short) list (listReply short b width clocks work list)
+unfolding Fine listReply listReady listFilled
+fine-reply short b width clocks work list = go (listReply short b width clocks work list) refl
+  where
+    go : (x : Reply Summary) → x ≡ listReply short b width clocks work list → Fine (pairsOf (recordsRead b) short) list x
+    go (refused n p) e = tt
+    go (gives s) e =
+        let g = lent.filling b _ width _ s e in
+        let r = lent.fits (readReply b) width clocks (workFor work) (g .trace) (g .ready-is) .found-is in
+        let p = passed _ _ _ _ s (g .answers) in
+        let q = records-read b (g .trace) r in
+        let c : s .count ≡ length (pairsOf (recordsRead b) short) = rw q (ap (λ (x : Summary). x .count) (same-given (p .1))) in
+        (c, omega (arith, rw (← q) at (leb-true _ (list / 5) (p .0))))
 
 -- ---- the pairs are set, place by place
 puts-taken : (ps qs : List Pair) (l : List ℕ) → ((i : ℕ) → i < length qs → pairAt l i ≡ getD qs i noPair) → (n : ℕ) → n ≤ length qs → n ≤ length ps → puts ps l n ≡ take n qs ++ drop n ps
@@ -89,20 +91,20 @@ module _ (tr : List Record) (rest : List ℕ) where
       ∙ ap (λ (xs : List Pair). xs ++ drop (length ps) pairs) (ap (λ (k : ℕ). take k (map (pairOf tr) ps)) (sym l) ∙ take-length (map (pairOf tr) ps))
 
 -- ---- by the reply
-room-of : (ps : List (ℕ × ℕ)) (list room : ℕ) (r : ListReply) → list ≤ 5 * room → Fine ps list r → countOf r ≤ room
+room-of : (ps : List (ℕ × ℕ)) (list room : ℕ) (r : Reply Summary) → list ≤ 5 * room → Fine ps list r → countOf r ≤ room
 unfolding Fine countOf
 room-of ps list room (refused n p) h f = omega arith
-room-of ps list room (listed e s c k) h f = omega (arith, f .1)
+room-of ps list room (gives s) h f = omega (arith, f .1)
 
-size-of : (ps : List (ℕ × ℕ)) (list : ℕ) (r : ListReply) → Fine ps list r → 5 * countOf r ≤ list
+size-of : (ps : List (ℕ × ℕ)) (list : ℕ) (r : Reply Summary) → Fine ps list r → 5 * countOf r ≤ list
 unfolding Fine countOf
 size-of ps list (refused n p) f = omega arith
-size-of ps list (listed e s c k) f = f .1
+size-of ps list (gives s) f = f .1
 
-after-reply : (tr : List Record) (ps : List (ℕ × ℕ)) (list : ℕ) (r : ListReply) (l : List ℕ) (pairs : List Pair) → list ≤ 5 * length pairs → Fine ps list r → puts pairs (listAfter tr r ps l) (countOf r) ≡ pairsAfter tr r ps pairs
-unfolding Fine countOf listAfter pairsAfter
+after-reply : (tr : List Record) (ps : List (ℕ × ℕ)) (list : ℕ) (r : Reply Summary) (l : List ℕ) (pairs : List Pair) → list ≤ 5 * length pairs → Fine ps list r → puts pairs (listAfter tr r ps l) (countOf r) ≡ pairsAfter tr r ps pairs
+unfolding Fine countOf listAfter pairsAfter unless
 after-reply tr ps list (refused n p) l pairs h f = refl
-after-reply tr ps list (listed e s c k) l pairs h f =
+after-reply tr ps list (gives s) l pairs h f =
     let g : length ps ≤ length pairs = omega (arith, f .0, f .1) in
     ap (puts pairs (numbers tr ps ++ drop (5 * length ps) l)) (f .0) ∙ all-set tr (drop (5 * length ps) l) ps pairs g
 
@@ -113,41 +115,29 @@ drop-part (suc j) zero l h = absurd (not-suc-le-zero h)
 drop-part (suc j) (suc k) [] h = refl
 drop-part (suc j) (suc k) (x ∷ l) h = drop-part j k l (le-of-suc-le-suc h)
 
-front-reply : (tr : List Record) (ps : List (ℕ × ℕ)) (k : ℕ) (r : ListReply) (l : List ℕ) → Fine ps k r → listAfter tr r ps (take k l) ++ drop k l ≡ listAfter tr r ps l
-unfolding Fine listAfter
+front-reply : (tr : List Record) (ps : List (ℕ × ℕ)) (k : ℕ) (r : Reply Summary) (l : List ℕ) → Fine ps k r → listAfter tr r ps (take k l) ++ drop k l ≡ listAfter tr r ps l
+unfolding Fine listAfter unless
 front-reply tr ps k (refused n p) l f = take-append-drop k l
-front-reply tr ps k (listed e s c m) l f =
+front-reply tr ps k (gives s) l f =
     let h : 5 * length ps ≤ k = omega (arith, f .0, f .1) in
     append-assoc (numbers tr ps) (drop (5 * length ps) (take k l)) (drop k l) ∙ ap (λ (xs : List ℕ). numbers tr ps ++ xs) (drop-part (5 * length ps) k l h)
 
--- ---- by the reading
+-- ---- by the bytes
 module _ (short : Bool) (b : List ℕ) (width clocks work : ℕ) where
-  counted-read : (list : ℕ) (l : Listing) → listPaper l ≡ listReply short b width clocks work list → countIn l ≡ countOf (listRead short b (readReply b) width clocks work list)
-  unfolding listReply
-  counted-read list l e = counted-is l ∙ ap countOf e
+  abbrev reply : ℕ → Reply Summary
+  reply = listReply short b width clocks work
 
-  count-room : (r : Reply) (list room : ℕ) → list ≤ 5 * room → countOf (listRead short b r width clocks work list) ≤ room
-  unfolding listRead countOf
-  count-room (reading.refused n p) list room h = omega arith
-  count-room (reading.accepted s n m) list room h = room-of _ list room _ h (fine-trace short (recordsIn b s n) m width clocks work list)
+  abbrev tr : List Record
+  tr = recordsRead b
 
-  count-size : (r : Reply) (list : ℕ) → 5 * countOf (listRead short b r width clocks work list) ≤ list
-  unfolding listRead countOf
-  count-size (reading.refused n p) list = omega arith
-  count-size (reading.accepted s n m) list = size-of _ list _ (fine-trace short (recordsIn b s n) m width clocks work list)
+  pairs-read : (list : ℕ) (l : List ℕ) (pairs : List Pair) → list ≤ 5 * length pairs
+      → puts pairs (listAfter tr (reply list) (pairsOf tr short) l) (countOf (reply list)) ≡ pairsAfter tr (reply list) (pairsOf tr short) pairs
+  pairs-read list l pairs h = after-reply tr _ list (reply list) l pairs h (fine-reply short b width clocks work list)
 
-  pairs-read : (r : Reply) (list : ℕ) (l : List ℕ) (pairs : List Pair) → list ≤ 5 * length pairs
-      → puts pairs (numbersAfterRead short b r width clocks work list l) (countOf (listRead short b r width clocks work list)) ≡ pairsAfterRead short b r width clocks work list pairs
-  unfolding listRead countOf numbersAfterRead pairsAfterRead
-  pairs-read (reading.refused n p) list l pairs h = refl
-  pairs-read (reading.accepted s n m) list l pairs h = after-reply (recordsIn b s n) _ list _ l pairs h (fine-trace short (recordsIn b s n) m width clocks work list)
-
-  front-read : (r : Reply) (k : ℕ) (l : List ℕ) → length (take k l) ≡ k → listAfterRead short b r width clocks work (take k l) ++ drop k l ≡ numbersAfterRead short b r width clocks work k l
-  unfolding listAfterRead numbersAfterRead
-  front-read (reading.refused n p) k l e = take-append-drop k l
-  front-read (reading.accepted s n m) k l e =
-      let tr = recordsIn b s n in
-      ap (λ (i : ℕ). listAfter tr (listTrace short tr m width clocks work i) (pairsOf tr short) (take k l) ++ drop k l) e ∙ front-reply tr (pairsOf tr short) k _ l (fine-trace short tr m width clocks work k)
+  front-read : (k : ℕ) (l : List ℕ) → length (take k l) ≡ k
+      → listAfter tr (reply (length (take k l))) (pairsOf tr short) (take k l) ++ drop k l ≡ listAfter tr (reply k) (pairsOf tr short) l
+  front-read k l e =
+      ap (λ (i : ℕ). listAfter tr (reply i) (pairsOf tr short) (take k l) ++ drop k l) e ∙ front-reply tr (pairsOf tr short) k (reply k) l (fine-reply short b width clocks work k)
 
 -- ---- the promises
 module _ {short : Bool} {b : List ℕ} {width : ℕ} {clocks clocks′ work work′ : List ℕ} where
@@ -161,18 +151,20 @@ module _ {short : Bool} {b : List ℕ} {width : ℕ} {clocks clocks′ work work
         answer = w .answer ∙ ap (listReply short b width (length clocks) (length work)) (t ∙ e);
         clocks-after = w .clocks-after;
         work-after = w .work-after;
-        numbers-after = ap (λ (xs : List ℕ). xs ++ drop k l) (w .list-after) ∙ front-read short b width (length clocks) (length work) (readReply b) k l t ∙ ap (λ (i : ℕ). numbersAfterRead short b (readReply b) width (length clocks) (length work) i l) e;
+        numbers-after = ap (λ (xs : List ℕ). xs ++ drop k l) (w .list-after) ∙ front-read short b width (length clocks) (length work) k l t
+            ∙ ap (λ (i : ℕ). listAfter (recordsRead b) (listReply short b width (length clocks) (length work) i) (pairsOf (recordsRead b) short) l) e;
         counted = c;
       }
 
   module _ {l l′ : List ℕ} {room : ℕ} {m : Made} (w : Within short b width clocks clocks′ work work′ l l′ room m) where
-    count-is : m .count ≡ countOf (listRead short b (readReply b) width (length clocks) (length work) (space (length l) room))
-    count-is = w .counted ∙ counted-read short b width (length clocks) (length work) (space (length l) room) (m .answer) (w .answer)
+    count-is : m .count ≡ countOf (listReply short b width (length clocks) (length work) (space (length l) room))
+    count-is = w .counted ∙ counted-is (m .answer) ∙ ap countOf (w .answer)
 
     pub fits : (m .count ≤ room) × (5 * m .count ≤ length l)
     fits =
-        let p = count-room short b width (length clocks) (length work) (readReply b) (space (length l) room) room (min-le-right (length l) (5 * room)) in
-        let q = count-size short b width (length clocks) (length work) (readReply b) (space (length l) room) in
+        let f = fine-reply short b width (length clocks) (length work) (space (length l) room) in
+        let p = room-of _ (space (length l) room) room _ (min-le-right (length l) (5 * room)) f in
+        let q = size-of _ (space (length l) room) _ f in
         let h = min-le-left (length l) (5 * room) in
         (omega (arith, p, count-is), omega (arith, q, h, count-is))
 
@@ -183,14 +175,14 @@ module _ {short : Bool} {b : List ℕ} {width : ℕ} {clocks clocks′ work work
     clocks-after = w .clocks-after;
     work-after = w .work-after;
     numbers-after = w .numbers-after;
-    pairs-after = e ∙ rw (w .numbers-after, count-is w) (pairs-read short b width (length clocks) (length work) (readReply b) (space (length l) (length pairs)) l pairs (min-le-right (length l) (5 * length pairs)));
+    pairs-after = e ∙ rw (w .numbers-after, count-is w) (pairs-read short b width (length clocks) (length work) (space (length l) (length pairs)) l pairs (min-le-right (length l) (5 * length pairs)));
   }
 
   -- the pairs and the numbers say the same: each of the first pairs is what five numbers say
   pub both-say : {l l′ : List ℕ} {pairs pairs′ : List Pair} {r : Listing} → PairLists short b width clocks clocks′ work work′ l l′ pairs pairs′ r → pairs′ ≡ puts pairs l′ (countIn r)
   both-say {l} {l′} {pairs} {pairs′} {r} w =
-      let c : countIn r ≡ countOf (listRead short b (readReply b) width (length clocks) (length work) (space (length l) (length pairs))) = counted-read short b width (length clocks) (length work) (space (length l) (length pairs)) r (w .answer) in
-      w .pairs-after ∙ sym (rw (w .numbers-after, c) (pairs-read short b width (length clocks) (length work) (readReply b) (space (length l) (length pairs)) l pairs (min-le-right (length l) (5 * length pairs))))
+      let c : countIn r ≡ countOf (listReply short b width (length clocks) (length work) (space (length l) (length pairs))) = counted-is r ∙ ap countOf (w .answer) in
+      w .pairs-after ∙ sym (rw (w .numbers-after, c) (pairs-read short b width (length clocks) (length work) (space (length l) (length pairs)) l pairs (min-le-right (length l) (5 * length pairs))))
 
 -- 24: the list has more entries than the numbers hold, or more than there are pairs
 pub either-space : (count numbers pairs : ℕ) → listFor count (space numbers pairs) ≡ (leb count (numbers / 5) && leb count pairs)

@@ -1,7 +1,7 @@
 -- The third demand holds of the lists as pair structs.
 -- Assumes nothing.
-use Prim.Native.Nat.{ℕ, _+_, _*_, _<_}
-use mathlib.Core.Path.{_≡_, sym, ap, _∙_}
+use Prim.Native.Nat.{ℕ, _*_, _<_}
+use mathlib.Core.Path.{_≡_, refl, sym, ap, _∙_}
 use mathlib.Core.Bool.{Bool}
 use mathlib.Core.List.{List, [], _++_, map}
 use mathlib.Core.Logic.{_↔_}
@@ -9,15 +9,17 @@ use native.Mathlib.Omega.{arith}
 use native.Mathlib.Nat.{add-zero}
 use lib.ListN.{length, getD, drop, length-map, List·getD-append}
 use Rattle.records.specs.declared.Record.{Record}
-use Rattle.trace.specs.Reading as reading
-use Rattle.trace.specs.Reading.{recordsIn, readReply}
+use Rattle.records.specs.declared.Trace.{Trace}
+use Rattle.trace.specs.Reply.{unless}
+use Rattle.trace.specs.Reading.{recordsIn, Accepts}
+use Rattle.trace.proofs.Accepted.{records-read}
 use Rattle.races.specs.declared.Listing.{Listing}
-use Rattle.races.specs.Lists.{pairsOf, numbers, listReply, listRead}
+use Rattle.races.specs.Lists.{pairsOf, numbers}
 use Rattle.races.specs.Demand as over-numbers
 use Rattle.races.specs.Demand.{ListSuffices, ListAnswers}
-use Rattle.races.proofs.ThirdDemand.{made, made-answer, acceptable, begun, list-demand, alike}
+use Rattle.races.proofs.ThirdDemand.{made, made-answer, acceptable, list-demand, alike}
 use Rattle.pair_lists.specs.declared.Pair.{Pair}
-use Rattle.pair_lists.specs.Pairs.{noPair, pairOf, space, pairsAfter, pairsAfterRead, PairLists}
+use Rattle.pair_lists.specs.Pairs.{noPair, pairOf, space, pairsAfter, PairLists}
 use Rattle.pair_lists.specs.Copying.{pairAt}
 use Rattle.pair_lists.specs.Demand.{Calls, Names, PairListSuffices, ThirdDemand}
 use Rattle.pair_lists.proofs.CopyLaws.{entry-says}
@@ -81,26 +83,25 @@ enough short list pairs s = record {
   list-space = omega (arith, s .list-space);
 }
 
-module _ (bytes : List ℕ) (start n m : ℕ) (e : reading.accepted start n m ≡ readReply bytes) where
+module _ (bytes : List ℕ) (t : Trace) (e : Accepts bytes t) where
   abbrev tr : List Record
-  tr = recordsIn bytes start n
+  tr = recordsIn bytes t
 
   lists : (short : Bool) (width : ℕ) (clocks clocks′ work work′ list list′ : List ℕ) (pairs pairs′ : List Pair) (r : Listing)
       → PairListSuffices tr short width (length clocks) (length work) (length list) (length pairs)
       → PairLists short bytes width clocks clocks′ work work′ list list′ pairs pairs′ r → ListAnswers tr short (Calls pairs′) (Names pairs′) r
-  unfolding listReply listRead pairsAfterRead pairsAfter
+  unfolding pairsAfter unless
   lists short width clocks clocks′ work work′ list list′ pairs pairs′ r s p =
       let ps = pairsOf tr short in
       let k = enough short (length list) (length pairs) s in
-      let q = rw (begun bytes start n m e) at (made tr width (length clocks) (length work) (space (length list) (length pairs)) short k) in
-      let v = made-answer r m _ _ (length ps) (rw (← e, q) at (p .answer)) in
+      let q = made bytes t e width (length clocks) (length work) (space (length list) (length pairs)) short k in
       let l = drop (length ps) pairs in
       record {
-        summary = v .0;
-        is-made = v .1;
-        counted = v .2;
-        demand = rw (v .2, rw (← e, q) at (p .pairs-after))
-            (alike (calls-alike tr ps l) (names-alike tr ps l) (list-demand (acceptable bytes start n m e) short []));
+        summary = _;
+        is-made = made-answer r _ (p .answer ∙ q);
+        counted = refl;
+        demand = rw (rw (q, records-read bytes t e) at (p .pairs-after))
+            (alike (calls-alike tr ps l) (names-alike tr ps l) (list-demand (acceptable bytes t e) short []));
       }
 
 pub third-demand : ThirdDemand

@@ -4,14 +4,15 @@ use mathlib.Core.Path.{_≡_}
 use mathlib.Core.Bool.{Bool}
 use mathlib.Core.List.{List}
 use lib.ListN.{length, getD, set}
-use Rattle.trace.specs.Reading.{readReply}
+use Rattle.trace.specs.Reading.{recordsRead}
+use Rattle.order.specs.Lent.{clocksAfter, workAfter}
 use Rattle.races.specs.declared.Listing.{Listing}
 use Rattle.races.specs.declared.Listing.the-variants.{Listed, Refused}
-use Rattle.races.specs.Lists.{entryNumbers, listReply, clocksRead, workRead}
+use Rattle.races.specs.Lists.{entryNumbers, pairsOf, listReady, listReply, listAfter}
 use Rattle.races.specs.Paper.{listPaper}
 use Rattle.pair_lists.specs.declared.Pair.{Pair}
 use Rattle.pair_lists.specs.declared.Made.{Made}
-use Rattle.pair_lists.specs.Pairs.{operation, var, space, numbersAfterRead}
+use Rattle.pair_lists.specs.Pairs.{operation, var, space}
 
 abbrev pub countIn : Listing → ℕ
 countIn (Listed s) = s .count
@@ -20,9 +21,10 @@ countIn (Refused f) = 0
 -- a list over numbers that has at most `room` entries
 pub record Within (short : Bool) (b : List ℕ) (width : ℕ) (clocks clocks′ work work′ numbers numbers′ : List ℕ) (room : ℕ) (m : Made) : Type 0 where
   pub answer : listPaper (m .answer) ≡ listReply short b width (length clocks) (length work) (space (length numbers) room)
-  pub clocks-after : clocks′ ≡ clocksRead b (readReply b) width (length work) clocks
-  pub work-after : work′ ≡ workRead b (readReply b) width (length clocks) work
-  pub numbers-after : numbers′ ≡ numbersAfterRead short b (readReply b) width (length clocks) (length work) (space (length numbers) room) numbers
+  pub clocks-after : clocks′ ≡ clocksAfter b (listReady b width (length clocks) (length work)) width clocks
+  pub work-after : work′ ≡ workAfter (listReady b width (length clocks) (length work)) work
+  pub numbers-after : numbers′ ≡ listAfter (recordsRead b) (listReply short b width (length clocks) (length work) (space (length numbers) room))
+      (pairsOf (recordsRead b) short) numbers
   pub counted : m .count ≡ countIn (m .answer)
 
 -- the pair that the numbers say at place i

@@ -5,8 +5,8 @@ use mathlib.Core.Bool.{Bool}
 use mathlib.Core.List.{List}
 use lib.ListN.{length, getD}
 use Rattle.records.specs.declared.Record.{Record}
-use Rattle.trace.specs.Reading as reading
-use Rattle.trace.specs.Reading.{recordsIn, readReply}
+use Rattle.records.specs.declared.Trace.{Trace}
+use Rattle.trace.specs.Reading.{recordsIn, Accepts}
 use Rattle.races.specs.declared.Listing.{Listing}
 use Rattle.races.specs.Lists.{entryNumbers, pairsOf}
 use Rattle.races.specs.Demand.{Suffices, ListAnswers}
@@ -34,8 +34,8 @@ PairListSuffices tr short width clocks work numbers pairs = Suffices tr width cl
 
 -- "Take every accepted trace, whatever the lent spaces held before, so long as they and the clock width suffice for the call."
 pub record ThirdDemand : Type 0 where
-  pub lists : (bytes : List ℕ) (start n m : ℕ) → reading.accepted start n m ≡ readReply bytes
+  pub lists : (bytes : List ℕ) (t : Trace) → Accepts bytes t
       → (short : Bool) (width : ℕ) (clocks clocks′ work work′ numbers numbers′ : List ℕ) (pairs pairs′ : List Pair) (r : Listing)
-      → PairListSuffices (recordsIn bytes start n) short width (length clocks) (length work) (length numbers) (length pairs)
+      → PairListSuffices (recordsIn bytes t) short width (length clocks) (length work) (length numbers) (length pairs)
       → PairLists short bytes width clocks clocks′ work work′ numbers numbers′ pairs pairs′ r
-      → ListAnswers (recordsIn bytes start n) short (Calls pairs′) (Names pairs′) r
+      → ListAnswers (recordsIn bytes t) short (Calls pairs′) (Names pairs′) r

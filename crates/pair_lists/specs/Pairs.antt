@@ -8,10 +8,12 @@ use Rattle.records.specs.declared.Record.{Record}
 use Rattle.records.specs.declared.Operation.{Operation}
 use Rattle.records.specs.declared.Var.{Var}
 use Rattle.records.specs.Records.{at}
-use Rattle.trace.specs.Reading as reading
-use Rattle.trace.specs.Reading.{Reply, recordsIn, readReply}
+use Rattle.trace.specs.Reply.{Reply, unless}
+use Rattle.trace.specs.Reading.{recordsRead}
+use Rattle.order.specs.Lent.{clocksAfter, workAfter}
 use Rattle.races.specs.declared.Listing.{Listing}
-use Rattle.races.specs.Lists.{entryNumbers, pairsOf, shapeOf, markOf, ListReply, refused, listed, listTrace, listReply, listAfter, clocksRead, workRead}
+use Rattle.races.specs.declared.Summary.{Summary}
+use Rattle.races.specs.Lists.{entryNumbers, pairsOf, shapeOf, markOf, listReady, listReply, listAfter}
 use Rattle.races.specs.Paper.{listPaper}
 use Rattle.pair_lists.specs.declared.Pair.{Pair}
 
@@ -30,29 +32,19 @@ abbrev pub space : ℕ → ℕ → ℕ
 space numbers pairs = min numbers (entryNumbers * pairs)
 
 -- "list entries past the count and all other bytes are unchanged"
-unfoldable pub pairsAfter : List Record → ListReply → List (ℕ × ℕ) → List Pair → List Pair
-pairsAfter tr (refused n p) ps pairs = pairs
-pairsAfter tr (listed e r c k) ps pairs = map (pairOf tr) ps ++ drop (length ps) pairs
-
-unfoldable pub pairsAfterRead : Bool → List ℕ → Reply → ℕ → ℕ → ℕ → ℕ → List Pair → List Pair
-pairsAfterRead short b (reading.refused n p) width clocks work list pairs = pairs
-pairsAfterRead short b (reading.accepted start n m) width clocks work list pairs =
-    pairsAfter (recordsIn b start n) (listTrace short (recordsIn b start n) m width clocks work list) (pairsOf (recordsIn b start n) short) pairs
-
--- the numbers, by the same reply: the entries as numbers
-unfoldable pub numbersAfterRead : Bool → List ℕ → Reply → ℕ → ℕ → ℕ → ℕ → List ℕ → List ℕ
-numbersAfterRead short b (reading.refused n p) width clocks work list numbers = numbers
-numbersAfterRead short b (reading.accepted start n m) width clocks work list numbers =
-    listAfter (recordsIn b start n) (listTrace short (recordsIn b start n) m width clocks work list) (pairsOf (recordsIn b start n) short) numbers
+unfoldable pub pairsAfter : List Record → Reply Summary → List (ℕ × ℕ) → List Pair → List Pair
+pairsAfter tr reply ps pairs = unless reply pairs (λ s. map (pairOf tr) ps ++ drop (length ps) pairs)
 
 -- a list, short or of all races: the answer, the lent clocks, work space and numbers, and the lent pairs
 pub record PairLists (short : Bool) (b : List ℕ) (width : ℕ) (clocks clocks′ work work′ numbers numbers′ : List ℕ) (pairs pairs′ : List Pair)
     (r : Listing) : Type 0 where
   pub answer : listPaper r ≡ listReply short b width (length clocks) (length work) (space (length numbers) (length pairs))
-  pub clocks-after : clocks′ ≡ clocksRead b (readReply b) width (length work) clocks
-  pub work-after : work′ ≡ workRead b (readReply b) width (length clocks) work
-  pub numbers-after : numbers′ ≡ numbersAfterRead short b (readReply b) width (length clocks) (length work) (space (length numbers) (length pairs)) numbers
-  pub pairs-after : pairs′ ≡ pairsAfterRead short b (readReply b) width (length clocks) (length work) (space (length numbers) (length pairs)) pairs
+  pub clocks-after : clocks′ ≡ clocksAfter b (listReady b width (length clocks) (length work)) width clocks
+  pub work-after : work′ ≡ workAfter (listReady b width (length clocks) (length work)) work
+  pub numbers-after : numbers′ ≡ listAfter (recordsRead b) (listReply short b width (length clocks) (length work) (space (length numbers) (length pairs)))
+      (pairsOf (recordsRead b) short) numbers
+  pub pairs-after : pairs′ ≡ pairsAfter (recordsRead b) (listReply short b width (length clocks) (length work) (space (length numbers) (length pairs)))
+      (pairsOf (recordsRead b) short) pairs
 
 -- a pair of zeros
 abbrev pub noPair : Pair

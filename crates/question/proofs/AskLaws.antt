@@ -17,7 +17,9 @@ use Rattle.order.specs.HappensBefore.{rank, traceLinks}
 use Rattle.order.specs.Fill.{eventsIn, shortRow}
 use Rattle.order.specs.Compared.{compared}
 use Rattle.question.specs.ChainPass.{PassesChains}
-use Rattle.question.specs.Question.{refused, answered, demand, bothBegin, orderTrace}
+use Rattle.trace.specs.Reply.{refused, gives, demand}
+use Rattle.order.specs.Lent.{spaces, enoughChains}
+use Rattle.question.specs.Question.{bothBegin, orderTrace}
 use Rattle.order.proofs.TableLaws.{rank-row, chain-at}
 
 module _ {tr : List Record} (a : Acceptable tr) where
@@ -27,12 +29,12 @@ module _ {tr : List Record} (a : Acceptable tr) where
     begin-both = rw (ne-eqb (rank tr t) 0 (λ z. nx (ex ∙ z)), ne-eqb (rank tr u) 0 (λ z. ny (ey ∙ z)))
 
     pub ask-space : spaceFor width events (length clocks) ≡ false → orderTrace tr events width clocks t u ≡ refused 21 0
-    unfolding orderTrace demand
+    unfolding orderTrace spaces enoughChains demand
     ask-space s = rw (begin-both, s)
 
     module _ (s : spaceFor width events (length clocks) ≡ true) (position chain : ℕ) (p : PassesChains tr (x - 1) width position chain) where
       pub ask-short : position < length tr → orderTrace tr events width clocks t u ≡ refused 23 (position + 1)
-      unfolding orderTrace demand
+      unfolding orderTrace spaces enoughChains demand
       ask-short h =
           let n : shortRow tr width ≢ eventsIn tr = λ e. omega (arith, p .whole e .1) in
           rw (begin-both, s, ne-eqb (shortRow tr width) events (λ e. n (e ∙ ee)), ← p .short n .place)
@@ -41,8 +43,8 @@ module _ {tr : List Record} (a : Acceptable tr) where
       whole h (yes e) = e
       whole h (no n) = absurd (omega (arith, p .short n .inside))
 
-      pub ask-done : length tr ≤ position → orderTrace tr events width clocks t u ≡ answered (compareIn clocks width chain (x - 1) (y - 1))
-      unfolding orderTrace demand compared
+      pub ask-done : length tr ≤ position → orderTrace tr events width clocks t u ≡ gives (compareIn clocks width chain (x - 1) (y - 1))
+      unfolding orderTrace spaces enoughChains demand compared
       ask-done h =
           let e = whole h (ℕ-discrete (shortRow tr width) (eventsIn tr)) in
           let c : chain ≡ chainOf (traceLinks tr) (rank tr t - 1) = p .whole e .0 ∙ rw ex (chain-at a (rank tr t - 1) (rank-row a t (λ z. nx (ex ∙ z)))) in

@@ -9,14 +9,15 @@ use native.Mathlib.Omega.{arith}
 use borrow.Author.Tests.{eq-eqb, ne-eqb}
 use lib.ListN.{length, drop, length-append, length-drop}
 use Rattle.records.specs.declared.Record.{Record}
-use Rattle.trace.specs.Reading as reading
-use Rattle.trace.specs.Reading.{recordsIn, readReply}
+use Rattle.records.specs.declared.Trace.{Trace}
+use Rattle.trace.specs.Reply.{gives, demand, then}
+use Rattle.trace.specs.Reading.{recordsIn, Accepts}
 use Rattle.order.specs.Clocks.{clocksOf}
 use Rattle.order.specs.HappensBefore.{Begins, rank, traceLinks, happensBefore}
-use Rattle.order.specs.Fill.{eventsIn, traceClocks, filled, fillReply, clocksAfter}
+use Rattle.order.specs.Fill.{eventsIn, traceClocks}
+use Rattle.order.specs.Lent.{spaces, enoughChains, clocksAfter, fillReady, fillReply}
 use Rattle.order.specs.Compared.{compared}
-use Rattle.question.specs.Question as question
-use Rattle.question.specs.Question.{orderTrace, orderRead, orderReply, bothBegin, answered, YesExactly}
+use Rattle.question.specs.Question.{orderTrace, orderReply, bothBegin, YesExactly}
 use Rattle.order.proofs.RowLaws.{clocks-length}
 use Rattle.order.proofs.TraceOrder.{begins-rank, decides}
 use Rattle.order.proofs.SpaceLaws.{has-room}
@@ -28,26 +29,30 @@ unfolding bothBegin
 begins-both tr t u nt nu = rw (ne-eqb (rank tr t) 0 nt, ne-eqb (rank tr u) 0 nu)
 
 -- an accepted trace, and clocks that filling left
-module _ (b : List ℕ) (s n m w : ℕ) (cs : List ℕ) (k : ℕ) (e : reading.accepted s n m ≡ readReply b) (f : fillReply b w (length cs) ≡ filled k) where
+module _ (b : List ℕ) (read : Trace) (w : ℕ) (cs : List ℕ) (k : ℕ) (e : Accepts b read) (f : gives k ≡ fillReply b w (length cs)) where
   abbrev pub tr : List Record
-  tr = recordsIn b s n
+  tr = recordsIn b read
 
-  left : FilledTrace b s n m w cs
-  left = filled-trace b s n m w cs k e f
+  -- the clocks that filling left
+  abbrev pub clocks : List ℕ
+  clocks = clocksAfter b (fillReady b w (length cs)) w cs
 
-  clocks-size : length (clocksAfter b w cs) ≡ length cs
+  left : FilledTrace b read w cs
+  left = filled-trace b read w cs k e f
+
+  clocks-size : length (clocks) ≡ length cs
   unfolding traceClocks
   clocks-size =
-      let g = has-room w m (length cs) (left .had-space) .fits in
-      let h = length-append (clocksOf (traceLinks tr) w (eventsIn tr)) (drop (m * w) cs) in
-      omega (arith, ap length (left .clocks-are), h, clocks-length (traceLinks tr) w (eventsIn tr), length-drop (m * w) cs, ap (λ x. x * w) (left .events-are))
+      let g = has-room w (read .events) (length cs) (left .had-space) .fits in
+      let h = length-append (clocksOf (traceLinks tr) w (eventsIn tr)) (drop (read .events * w) cs) in
+      omega (arith, ap length (left .clocks-are), h, clocks-length (traceLinks tr) w (eventsIn tr), length-drop (read .events * w) cs, ap (λ x. x * w) (left .events-are))
 
   -- "over clocks that filling left, it says yes exactly when t ≼ u"
-  pub yes-exactly : (t u : ℕ) → Begins tr t → Begins tr u → YesExactly tr b w (clocksAfter b w cs) t u
-  unfolding orderReply orderRead orderTrace question.demand
+  pub yes-exactly : (t u : ℕ) → Begins tr t → Begins tr u → YesExactly tr b w (clocks) t u
+  unfolding orderReply then orderTrace spaces enoughChains demand
   yes-exactly t u bt bu = record {
     says = happensBefore tr t u;
-    reply = rw (← e, both, clocks-size, left .had-space, eq-eqb _ _ (left .had-chains)) (ap answered said);
+    reply = rw (← e, both, clocks-size, left .had-space, eq-eqb _ _ (left .had-chains)) (ap gives said);
     exactly = decides (left .acceptable) t u;
   }
     where
@@ -60,7 +65,7 @@ module _ (b : List ℕ) (s n m w : ℕ) (cs : List ℕ) (k : ℕ) (e : reading.a
       both : bothBegin tr t u ≡ true
       both = begins-both tr t u nt nu
 
-      said : compared tr w (clocksAfter b w cs) t u ≡ happensBefore tr t u
+      said : compared tr w (clocks) t u ≡ happensBefore tr t u
       said =
           ap (λ c. compared tr w c t u) (left .clocks-are)
-          ∙ compared-before (left .acceptable) w (left .had-chains ∙ left .events-are) (drop (m * w) cs) t u nt nu
+          ∙ compared-before (left .acceptable) w (left .had-chains ∙ left .events-are) (drop (read .events * w) cs) t u nt nu

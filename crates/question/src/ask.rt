@@ -11,10 +11,11 @@ ghost use mathlib.Core.Path.{_≡_};
 ghost use Rattle.records.specs.Bytes.{decode};
 ghost use Rattle.trace.specs.Reading.{Acceptable};
 ghost use Rattle.order.specs.Fill.{eventsIn};
-ghost use Rattle.question.specs.Question.{orderPaper, orderTrace, OrderReply, answered};
+ghost use Rattle.trace.specs.Reply.{Reply, gives};
+ghost use Rattle.question.specs.Question.{orderPaper, orderTrace};
 
 fn answer(yes: bool) -> Answer
-    ensures { λ r. ⌜ orderPaper r ≡ answered yes ⌝ }
+    ensures { λ r. ⌜ orderPaper r ≡ gives yes ⌝ }
 {
     if yes {
         return Answer::Yes;
@@ -23,7 +24,7 @@ fn answer(yes: bool) -> Answer
 }
 
 fn refused(number: u16, place: Operation) -> Answer
-    ensures { λ r. ⌜ orderPaper r ≡ OrderReply.refused number (place .0) ⌝ }
+    ensures { λ r. ⌜ orderPaper r ≡ Reply.refused number (place .0) ⌝ }
 {
     Answer::Refused(Refusal {
         number: number,

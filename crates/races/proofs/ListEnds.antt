@@ -8,24 +8,27 @@ use mathlib.Core.List.{List, [], _∷_, _++_}
 use native.Mathlib.Omega.{arith}
 use native.Mathlib.Nat.{mul-le-mul}
 use borrow.Author.Tests.{le-leb, lt-leb}
-use lib.Dec.{leb, eqb}
-use lib.ListN.{length, drop, replicate}
+use lib.ListN.{length, drop}
 use lib.Seq.{sets, sets-eq, drop-at}
 use Rattle.records.specs.declared.Record.{Record}
 use Rattle.records.specs.declared.Trace.{Trace}
 use Rattle.records.specs.Bytes.{decode, part}
-use Rattle.trace.specs.Reading as reading
-use Rattle.trace.specs.Reading.{Reply, recordsIn, readReply}
-use Rattle.clocks.specs.Rows.{spaceFor}
-use Rattle.order.specs.Fill as fill
-use Rattle.order.specs.Fill.{eventsIn, shortRow, beginPosition, chainsUsed}
-use Rattle.order.specs.Prepare.{prepareTrace}
+use Rattle.slices.specs.Slices.{cleared}
+use Rattle.trace.specs.Reply.{Reply, refused, gives, demand, unless}
+use Rattle.trace.specs.Reading.{recordsIn, readReply, recordsRead, Accepts}
+use Rattle.trace.proofs.Accepted.{records-read}
+use Rattle.order.specs.Fill.{eventsIn, chainsUsed}
+use Rattle.order.specs.Prepare.{readWithin}
 use Rattle.order.specs.Paper.{fillPaper, Prepares}
 use Rattle.order.specs.declared.Filling.{Filling}
 use Rattle.order.proofs.EntryLaws.{records-are}
-use Rattle.order.proofs.PrepareLaws.{none-asked, refused-reply, refused-trace, refused-clocks, accepted-reply, accepted-trace}
+use Rattle.order.proofs.LentLaws.{stays}
+use Rattle.order.proofs.LentLaws.{filled as made}
+use Rattle.order.proofs.FilledTrace.{events-of}
+use Rattle.order.proofs.PrepareLaws.{none-asked, prepared}
 use Rattle.races.specs.declared.Listing.{Listing}
-use Rattle.races.specs.Lists.{pairsOf, numbers, ListReply, refused, listed, demand, listFilled, listTrace, listRead, listReply, listAfter, clocksRead, workRead, listAfterRead}
+use Rattle.races.specs.declared.Summary.{Summary}
+use Rattle.races.specs.Lists.{pairsOf, numbers, listFilled, listReady, listReply, listAfter}
 use Rattle.races.specs.Paper.{listPaper, Lists, ListsFilled}
 use Rattle.races.specs.ListPass.{pairsBelow, raws, WritesAll, Ample, Counts, ListsAll}
 use Rattle.races.specs.Raising.{Unmarked, MarksList}
@@ -35,7 +38,7 @@ use Rattle.races.specs.Traces.{cellsOf, settingOf}
 use Rattle.coverage.proofs.Total.{short-total}
 use Rattle.races.proofs.ListLaws.{pairs-below, below-few}
 use Rattle.races.proofs.DemandLaws.{numbers-length}
-use Rattle.races.proofs.PreparedLaws.{after-clocks, after-work, passed, filled-whole, events-are}
+use Rattle.races.proofs.PreparedLaws.{marks-cleared, after-work, fitting, filled-whole}
 
 -- a trace whose clocks are filled
 module _ (tr : List Record) (short : Bool) (events : ℕ) (list : List ℕ) (count : ℕ) (c : count ≡ length (pairsBelow tr short (length tr))) where
@@ -48,16 +51,16 @@ module _ (tr : List Record) (short : Bool) (events : ℕ) (list : List ℕ) (cou
     too-long = rw (← counted, lt-leb count (length list / 5) h)
 
     pub too-long-list : list ≡ listAfter tr (listFilled short tr events (length list)) (pairsOf tr short) list
-    unfolding listAfter
+    unfolding listAfter unless
     too-long-list = rw too-long refl
 
   module _ (h : count ≤ length list / 5) where
-    pub fits : listFilled short tr events (length list) ≡ listed events (length tr) (chainsUsed tr) count
+    pub fits : listFilled short tr events (length list) ≡ gives (record { events = events; records = length tr; chains = chainsUsed tr; count = count })
     unfolding listFilled demand
     fits = rw (← counted, le-leb count (length list / 5) h)
 
     pub fits-list : sets list 0 (numbers tr (pairsBelow tr short (length tr))) ≡ listAfter tr (listFilled short tr events (length list)) (pairsOf tr short) list
-    unfolding listAfter
+    unfolding listAfter unless
     fits-list =
         let ps = pairsOf tr short in
         let l = numbers-length tr ps in
@@ -147,7 +150,7 @@ module _ (tr : List Record) (short : Bool) (events : ℕ) (list list₁ : List �
     pub all-room : 5 * length (pairsBelow tr short (length tr)) ≤ length list₁
     all-room = omega (arith, fit, total-is, ap length k)
 
-    pub all-listed : {clocks clocks₂ list₂ : List ℕ} {found : ℕ} → ListsAll tr short list₁ list₂ found → clocks₂ ≡ clocks → (n chains : ℕ) → n ≡ length tr → chains ≡ chainsUsed tr → (r : Listing) → listPaper r ≡ listed events n chains found → ListsFilled short tr events clocks clocks₂ list list₂ r
+    pub all-listed : {clocks clocks₂ list₂ : List ℕ} {found : ℕ} → ListsAll tr short list₁ list₂ found → clocks₂ ≡ clocks → (n chains : ℕ) → n ≡ length tr → chains ≡ chainsUsed tr → (r : Listing) → listPaper r ≡ gives (record { events = events; records = n; chains = chains; count = found }) → ListsFilled short tr events clocks clocks₂ list list₂ r
     all-listed v e n chains m c r p = record {
       answer = p ∙ sym (fits tr short events list total total-is fit ∙ rw (← c, ← m, total-is, ← v .count) refl);
       clocks-after = e;
@@ -155,7 +158,7 @@ module _ (tr : List Record) (short : Bool) (events : ℕ) (list list₁ : List �
     }
 
     -- none at all
-    pub none-listed : counted ≡ 0 → (clocks : List ℕ) (n chains : ℕ) → n ≡ length tr → chains ≡ chainsUsed tr → (r : Listing) → listPaper r ≡ listed events n chains 0 → ListsFilled short tr events clocks clocks list list₁ r
+    pub none-listed : counted ≡ 0 → (clocks : List ℕ) (n chains : ℕ) → n ≡ length tr → chains ≡ chainsUsed tr → (r : Listing) → listPaper r ≡ gives (record { events = events; records = n; chains = chains; count = 0 }) → ListsFilled short tr events clocks clocks list list₁ r
     unfolding numbers
     none-listed z clocks n chains m c r p = all-listed (record { count = sym (w .none z); list-is = go (pairsBelow tr short (length tr)) (w .none z) }) refl n chains m c r p
       where
@@ -163,83 +166,51 @@ module _ (tr : List Record) (short : Bool) (events : ℕ) (list list₁ : List �
         go [] e = refl
         go (q ∷ ps) e = absurd (omega arith)
 
--- a refusal of filling is one of the list
-refusal : (x y z : Bool) (place chains k i : ℕ) (next : ListReply) → fill.refused k i ≡ fill.demand x 21 0 (fill.demand y 22 0 (fill.demand z 23 place (fill.filled chains))) → demand x 21 0 (demand y 22 0 (demand z 23 place next)) ≡ refused k i
-unfolding fill.demand demand
-refusal true true true place chains k i next e = absurd (let o : _≡_ {A = ℕ} 0 1 = cc in omega arith)
-refusal true true false place chains k i next e = cc
-refusal true false z place chains k i next e = cc
-refusal false y z place chains k i next e = cc
+-- no record is asked about
+pub for-list : (room : ℕ) {b : List ℕ} {w : ℕ} {cs cs′ of all all′ : List ℕ} {f : Filling} {t : Trace} → Prepares b (readWithin b 1 0 w (length cs) room) w cs cs′ of all all′ f t
+    → Prepares b (listReady b w (length cs) room) w cs cs′ of all all′ f t
+unfolding listReady
+for-list room {b} {w} {cs} {cs′} {of} {all} {all′} {f} {t} p = subst (λ (x : Reply Trace). Prepares b x w cs cs′ of all all′ f t) (none-asked b w (length cs) room) p
 
 -- the trace was prepared, and then the marks of its event actions were taken away
-module _ (b : List ℕ) (short : Bool) (w : ℕ) (cs cs′ work work′ of list : List ℕ) (f : Filling) (t : Trace) {all all′ : List ℕ} (p : Prepares b 1 0 w (length work) cs cs′ of all all′ f t) (cleared : work′ ≡ replicate (t .events) 0 ++ drop (t .events) work) where
-  -- 1 to 10
-  unread : (n i : ℕ) → reading.refused n i ≡ readReply b → (r : Listing) → listPaper r ≡ refused n i → Lists short b w cs cs′ work work′ list list r
-  unfolding listReply listRead clocksRead workRead listAfterRead
-  unread n i e r q = record {
-    answer = rw (← e) q;
-    clocks-after = rw (← e) (refused-clocks p n i e);
-    work-after = rw (← e) (subst (λ (x : Trace). work′ ≡ replicate (x .events) 0 ++ drop (x .events) work) (refused-trace p n i e) cleared);
-    list-after = rw (← e) refl;
+module _ (b : List ℕ) (short : Bool) (w : ℕ) (cs cs′ work work′ of list : List ℕ) (f : Filling) (t : Trace) {all all′ : List ℕ}
+    (p : Prepares b (listReady b w (length cs) (length work)) w cs cs′ of all all′ f t) (clears : work′ ≡ cleared (t .events) work) where
+  -- the promise, by the reply
+  lists-by : (cs″ list′ : List ℕ) (r : Listing) (x : Reply Summary) → listReply short b w (length cs) (length work) (length list) ≡ x → listPaper r ≡ x → cs″ ≡ cs′
+      → list′ ≡ listAfter (recordsRead b) x (pairsOf (recordsRead b) short) list → Lists short b w cs cs″ work work′ list list′ r
+  lists-by cs″ list′ r x q a k l = record {
+    answer = a ∙ sym q;
+    clocks-after = k ∙ p .clocks-after;
+    work-after = unfold listReady in after-work work (readReply b) p (marks-cleared work (readReply b) p clears);
+    list-after = rw q l;
   }
 
-  -- an accepted trace
-  module _ (s n m : ℕ) (e : reading.accepted s n m ≡ readReply b) where
-    abbrev tr : List Record
-    tr = recordsIn b s n
-
-    -- the promise, by the records
-    lists-by : (cs″ list′ : List ℕ) (r : Listing) (x : ListReply) → listTrace short tr m w (length cs) (length work) (length list) ≡ x → listPaper r ≡ x → cs″ ≡ cs′ → list′ ≡ listAfter tr x (pairsOf tr short) list → Lists short b w cs cs″ work work′ list list′ r
-    unfolding listReply listRead clocksRead workRead listAfterRead
-    lists-by cs″ list′ r x q a k l = record {
-      answer = rw (← e, q) a;
-      clocks-after = rw (← e) (k ∙ after-clocks work p s n m e (none-asked n));
-      work-after = rw (← e) (after-work work p s n m e (none-asked n) work′ cleared);
-      list-after = rw (← e, q) l;
-    }
-
-    -- 21, 22 and 23
-    unlisted : (k i : ℕ) → fillPaper f ≡ fill.refused k i → (r : Listing) → listPaper r ≡ refused k i → Lists short b w cs cs′ work work′ list list r
-    unfolding prepareTrace listTrace listAfter
-    unlisted k i z r q =
-        let x = refusal (spaceFor w m (length cs)) (leb m (length work)) (eqb (shortRow tr w) m) (beginPosition tr (shortRow tr w) + 1) (chainsUsed tr) k i (listFilled short tr m (length list)) (sym z ∙ accepted-reply p s n m e (none-asked n)) in
-        lists-by cs′ list r (refused k i) x q refl refl
-
-    -- the clocks are filled
-    list-done : (chains : ℕ) → fillPaper f ≡ fill.filled chains → (cs″ list′ : List ℕ) (r : Listing) → ListsFilled short tr m cs′ cs″ list list′ r → Lists short b w cs cs″ work work′ list list′ r
-    unfolding listTrace demand
-    list-done chains z cs″ list′ r l =
-        let q = passed work p s n m e (none-asked n) chains z in
-        lists-by cs″ list′ r (listFilled short tr m (length list)) (rw (q .space, q .room, q .enough) refl) (l .answer) (l .clocks-after) (l .list-after)
-
-  pub not-listed : (k i : ℕ) → fillPaper f ≡ fill.refused k i → (r : Listing) → listPaper r ≡ refused k i → Lists short b w cs cs′ work work′ list list r
-  not-listed k i z r q = go (readReply b) refl
-    where
-      go : (x : Reply) → x ≡ readReply b → Lists short b w cs cs′ work work′ list list r
-      go (reading.refused n j) e = let o : fill.refused k i ≡ fill.refused n j = sym z ∙ refused-reply p n j e in unread n j e r (q ∙ cc)
-      go (reading.accepted s n m) e = unlisted s n m e k i z r q
+  pub not-listed : (k i : ℕ) → fillPaper f ≡ refused k i → (r : Listing) → listPaper r ≡ refused k i → Lists short b w cs cs′ work work′ list list r
+  unfolding listReply listAfter unless
+  not-listed k i z r q = lists-by cs′ list r (refused k i) (stays b _ w _ _ k i (sym (p .answer) ∙ z)) q refl refl
 
   -- what writing the list asks for, and what it gives
-  module _ (chains : ℕ) (z : fillPaper f ≡ fill.filled chains) (recs : List ℕ) (y : recs ≡ part b (t .start) (t .records)) where
+  module _ (chains : ℕ) (z : fillPaper f ≡ gives chains) (recs : List ℕ) (y : recs ≡ part b (t .start) (t .records)) where
     pub record Listable : Type 0 where
       pub filled : Filled (decode recs) all′ of w cs′
       pub events-are : t .events ≡ eventsIn (decode recs)
       pub chains-used : chains ≡ chainsUsed (decode recs)
       pub done : (cs″ list′ : List ℕ) (r : Listing) → ListsFilled short (decode recs) (t .events) cs′ cs″ list list′ r → Lists short b w cs cs″ work work′ list list′ r
 
+    read : Accepts b t
+    unfolding listReady
+    read = fitting work (readReply b) p chains z .found-is
+
     pub listable : Listable
-    listable = go (readReply b) refl
-      where
-        go : (x : Reply) → x ≡ readReply b → Listable
-        go (reading.refused n i) e = let o : fill.filled chains ≡ fill.refused n i = sym z ∙ refused-reply p n i e in let v : _≡_ {A = ℕ} 0 1 = cc in absurd (omega arith)
-        go (reading.accepted s n m) e =
-            let g = passed work p s n m e (none-asked n) chains z in
-            let q : t ≡ record { start = s; records = n; events = m } = accepted-trace p s n m e (none-asked n) ∙ rw (g .space, g .room) refl in
-            let d : decode recs ≡ recordsIn b s n = records-are b s n m e recs (subst (λ (x : Trace). recs ≡ part b (x .start) (x .records)) q y) in
-            let v : t .events ≡ m = ap (λ (x : Trace). x .events) q in
-            record {
-              filled = rw d (filled-whole work p s n m e (none-asked n) chains z);
-              events-are = rw (d, v) (events-are work p s n m e (none-asked n) chains z);
-              chains-used = rw d (g .chains-are);
-              done = λ cs″ list′ r u. list-done s n m e chains z cs″ list′ r (rw (d, v) at u);
-            }
+    unfolding listReply listReady
+    listable =
+        let g = prepared p chains z in
+        let d = records-are b t read recs y in
+        record {
+          filled = rw d (filled-whole work (readReply b) p chains z read);
+          events-are = rw d (events-of b t read);
+          chains-used = rw d (g .chains-are);
+          done = λ cs″ list′ r u.
+              let v = subst (λ (x : List Record). ListsFilled short x (t .events) cs′ cs″ list list′ r) d u in
+              lists-by cs″ list′ r (listFilled short (recordsIn b t) (t .events) (length list)) (made b _ w _ t (g .ready-is) (g .enough)) (v .answer) (v .clocks-after) (rw (records-read b t read) (v .list-after));
+        }

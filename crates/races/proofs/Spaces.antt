@@ -1,5 +1,5 @@
 -- The trace program's spaces suffice: width 32 with 32 × 1,024 clocks, 1,024 bytes of work space and 8,192 entries of five numbers. Assumes nothing.
-use Prim.Native.Nat.{ℕ, _*_, _≤_}
+use Prim.Native.Nat.{_*_, _≤_}
 use mathlib.Core.Path.{_≡_}
 use mathlib.Core.Bool.{true}
 use mathlib.Core.List.{List}
@@ -10,11 +10,11 @@ use Rattle.records.specs.declared.Record.{Record}
 use Rattle.trace.specs.Reading.{Acceptable}
 use Rattle.trace.proofs.Events.{few-events}
 use Rattle.clocks.specs.Rows.{spaceFor}
-use Rattle.coverage.specs.Lists.{shortList}
+use Rattle.order.specs.Lent.{workFor}
 use Rattle.coverage.proofs.Total.{short-total}
 use Rattle.races.specs.Traces.{cellsOf, settingOf}
 use Rattle.races.specs.Filled.{rows}
-use Rattle.races.specs.Lists.{pairsOf, workFor, listFor}
+use Rattle.races.specs.Lists.{pairsOf, listFor}
 
 module _ {tr : List Record} (a : Acceptable tr) where
   -- at most two entries for a record
@@ -27,7 +27,7 @@ module _ {tr : List Record} (a : Acceptable tr) where
   unfolding spaceFor
   never-21 = le-leb (rows tr * 32) 32768 (omega (arith, few-events a))
 
-  pub never-22 : workFor (rows tr) 1024 ≡ true
+  pub never-22 : workFor 1024 (rows tr) ≡ true
   never-22 = le-leb (rows tr) 1024 (few-events a)
 
   pub never-24 : listFor (length (pairsOf tr true)) 40960 ≡ true

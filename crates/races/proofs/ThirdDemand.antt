@@ -1,39 +1,41 @@
 -- The third demand holds of both lists.
 -- Assumes nothing.
-use Prim.Native.Nat.{ℕ, _+_, _*_, _-_, _/_, _≤_, _<_}
-use mathlib.Core.Path.{_≡_, refl, sym, _∙_, subst}
-use mathlib.Core.Bool.{Bool, true, false, _&&_}
-use mathlib.Core.List.{List, [], _∷_, _++_}
-use mathlib.Core.Logic.{_⊎_, inl, inr, _↔_}
+use Prim.Native.Nat.{ℕ, _*_, _/_}
+use mathlib.Core.Path.{_≡_, refl, sym, ap, _∙_, subst}
+use mathlib.Core.Bool.{Bool, true, false}
+use mathlib.Core.List.{List, _++_}
+use mathlib.Core.Logic.{_↔_}
 use native.Mathlib.Omega.{arith}
 use borrow.Author.Tests.{le-leb, leb-true, eq-eqb, eqb-true}
 use lib.Dec.{eqb, leb}
 use lib.ListN.{length, drop}
 use Rattle.records.specs.declared.Record.{Record}
 use Rattle.records.specs.Records.{at}
-use Rattle.trace.specs.Reading as reading
-use Rattle.trace.specs.Reading.{Acceptable, recordsIn, readReply}
-use Rattle.trace.proofs.Accepted.{accepts}
+use Rattle.records.specs.declared.Trace.{Trace}
+use Rattle.trace.specs.Reply.{Reply, refused, gives, demand, unless}
+use Rattle.trace.specs.Reading.{Acceptable, recordsIn, readReply, Accepts}
+use Rattle.trace.proofs.Accepted.{accepts, records-read}
+use Rattle.trace.proofs.ReplyLaws.{not-both, same-given, passed}
 use Rattle.clocks.specs.Rows.{spaceFor}
 use Rattle.order.specs.Links.{leq}
 use Rattle.order.specs.HappensBefore.{traceLinks}
 use Rattle.order.specs.Fill.{eventsIn, shortRow, chainsUsed}
 use Rattle.order.proofs.ChainLaws.{needs-none}
 use Rattle.order.proofs.SpaceLaws.{has-room}
+use Rattle.order.specs.Lent.{workFor}
+use Rattle.order.proofs.LentLaws.{fits, fitted, filling, filled}
 use Rattle.order.proofs.FilledTrace.{events-of}
 use Rattle.coverage.specs.Below as below
-use Rattle.coverage.specs.Race.{Race, raceb}
+use Rattle.coverage.specs.Race.{Race}
 use Rattle.coverage.specs.Cover.{Open}
-use Rattle.coverage.specs.Arrangement.{Accesses, Accessible}
-use Rattle.coverage.specs.Leading.{coveredb, entries, written}
+use Rattle.coverage.specs.Leading.{coveredb, entries}
 use Rattle.coverage.specs.Demand.{OpenExactly}
-use Rattle.slices.proofs.Tests as tests
-use Rattle.coverage.proofs.Theorems.{in-all, open-exactly, open-cells, race-iff}
+use Rattle.coverage.proofs.Theorems.{in-all, open-exactly, open-cells}
 use Rattle.races.specs.declared.Listing.{Listing}
 use Rattle.races.specs.declared.Listing.the-variants.{Listed, Refused}
 use Rattle.races.specs.declared.Summary.{Summary}
 use Rattle.races.specs.Traces.{cellsOf, settingOf}
-use Rattle.races.specs.Lists.{pairsOf, markOf, numbers, ListReply, refused, listed, demand, listFilled, listTrace, listRead, listReply, listAfter, listAfterRead}
+use Rattle.races.specs.Lists.{pairsOf, markOf, numbers, listFilled, listReady, listReply, listAfter}
 use Rattle.races.specs.Paper.{listPaper, Lists}
 use Rattle.races.specs.Demand.{Calls, Names, Suffices, ListSuffices, OpenBy, ListDemand, ListAnswers, ListsSuffice, ListsDemand}
 use Rattle.races.proofs.Instance.{laws}
@@ -55,12 +57,15 @@ module _ {tr : List Record} {width clocks work needed entries : ℕ} (s : Suffic
   pub passes-24 : leb needed entries ≡ true
   passes-24 = le-leb needed entries (s .list-space)
 
-module _ (tr : List Record) (width clocks work list : ℕ) where
-  -- so a list is made
-  pub made : (short : Bool) → ListSuffices tr short width clocks work list
-      → listTrace short tr (eventsIn tr) width clocks work list ≡ listed (eventsIn tr) (length tr) (chainsUsed tr) (length (pairsOf tr short))
-  unfolding listTrace listFilled demand
-  made short s = rw (passes-21 s, passes-22 s, passes-23 s, passes-24 s) refl
+-- so a list is made
+pub made : (bytes : List ℕ) (t : Trace) → Accepts bytes t → (width clocks work list : ℕ) (short : Bool) → ListSuffices (recordsIn bytes t) short width clocks work list
+    → listReply short bytes width clocks work list
+    ≡ gives (record { events = t .events; records = length (recordsIn bytes t); chains = chainsUsed (recordsIn bytes t); count = length (pairsOf (recordsIn bytes t) short) })
+unfolding listReply listReady listFilled demand
+made bytes t e width clocks work list short s =
+    let m = sym (events-of bytes t e) in
+    let ready = fitted (readReply bytes) width clocks (workFor work) t (record { found-is = e; has-space = rw m at (passes-21 s); has-work = rw m at (passes-22 s) }) in
+    filled bytes _ width _ t ready (rw m at (passes-23 s)) ∙ rw (passes-24 s) refl
 
 -- a call that no test refuses passes them all
 pub suffices : (tr : List Record) (width clocks work entries needed : ℕ) → spaceFor width (eventsIn tr) clocks ≡ true → leb (eventsIn tr) work ≡ true
@@ -77,26 +82,24 @@ suffices tr width clocks work entries needed p q r s =
       list-space = leb-true needed entries s;
     }
 
-passed : (t : Bool) (n p : ℕ) (y : ListReply) → ((k q : ℕ) → demand t n p y ≡ refused k q → ⊥) → (t ≡ true) × ((k q : ℕ) → y ≡ refused k q → ⊥)
-unfolding demand
-passed true n p y f = (refl, f)
-passed false n p y f = absurd (f n p refl)
-
-module _ (tr : List Record) (width clocks work list : ℕ) where
-  list-exactly : (short : Bool) → ListSuffices tr short width clocks work list ↔ ((n p : ℕ) → listTrace short tr (eventsIn tr) width clocks work list ≡ refused n p → ⊥)
-  unfolding listTrace listFilled
-  list-exactly short = (λ s n p e. let q = sym (made tr width clocks work list short s) ∙ e in let z : _≡_ {A = ℕ} 0 1 = cc in omega arith, back)
+module _ (bytes : List ℕ) (t : Trace) (e : Accepts bytes t) (width clocks work list : ℕ) where
+  list-exactly : (short : Bool) → ListSuffices (recordsIn bytes t) short width clocks work list ↔ ((n p : ℕ) → listReply short bytes width clocks work list ≡ refused n p → ⊥)
+  unfolding listReply listReady listFilled
+  list-exactly short = (λ s n p q. not-both _ n p (sym (made bytes t e width clocks work list short s) ∙ q), λ f. back f _ refl)
     where
-      back : ((n p : ℕ) → listTrace short tr (eventsIn tr) width clocks work list ≡ refused n p → ⊥) → ListSuffices tr short width clocks work list
-      back f =
-          let p1 = passed _ _ _ _ f in
-          let p2 = passed _ _ _ _ (p1 .1) in
-          let p3 = passed _ _ _ _ (p2 .1) in
-          let p4 = passed _ _ _ _ (p3 .1) in
-          suffices tr width clocks work (list / 5) (length (pairsOf tr short)) (p1 .0) (p2 .0) (p3 .0) (p4 .0)
+      back : ((n p : ℕ) → listReply short bytes width clocks work list ≡ refused n p → ⊥) → (x : Reply Summary) → x ≡ listReply short bytes width clocks work list
+          → ListSuffices (recordsIn bytes t) short width clocks work list
+      back f (refused n p) q = absurd (f n p (sym q))
+      back f (gives x) q =
+          let g = filling bytes _ width _ x q in
+          let h = fits (readReply bytes) width clocks (workFor work) (g .trace) (g .ready-is) in
+          let z : g .trace ≡ t = same-given (h .found-is ∙ sym e) in
+          let m : t .events ≡ eventsIn (recordsIn bytes t) = events-of bytes t e in
+          suffices (recordsIn bytes t) width clocks work (list / 5) (length (pairsOf (recordsIn bytes t) short))
+          (rw (← m) (rw z at (h .has-space))) (rw (← m) (rw z at (h .has-work))) (rw (← m) (rw z at (g .enough))) (rw z at (passed _ _ _ _ x (g .answers) .0))
 
 pub lists-suffice : ListsSuffice
-lists-suffice = record { lists = λ tr short width clocks work list. list-exactly tr width clocks work list short }
+lists-suffice = record { lists = λ bytes t e short width clocks work list. list-exactly bytes t e width clocks work list short }
 
 module _ {tr : List Record} (a : Acceptable tr) where
   pub exactly : (x b : ℕ) → Race (settingOf tr) x b → OpenExactly (settingOf tr) x b
@@ -169,33 +172,30 @@ alike f g d = record {
   cells = λ e c. (λ y. d .cells e c .0 (g c .1 y), λ y. g c .0 (d .cells e c .1 y));
 }
 
--- an answer that gives document 01's numbers of a list is that of a list made
-pub made-answer : (r : Listing) (e n c k : ℕ) → listPaper r ≡ listed e n c k → (s : Summary) × (r ≡ Listed s) × (s .count ≡ k)
-made-answer (Listed s) e n c k q = (s, refl, cc)
-made-answer (Refused f) e n c k q = let z : _≡_ {A = ℕ} 0 1 = cc in absurd (omega arith)
+-- an answer that gives a list's numbers is that of a list made
+pub made-answer : (r : Listing) (s : Summary) → listPaper r ≡ gives s → r ≡ Listed s
+made-answer (Listed x) s q = ap Listed (same-given q)
+made-answer (Refused f) s q = absurd (not-both s _ _ (sym q))
 
-module _ (bytes : List ℕ) (start n m : ℕ) (e : reading.accepted start n m ≡ readReply bytes) where
+module _ (bytes : List ℕ) (t : Trace) (e : Accepts bytes t) where
   abbrev tr : List Record
-  tr = recordsIn bytes start n
+  tr = recordsIn bytes t
 
   pub acceptable : Acceptable tr
-  acceptable = accepts bytes start n m e .acceptable
-
-  pub begun : eventsIn tr ≡ m
-  begun = sym (events-of bytes start n m e)
+  acceptable = accepts bytes t e .acceptable
 
   lists : (short : Bool) (width : ℕ) (clocks clocks′ work work′ list list′ : List ℕ) (r : Listing)
       → ListSuffices tr short width (length clocks) (length work) (length list)
       → Lists short bytes width clocks clocks′ work work′ list list′ r → ListAnswers tr short (Calls list′) (Names list′) r
-  unfolding listReply listRead listAfterRead listAfter
+  unfolding listAfter unless
   lists short width clocks clocks′ work work′ list list′ r s p =
-      let q = rw begun at (made tr width (length clocks) (length work) (length list) short s) in
-      let v = made-answer r m (length tr) (chainsUsed tr) (length (pairsOf tr short)) (rw (← e, q) at (p .answer)) in
+      let q = made bytes t e width (length clocks) (length work) (length list) short s in
+      let v = made-answer r _ (p .answer ∙ q) in
       record {
-        summary = v .0;
-        is-made = v .1;
-        counted = v .2;
-        demand = rw (v .2, rw (← e, q) at (p .list-after)) (list-demand acceptable short (drop (5 * length (pairsOf tr short)) list));
+        summary = _;
+        is-made = v;
+        counted = refl;
+        demand = rw (rw (q, records-read bytes t e) at (p .list-after)) (list-demand acceptable short (drop (5 * length (pairsOf tr short)) list));
       }
 
 pub lists-demand : ListsDemand

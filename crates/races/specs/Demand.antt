@@ -6,9 +6,10 @@ use mathlib.Core.List.{List}
 use mathlib.Core.Logic.{_↔_}
 use lib.ListN.{length, getD}
 use Rattle.records.specs.declared.Record.{Record}
+use Rattle.records.specs.declared.Trace.{Trace}
 use Rattle.records.specs.Records.{at}
-use Rattle.trace.specs.Reading as reading
-use Rattle.trace.specs.Reading.{recordsIn, readReply}
+use Rattle.trace.specs.Reply.{refused}
+use Rattle.trace.specs.Reading.{recordsIn, Accepts}
 use Rattle.order.specs.Fill.{eventsIn, chainsUsed}
 use Rattle.coverage.specs.Race.{Race}
 use Rattle.coverage.specs.Cover.{Open}
@@ -17,7 +18,7 @@ use Rattle.races.specs.declared.Listing.{Listing}
 use Rattle.races.specs.declared.Listing.the-variants.{Listed}
 use Rattle.races.specs.declared.Summary.{Summary}
 use Rattle.races.specs.Traces.{settingOf}
-use Rattle.races.specs.Lists.{entryNumbers, pairsOf, refused, listTrace}
+use Rattle.races.specs.Lists.{entryNumbers, pairsOf, listReply}
 use Rattle.races.specs.Paper.{Lists}
 
 -- "A list calls a pair open by the mark of its entry": one of its first `count` entries, of five numbers each, is of records a and b (numbered
@@ -78,12 +79,12 @@ module _ (tr : List Record) where
 
 -- `ListSuffices` says no more than that none of 21 to 24 applies: on an accepted trace a list is refused exactly where it fails
 pub record ListsSuffice : Type 0 where
-  pub lists : (tr : List Record) (short : Bool) (width clocks work list : ℕ)
-      → ListSuffices tr short width clocks work list ↔ ((n p : ℕ) → listTrace short tr (eventsIn tr) width clocks work list ≡ refused n p → ⊥)
+  pub lists : (bytes : List ℕ) (t : Trace) → Accepts bytes t → (short : Bool) (width clocks work list : ℕ)
+      → ListSuffices (recordsIn bytes t) short width clocks work list ↔ ((n p : ℕ) → listReply short bytes width clocks work list ≡ refused n p → ⊥)
 
 -- "Take every accepted trace, whatever the lent spaces held before, so long as they and the clock width suffice for the call."
 pub record ListsDemand : Type 0 where
-  pub lists : (bytes : List ℕ) (start n m : ℕ) → reading.accepted start n m ≡ readReply bytes
+  pub lists : (bytes : List ℕ) (t : Trace) → Accepts bytes t
       → (short : Bool) (width : ℕ) (clocks clocks′ work work′ list list′ : List ℕ) (r : Listing)
-      → ListSuffices (recordsIn bytes start n) short width (length clocks) (length work) (length list)
-      → Lists short bytes width clocks clocks′ work work′ list list′ r → ListAnswers (recordsIn bytes start n) short (Calls list′) (Names list′) r
+      → ListSuffices (recordsIn bytes t) short width (length clocks) (length work) (length list)
+      → Lists short bytes width clocks clocks′ work work′ list list′ r → ListAnswers (recordsIn bytes t) short (Calls list′) (Names list′) r

@@ -25,7 +25,8 @@ ghost use lib.ListN.{length};
 ghost use lib.Seq.{sets};
 ghost use Rattle.records.specs.Bytes.{decode};
 ghost use Rattle.order.specs.Fill.{eventsIn, chainsUsed};
-ghost use Rattle.races.specs.Lists.{entryNumbers, shapeOf, ListReply};
+ghost use Rattle.trace.specs.Reply.{Reply};
+ghost use Rattle.races.specs.Lists.{entryNumbers, shapeOf};
 ghost use Rattle.races.specs.Paper.{listPaper, ListsFilled, Lists};
 ghost use Rattle.races.specs.ListPass.{fromOf, pairsBelow, raw, Second, OneRoom, OneWrites, RoomIf, Writes, WritesAll, Ample, Counts, ListsAll};
 ghost use Rattle.races.specs.Candidates.{Range, Tables};
@@ -278,7 +279,7 @@ fn write_all(
 }
 
 fn refused(number: u16) -> Listing
-    ensures { λ r. ⌜ listPaper r ≡ ListReply.refused number 0 ⌝ }
+    ensures { λ r. ⌜ listPaper r ≡ Reply.refused number 0 ⌝ }
 {
     Listing::Refused(Refusal {
         number: number,
@@ -287,7 +288,7 @@ fn refused(number: u16) -> Listing
 }
 
 fn listed(events: usize, records: usize, chains: usize, count: usize) -> Listing
-    ensures { λ r. ⌜ listPaper r ≡ ListReply.listed events records chains count ⌝ }
+    ensures { λ r. ⌜ listPaper r ≡ Reply.gives (record { events = events; records = records; chains = chains; count = count }) ⌝ }
 {
     Listing::Listed(Summary {
         events: events,

@@ -13,15 +13,17 @@ use Rattle.records.specs.declared.Record.{Record}
 use Rattle.records.specs.Records.{noRecord, at, past, begins}
 use Rattle.trace.specs.Place.{between, place}
 use Rattle.trace.specs.Rule.{situation, rule}
-use Rattle.trace.specs.Reading.{Reply, accepted, demand, orElse, walk, readReply}
-use Rattle.trace.specs.Reading.{refused as refuses}
+use Rattle.records.specs.declared.Trace.{Trace}
+use Rattle.trace.specs.Reply.{Reply, refused, gives, demand, orElse}
+use Rattle.trace.specs.Reading.{walk, readReply, traceFrom}
+use Rattle.trace.proofs.ReplyLaws.{not-both}
 use Rattle.trace.specs.Reading.{closing as ending}
 use Rattle.records.specs.Encoding.{traceOf}
 use Rattle.records.proofs.Records.{past-length}
 use Rattle.records.proofs.Encoded.{AllNarrow}
 use Rattle.trace.proofs.Encoded.{read-narrow}
 use Rattle.recorder.specs.declared.Recorder.{Recorder}
-use Rattle.recorder.specs.Recording.{refused, taken, closes, Left, pass, full, stopsInside, noTrailer, stepLeft, closeLeft}
+use Rattle.recorder.specs.Recording.{Done, done, Left, pass, full, stopsInside, noTrailer, stepLeft, closeLeft}
 use Rattle.recorder.specs.History.{Recording}
 use Rattle.recorder.proofs.Left.{stepping, closing, pass-out}
 use Rattle.recorder.proofs.Holds.{holds, step-is, narrow}
@@ -40,13 +42,13 @@ module _ (tr ys : List Record) (start m : ℕ) (each : (i : ℕ) → i < length 
       rw (drop-cons tr i noRecord (omega arith), z) w
 
 -- a refusal by the walk is a later record's, or 9 or 10
-late : (t u : Bool) (q : ℕ) (y : Reply) (n p : ℕ) → ((n p : ℕ) → y ≡ refuses n p → ⊥) → demand t 9 q (demand u 10 0 y) ≡ refuses n p → 9 ≤ n
+late : (t u : Bool) (q : ℕ) (y : Reply Trace) (n p : ℕ) → ((n p : ℕ) → y ≡ refused n p → ⊥) → demand t 9 q (demand u 10 0 y) ≡ refused n p → 9 ≤ n
 unfolding demand
 late true true q y n p f e = absurd (f n p e)
 late true false q y n p f e = let z : 10 ≡ n = cc in omega arith
 late false u q y n p f e = let z : 9 ≡ n = cc in omega arith
 
-later : (start m : ℕ) (rest done : List Record) (n p : ℕ) → walk start m done rest ≡ refuses n p → (9 ≤ n) ⊎ (length done < p)
+later : (start m : ℕ) (rest done : List Record) (n p : ℕ) → walk start m done rest ≡ refused n p → (9 ≤ n) ⊎ (length done < p)
 unfolding walk ending
 later start m [] done n p e = inl (late (eqb (situation done) between) (eqb (begins done) m) (length done) _ n p
     (λ n p q. let z : _≡_ {A = ℕ} 0 1 = cc in omega arith) e)
@@ -56,25 +58,25 @@ later start m (x ∷ rest) done n p e = go (rule done x) e (later start m rest (
     wider (inl l) = inl l
     wider (inr l) = inr (omega arith)
 
-    go : (v : ℕ) → orElse v (length done + 1) (walk start m (x ∷ done) rest) ≡ refuses n p
-        → (walk start m (x ∷ done) rest ≡ refuses n p → (9 ≤ n) ⊎ (suc (length done) < p)) → (9 ≤ n) ⊎ (length done < p)
+    go : (v : ℕ) → orElse v (length done + 1) (walk start m (x ∷ done) rest) ≡ refused n p
+        → (walk start m (x ∷ done) rest ≡ refused n p → (9 ≤ n) ⊎ (suc (length done) < p)) → (9 ≤ n) ⊎ (length done < p)
     go zero q f = wider (f (unfold orElse in q))
     go (suc v) q f = let z : length done + 1 ≡ p = unfold orElse in cc in inr (omega arith)
 
 -- a refusal by number and place, in the recorder and in the reader
-module _ (w : List ℕ) (r : Recorder) (k n : ℕ) (y : Left) (z : Reply) where
-  to-reader : (v : ℕ) → (y .answer ≡ refused n (k + 1) → ⊥) → pass w r v (k + 1) y .answer ≡ refused n (k + 1) → orElse v (k + 1) z ≡ refuses n (k + 1)
+module _ (w : List ℕ) (r : Recorder) (k n : ℕ) (y : Left Done) (z : Reply Trace) where
+  to-reader : (v : ℕ) → (y .answer ≡ refused n (k + 1) → ⊥) → pass w r v (k + 1) y .answer ≡ refused n (k + 1) → orElse v (k + 1) z ≡ refused n (k + 1)
   unfolding pass orElse
   to-reader zero f e = absurd (f e)
   to-reader (suc v) f e = let q : suc v ≡ n = cc in rw q
 
-  to-recorder : (v : ℕ) → (z ≡ refuses n (k + 1) → ⊥) → orElse v (k + 1) z ≡ refuses n (k + 1) → pass w r v (k + 1) y .answer ≡ refused n (k + 1)
+  to-recorder : (v : ℕ) → (z ≡ refused n (k + 1) → ⊥) → orElse v (k + 1) z ≡ refused n (k + 1) → pass w r v (k + 1) y .answer ≡ refused n (k + 1)
   unfolding pass orElse
   to-recorder zero f e = absurd (f e)
   to-recorder (suc v) f e = let q : suc v ≡ n = cc in rw q
 
 -- 25 has no record for its place
-no-place : (w : List ℕ) (r : Recorder) (y : Left) (v n k : ℕ) → y .answer ≡ taken → pass w r v 0 y .answer ≡ refused n (k + 1) → ⊥
+no-place : (w : List ℕ) (r : Recorder) (y : Left Done) (v n k : ℕ) → y .answer ≡ done → pass w r v 0 y .answer ≡ refused n (k + 1) → ⊥
 unfolding pass
 no-place w r y zero n k t e = let z : _≡_ {A = ℕ} 0 1 = cc in omega arith
 no-place w r y (suc v) n k t e = let z : 0 ≡ k + 1 = cc in omega arith
@@ -85,7 +87,7 @@ module _ {b : List ℕ} {tr : List Record} {w : List ℕ} {r : Recorder} (c : Re
   abbrev m : ℕ
   m = begins (past (tr ++ x ∷ rest) (length (tr ++ x ∷ rest)))
 
-  abbrev onwards : Reply
+  abbrev onwards : Reply Trace
   onwards = walk (length p) m (x ∷ past tr (length tr)) rest
 
   reader-says : readReply (p ++ traceOf (tr ++ x ∷ rest)) ≡ orElse (rule (past tr (length tr)) x) (length tr + 1) onwards
@@ -96,7 +98,7 @@ module _ {b : List ℕ} {tr : List Record} {w : List ℕ} {r : Recorder} (c : Re
       ∙ rw (past-length tr (length tr))
 
   pub refused-alike : (n : ℕ) → n ≤ 8 → (stepLeft w r x .answer ≡ refused n (length tr + 1))
-      ↔ (readReply (p ++ traceOf (tr ++ x ∷ rest)) ≡ refuses n (length tr + 1))
+      ↔ (readReply (p ++ traceOf (tr ++ x ∷ rest)) ≡ refused n (length tr + 1))
   refused-alike n l =
       let h = holds c in
       let v = rule (past tr (length tr)) x in
@@ -110,18 +112,18 @@ module _ {b : List ℕ} {tr : List Record} {w : List ℕ} {r : Recorder} (c : Re
       ahead (inl k) = omega arith
       ahead (inr k) = let q = past-length tr (length tr) in omega arith
 
-nine-answer : (w : List ℕ) (r : Recorder) (t u : Bool) (v k : ℕ) (y : Left) → y .answer ≡ closes v
+nine-answer : (w : List ℕ) (r : Recorder) (t u : Bool) (v k : ℕ) (y : Left ℕ) → y .answer ≡ gives v
     → pass w r (cond t 0 9) k (pass w r (cond u 0 25) 0 y) .answer ≡ refused 9 k → t ≡ false
 unfolding pass
 nine-answer w r true true v k y a e = let z : _≡_ {A = ℕ} 0 1 = cc in absurd (omega arith)
 nine-answer w r true false v k y a e = let z : _≡_ {A = ℕ} 25 9 = cc in absurd (omega arith)
 nine-answer w r false u v k y a e = refl
 
-nine-reply : (t u : Bool) (k s n m : ℕ) → demand t 9 k (demand u 10 0 (accepted s n m)) ≡ refuses 9 k → t ≡ false
+nine-reply : (t u : Bool) (k : ℕ) (a : Trace) → demand t 9 k (demand u 10 0 (gives a)) ≡ refused 9 k → t ≡ false
 unfolding demand
-nine-reply true true k s n m e = let z : _≡_ {A = ℕ} 0 1 = cc in absurd (omega arith)
-nine-reply true false k s n m e = let z : _≡_ {A = ℕ} 10 9 = cc in absurd (omega arith)
-nine-reply false u k s n m e = refl
+nine-reply true true k a e = absurd (not-both a 9 k e)
+nine-reply true false k a e = let z : _≡_ {A = ℕ} 10 9 = cc in absurd (omega arith)
+nine-reply false u k a e = refl
 
 -- Closing is refused with 9 exactly when the reader would refuse the trace of the steps taken with 9, at the same place.
 module _ {b : List ℕ} {tr : List Record} {w : List ℕ} {r : Recorder} (c : Recording b tr w r) (p : List ℕ) where
@@ -130,7 +132,7 @@ module _ {b : List ℕ} {tr : List Record} {w : List ℕ} {r : Recorder} (c : Re
 
   reply-now : readReply (p ++ traceOf tr)
       ≡ demand between-now 9 (length tr) (demand (eqb (begins (past tr (length tr))) (begins (past tr (length tr)))) 10 0
-      (accepted (length p) (length tr) (begins (past tr (length tr)))))
+      (gives (traceFrom (length p) tr)))
   unfolding walk ending past
   reply-now =
       read-narrow tr (holds c .few) p (narrow (holds c))
@@ -147,12 +149,12 @@ module _ {b : List ℕ} {tr : List Record} {w : List ℕ} {r : Recorder} (c : Re
       let h = holds c in
       nine-answer w r between-now (leb (5 * length tr + 8) (length w)) _ (length tr) (closing w (length tr) r) refl (rw (← h .stands) (rw (close-is h) at e))
 
-  pub nine-alike : (closeLeft w r .answer ≡ refused 9 (length tr)) ↔ (readReply (p ++ traceOf tr) ≡ refuses 9 (length tr))
+  pub nine-alike : (closeLeft w r .answer ≡ refused 9 (length tr)) ↔ (readReply (p ++ traceOf tr) ≡ refused 9 (length tr))
   unfolding demand
   nine-alike =
       let m = begins (past tr (length tr)) in (
         λ e. reply-now ∙ rw (closing-left e),
-        λ e. ap (λ (l : Left). l .answer)
+        λ e. ap (λ (l : Left ℕ). l .answer)
             (close-is (holds c) ∙ pass-out w r (stopsInside r) 8 (length tr) _
-            (inside-out (nine-reply between-now (eqb m m) (length tr) (length p) (length tr) m (sym reply-now ∙ e)))),
+            (inside-out (nine-reply between-now (eqb m m) (length tr) (traceFrom (length p) tr) (sym reply-now ∙ e)))),
       )

@@ -15,14 +15,14 @@ use Rattle.records.specs.declared.Record.{Record}
 use Rattle.records.specs.Records.{at, past}
 use Rattle.trace.specs.Place.{between, place}
 use Rattle.trace.specs.Rule.{situation, owner, rule}
-use Rattle.records.specs.Bytes.{part}
-use Rattle.trace.specs.Reading.{recordsIn}
-use Rattle.records.specs.Encoding.{encode}
+use Rattle.records.specs.Bytes.{decode, part}
+use Rattle.trace.specs.Reply.{Reply, refused, gives}
+use Rattle.trace.proofs.ReplyLaws.{not-both}
+use Rattle.records.specs.Encoding.{encode, stored}
 use Rattle.records.proofs.Encoded.{AllNarrow, encode-length, encode-append, decode-encode}
 use Rattle.trace.proofs.Encoded.{passes-narrow}
 use Rattle.recorder.specs.declared.Recorder.{Recorder}
-use Rattle.records.specs.Encoding.{stored}
-use Rattle.recorder.specs.Recording.{Outcome, refused, opens, taken, closes, Left, pass, held, before, judged, closedAlready, space, full}
+use Rattle.recorder.specs.Recording.{Done, done, Left, pass, held, before, judged, closedAlready, space, full}
 use Rattle.recorder.specs.Recording.{stopsInside, noTrailer, openLeft, stepLeft, closeLeft}
 use Rattle.recorder.specs.History.{Unaltered, Recording, opening, lent, step, refused-step, refused-closing}
 use Rattle.recorder.proofs.Left.{refusing, stepping, pass-on, step-open, full-zero, spaced}
@@ -47,37 +47,32 @@ module _ (b : List ℕ) (p : ℕ) (vs : List ℕ) (fits : p + length vs ≤ leng
   stored-beyond = rw split (drop-at (take p b ++ vs) (drop (p + length vs) b) (p + length vs) front-length)
 
 -- what a test lets through
-module _ (b : List ℕ) (r : Recorder) (p : ℕ) (y : Left) where
-  pub through-taken : (n : ℕ) → pass b r n p y .answer ≡ taken → (n ≡ 0) × (y .answer ≡ taken)
+module _ {A : Type 0} (b : List ℕ) (r : Recorder) (p : ℕ) (y : Left A) where
+  pub through : (n : ℕ) (a : A) → pass b r n p y .answer ≡ gives a → (n ≡ 0) × (y .answer ≡ gives a)
   unfolding pass
-  through-taken zero e = (refl, e)
-  through-taken (suc n) e = let z : _≡_ {A = ℕ} 0 1 = cc in absurd (omega arith)
-
-  pub through-closes : (n k : ℕ) → pass b r n p y .answer ≡ closes k → (n ≡ 0) × (y .answer ≡ closes k)
-  unfolding pass
-  through-closes zero k e = (refl, e)
-  through-closes (suc n) k e = let z : _≡_ {A = ℕ} 0 1 = cc in absurd (omega arith)
+  through zero a e = (refl, e)
+  through (suc n) a e = absurd (not-both a (suc n) p (sym e))
 
   -- a refusal leaves recorder and bytes
   pub through-refused : (n k q : ℕ) → (y .answer ≡ refused k q → y ≡ refusing b r k q) → pass b r n p y .answer ≡ refused k q
       → pass b r n p y ≡ refusing b r k q
   unfolding pass
   through-refused zero k q f e = f e
-  through-refused (suc n) k q f e = ap (λ (o : Outcome). record { answer = o; recorder = r; bytes = b }) e
+  through-refused (suc n) k q f e = ap (λ (o : Reply A). record { answer = o; recorder = r; bytes = b }) e
 
 pub step-refused : (b : List ℕ) (r : Recorder) (x : Record) (k q : ℕ) → stepLeft b r x .answer ≡ refused k q → stepLeft b r x ≡ refusing b r k q
 unfolding stepLeft
 step-refused b r x k q =
     through-refused b r 0 _ (closedAlready r) k q
     (through-refused b r (held r + 1) _ (judged b (held r) r x) k q
-    (through-refused b r 0 _ (full b (held r)) k q (λ e. let z : _≡_ {A = ℕ} 0 1 = cc in absurd (omega arith))))
+    (through-refused b r 0 _ (full b (held r)) k q (λ e. absurd (not-both _ k q e))))
 
 pub close-refused : (b : List ℕ) (r : Recorder) (k q : ℕ) → closeLeft b r .answer ≡ refused k q → closeLeft b r ≡ refusing b r k q
 unfolding closeLeft
 close-refused b r k q =
     through-refused b r 0 _ (closedAlready r) k q
     (through-refused b r (held r) _ (stopsInside r) k q
-    (through-refused b r 0 _ (noTrailer b (held r)) k q (λ e. let z : _≡_ {A = ℕ} 0 1 = cc in absurd (omega arith))))
+    (through-refused b r 0 _ (noTrailer b (held r)) k q (λ e. absurd (not-both _ k q e))))
 
 pub record Holds (tr : List Record) (w : List ℕ) (r : Recorder) : Type 0 where
   pub is-open : r .closed ≡ false
@@ -97,8 +92,8 @@ module _ {tr : List Record} {w : List ℕ} {r : Recorder} (h : Holds tr w r) whe
   unfolding held
   held-is = let c = h .counts in let f = h .few in omega arith
 
-  records-are : recordsIn w 0 (length tr) ≡ tr
-  unfolding recordsIn part
+  records-are : decode (part w 0 (length tr)) ≡ tr
+  unfolding part
   records-are = rw (h .front) (decode-encode tr narrow)
 
   pub before-is : before w (length tr) ≡ past tr (length tr)
@@ -115,18 +110,18 @@ module _ {tr : List Record} {w : List ℕ} {r : Recorder} (h : Holds tr w r) whe
   step-is x = rw (← judged-is x) (step-open w r (h .is-open) (length tr) (sym held-is) x)
 
 -- opening
-abbrev pub fresh : List ℕ → Left
-fresh b = record { answer = opens; recorder = record { count = 0; situation = between; owner = record { 0 = 0 }; closed = false }; bytes = b }
+abbrev pub fresh : List ℕ → Left Done
+fresh b = record { answer = done; recorder = record { count = 0; situation = between; owner = record { 0 = 0 }; closed = false }; bytes = b }
 
 pub open-is : (b : List ℕ) → 8 ≤ length b → openLeft b ≡ fresh b
 unfolding openLeft
 open-is b l = rw (le-leb 8 (length b) l)
 
-pub open-long : (b : List ℕ) → openLeft b .answer ≡ opens → 8 ≤ length b
+pub open-long : (b : List ℕ) → openLeft b .answer ≡ done → 8 ≤ length b
 unfolding openLeft
 open-long b e = leb-true 8 (length b) (go (leb 8 (length b)) (fresh b) _ refl e)
   where
-    go : (t : Bool) (x y : Left) → y .answer ≡ refused 25 0 → cond t x y .answer ≡ opens → t ≡ true
+    go : (t : Bool) (x y : Left Done) → y .answer ≡ refused 25 0 → cond t x y .answer ≡ done → t ≡ true
     go true x y q e = refl
     go false x y q e = let z : _≡_ {A = ℕ} 0 1 = cc in absurd (omega arith)
 
@@ -150,10 +145,10 @@ module _ {tr : List Record} {w : List ℕ} {r : Recorder} (h : Holds tr w r) (x 
     pub spacious : space w (length tr) ≡ true
     pub leaves : stepLeft w r x ≡ stepping w (length tr) x (place (r .situation) (x .kind))
 
-  pub steps : stepLeft w r x .answer ≡ taken → Steps
+  pub steps : stepLeft w r x .answer ≡ done → Steps
   steps e =
-      let q = through-taken w r (length tr + 1) _ (rule (past tr (length tr)) x) (rw (step-is h x) at e) in
-      let q2 = through-taken w r 0 _ (full w (length tr)) (q .1) in
+      let q = through w r (length tr + 1) _ (rule (past tr (length tr)) x) tt (rw (step-is h x) at e) in
+      let q2 = through w r 0 _ (full w (length tr)) tt (q .1) in
       record { allowed = q .0; spacious = full-zero w (length tr) (q2 .0); leaves = step-is h x ∙ pass-on w r _ _ _ (q .0) ∙ pass-on w r _ _ _ (q2 .0) }
 
   abbrev more : List Record

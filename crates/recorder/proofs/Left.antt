@@ -11,49 +11,48 @@ use lib.ListN.{length}
 use Rattle.records.specs.declared.Record.{Record}
 use Rattle.records.specs.Records.{begins}
 use Rattle.trace.specs.Place.{between, place}
-use Rattle.records.specs.Encoding.{encode, trailer}
-use Rattle.trace.specs.Paper.{Verdict, passes, fails, verdict}
+use Rattle.records.specs.Encoding.{encode, trailer, stored}
+use Rattle.trace.specs.Reply.{Reply, refused, gives, orElse}
+use Rattle.trace.proofs.ReplyLaws.{not-both, same-given, passed-record}
 use Rattle.recorder.specs.declared.Recorder.{Recorder}
-use Rattle.records.specs.Encoding.{stored}
-use Rattle.recorder.specs.Recording.{refused, taken, closes, Left, pass, held, before, judged, closedAlready, space, full, stopsInside, noTrailer}
+use Rattle.recorder.specs.Recording.{Done, done, Left, pass, held, before, judged, closedAlready, space, full, stopsInside, noTrailer}
 use Rattle.recorder.specs.Recording.{stepLeft, closeLeft}
 
-abbrev pub refusing : List ℕ → Recorder → ℕ → ℕ → Left
+abbrev pub refusing : {A : Type 0} → List ℕ → Recorder → ℕ → ℕ → Left A
 refusing b r n p = record { answer = refused n p; recorder = r; bytes = b }
 
 -- the record is stored, the trace is closed
-abbrev pub stepping : List ℕ → ℕ → Record → ℕ → Left
+abbrev pub stepping : List ℕ → ℕ → Record → ℕ → Left Done
 stepping b n x s = record {
-  answer = taken;
+  answer = done;
   recorder = record { count = n + 1; situation = s; owner = record { 0 = x .first }; closed = false };
   bytes = stored b (5 * n) (encode (x ∷ []));
 }
 
-abbrev pub closing : List ℕ → ℕ → Recorder → Left
+abbrev pub closing : List ℕ → ℕ → Recorder → Left ℕ
 closing b n r = record {
-  answer = closes (5 * n + 8);
+  answer = gives (5 * n + 8);
   recorder = record { count = r .count; situation = r .situation; owner = r .owner; closed = true };
   bytes = stored b (5 * n) (trailer (5 * n) (begins (before b n)));
 }
 
 -- a test passed, and a test failed
-pub pass-on : (b : List ℕ) (r : Recorder) (n p : ℕ) (y : Left) → n ≡ 0 → pass b r n p y ≡ y
+pub pass-on : {A : Type 0} (b : List ℕ) (r : Recorder) (n p : ℕ) (y : Left A) → n ≡ 0 → pass b r n p y ≡ y
 unfolding pass
 pass-on b r n p y e = rw e
 
-pub pass-out : (b : List ℕ) (r : Recorder) (n k p : ℕ) (y : Left) → n ≡ suc k → pass b r n p y ≡ refusing b r (suc k) p
+pub pass-out : {A : Type 0} (b : List ℕ) (r : Recorder) (n k p : ℕ) (y : Left A) → n ≡ suc k → pass b r n p y ≡ refusing b r (suc k) p
 unfolding pass
 pass-out b r n k p y e = rw e
 
--- a verdict that fails, and one that passes
-failing : (b : List ℕ) (r : Recorder) (y : Left) (n op next k p : ℕ) → fails k p ≡ verdict n op next → pass b r n op y ≡ refusing b r k p
-unfolding pass
-failing b r y zero op next k p e = let z : _≡_ {A = ℕ} 0 1 = cc in absurd (omega arith)
+-- a check that fails, and one that passes
+failing : {A : Type 0} (b : List ℕ) (r : Recorder) (y : Left A) (n op next k p : ℕ) → refused k p ≡ orElse n op (gives next) → pass b r n op y ≡ refusing b r k p
+unfolding pass orElse
+failing b r y zero op next k p e = absurd (not-both next k p (sym e))
 failing b r y (suc n) op next k p e = cc
 
-passing : (n op next s : ℕ) → passes s ≡ verdict n op next → (n ≡ 0) × (s ≡ next)
-passing zero op next s e = (refl, cc)
-passing (suc n) op next s e = let z : _≡_ {A = ℕ} 0 1 = cc in absurd (omega arith)
+passing : (n op next s : ℕ) → gives s ≡ orElse n op (gives next) → (n ≡ 0) × (s ≡ next)
+passing n op next s e = let p = passed-record n op (gives next) s e in (p .0, same-given (p .1))
 
 module _ (b : List ℕ) (r : Recorder) where
   closed-refusal : r .closed ≡ true → closedAlready r ≡ 26
@@ -75,23 +74,23 @@ module _ (b : List ℕ) (r : Recorder) where
   module _ (o : r .closed ≡ false) (n : ℕ) (en : n ≡ held r) where
     -- the code's check of record x
     module _ (x : Record) where
-      abbrev Judged : Verdict
-      Judged = verdict (judged b n r x) (n + 1) (place (r .situation) (x .kind))
+      abbrev Judged : Reply ℕ
+      Judged = orElse (judged b n r x) (n + 1) (gives (place (r .situation) (x .kind)))
 
       -- past 26
       pub step-open : stepLeft b r x ≡ pass b r (judged b n r x) (n + 1) (pass b r (full b n) 0 (stepping b n x (place (r .situation) (x .kind))))
       unfolding stepLeft
       step-open = rw en (pass-on b r (closedAlready r) 0 _ (open-still o))
 
-      pub step-judged : (k p : ℕ) → fails k p ≡ Judged → refusing b r k p ≡ stepLeft b r x
+      pub step-judged : (k p : ℕ) → refused k p ≡ Judged → refusing b r k p ≡ stepLeft b r x
       step-judged k p v = sym (step-open ∙ failing b r _ (judged b n r x) (n + 1) (place (r .situation) (x .kind)) k p v)
 
-      pub step-full : (s : ℕ) → passes s ≡ Judged → full b n ≡ 25 → refusing b r 25 0 ≡ stepLeft b r x
+      pub step-full : (s : ℕ) → gives s ≡ Judged → full b n ≡ 25 → refusing b r 25 0 ≡ stepLeft b r x
       step-full s v f =
           let p = passing (judged b n r x) (n + 1) (place (r .situation) (x .kind)) s v in
           sym (step-open ∙ pass-on b r (judged b n r x) (n + 1) _ (p .0) ∙ pass-out b r (full b n) 24 0 _ f)
 
-      pub step-taken : (s : ℕ) → passes s ≡ Judged → full b n ≡ 0 → stepping b n x s ≡ stepLeft b r x
+      pub step-taken : (s : ℕ) → gives s ≡ Judged → full b n ≡ 0 → stepping b n x s ≡ stepLeft b r x
       step-taken s v f =
           let p = passing (judged b n r x) (n + 1) (place (r .situation) (x .kind)) s v in
           rw (p .1) (sym (step-open ∙ pass-on b r (judged b n r x) (n + 1) _ (p .0) ∙ pass-on b r (full b n) 0 _ f))

@@ -13,14 +13,14 @@ use Rattle.records.specs.Records.{at, past, begins}
 use Rattle.trace.specs.Place.{between}
 use Rattle.trace.specs.Rule.{situation}
 use Rattle.trace.specs.Reading.{Acceptable}
-use Rattle.records.specs.Encoding.{trailer, traceOf}
+use Rattle.records.specs.Encoding.{trailer, traceOf, stored}
+use Rattle.trace.specs.Reply.{gives}
 use Rattle.trace.proofs.Encoded.{records-encoded, read-encoded}
 use Rattle.recorder.specs.declared.Recorder.{Recorder}
-use Rattle.records.specs.Encoding.{stored}
-use Rattle.recorder.specs.Recording.{closes, Left, pass, stopsInside, noTrailer, closeLeft}
+use Rattle.recorder.specs.Recording.{Left, pass, stopsInside, noTrailer, closeLeft}
 use Rattle.recorder.specs.History.{ClosedTrace, ClosedIsTrace, ClosingIsAnswered}
 use Rattle.recorder.proofs.Left.{closing, pass-on, close-open, close-inside, close-short, close-done}
-use Rattle.recorder.proofs.Holds.{Holds, holds, held-is, before-is, stored-front, stored-beyond, through-closes}
+use Rattle.recorder.proofs.Holds.{Holds, holds, held-is, before-is, stored-front, stored-beyond, through}
 
 outside : (r : Recorder) → stopsInside r ≡ 0 → r .situation ≡ between
 unfolding stopsInside
@@ -65,10 +65,10 @@ module _ {tr : List Record} {w : List ℕ} {r : Recorder} (h : Holds tr w r) whe
         beyond = rw v at (stored-beyond w (5 * length tr) t fits);
       })
 
-  closed-from : (n : ℕ) → closeLeft w r .answer ≡ closes n → ClosedTrace w tr n (closeLeft w r .bytes)
+  closed-from : (n : ℕ) → closeLeft w r .answer ≡ gives n → ClosedTrace w tr n (closeLeft w r .bytes)
   closed-from n e =
-      let q = through-closes w r (length tr) _ (stopsInside r) n (rw close-is at e) in
-      let q2 = through-closes w r 0 _ (noTrailer w (length tr)) n (q .1) in
+      let q = through w r (length tr) _ (stopsInside r) n (rw close-is at e) in
+      let q2 = through w r 0 _ (noTrailer w (length tr)) n (q .1) in
       let k : 5 * length tr + 8 ≡ n = cc in
       rw (← k, close-is, pass-on w r (stopsInside r) (length tr) _ (q .0), pass-on w r (noTrailer w (length tr)) 0 _ (q2 .0))
       (closed-bytes (outside r (q .0)) (enough w (length tr) (q2 .0)))
@@ -82,7 +82,7 @@ closing-answers b tr w r c =
     let h = holds c in
     let n = sym (held-is h) in
     record {
-      inside = λ s. ap (λ (l : Left). l .answer) (sym (close-inside w r (h .is-open) (length tr) n (λ e. s (sym (h .stands) ∙ e))));
-      too-few = λ s k. ap (λ (l : Left). l .answer) (sym (close-short w r (h .is-open) (length tr) n (h .stands ∙ s) k));
-      closed = λ s k. ap (λ (l : Left). l .answer) (sym (close-done w r (h .is-open) (length tr) n (h .stands ∙ s) k));
+      inside = λ s. ap (λ (l : Left ℕ). l .answer) (sym (close-inside w r (h .is-open) (length tr) n (λ e. s (sym (h .stands) ∙ e))));
+      too-few = λ s k. ap (λ (l : Left ℕ). l .answer) (sym (close-short w r (h .is-open) (length tr) n (h .stands ∙ s) k));
+      closed = λ s k. ap (λ (l : Left ℕ). l .answer) (sym (close-done w r (h .is-open) (length tr) n (h .stands ∙ s) k));
     }

@@ -16,7 +16,7 @@ use Rattle.trace.proofs.Accepted.{accepts}
 use Rattle.records.proofs.Encoded.{encode-length}
 use Rattle.trace.proofs.Encoded.{records-encoded, read-encoded, one-trace}
 use Rattle.recorder.specs.declared.Recorder.{Recorder}
-use Rattle.recorder.specs.Recording.{taken, Left, space, openLeft, stepLeft}
+use Rattle.recorder.specs.Recording.{Done, done, Left, space, openLeft, stepLeft}
 use Rattle.recorder.specs.History.{Recording, opening, step, OneSpace}
 use Rattle.recorder.specs.RoundTrip.{RecordsAs, RecordedThenRead, ReadThenRecorded}
 use Rattle.recorder.proofs.Left.{pass-on, full-not, has-space}
@@ -27,8 +27,8 @@ use Rattle.recorder.proofs.Recorded.{trailer-length, closed-trace, clos
 
 -- a record that passes is taken where there is space
 takes : {tr : List Record} {w : List ℕ} {r : Recorder} → Holds tr w r → (x : Record) → rule (past tr (length tr)) x ≡ 0 → space w (length tr) ≡ true
-    → stepLeft w r x .answer ≡ taken
-takes {tr} {w} {r} h x e s = ap (λ (l : Left). l .answer) (step-is h x ∙ pass-on w r _ _ _ e ∙ pass-on w r _ _ _ (full-not w (length tr) s))
+    → stepLeft w r x .answer ≡ done
+takes {tr} {w} {r} h x e s = ap (λ (l : Left Done). l .answer) (step-is h x ∙ pass-on w r _ _ _ e ∙ pass-on w r _ _ _ (full-not w (length tr) s))
 
 trace-length : (tr : List Record) → length (traceOf tr) ≡ 5 * length tr + 8
 unfolding traceOf
@@ -67,7 +67,7 @@ module _ {tr : List Record} (a : Acceptable tr) (b : List ℕ) (room : 5 * lengt
   reached zero l = record {
     bytes = openLeft b .bytes;
     recorder = openLeft b .recorder;
-    recording = opening (ap (λ (o : Left). o .answer) (open-is b (omega arith)));
+    recording = opening (ap (λ (o : Left Done). o .answer) (open-is b (omega arith)));
     one-space = unfold OneSpace in tt;
   }
   reached (suc i) l = onward i l (reached i (omega arith))
@@ -85,7 +85,7 @@ module _ {tr : List Record} (a : Acceptable tr) (b : List ℕ) (room : 5 * lengt
         recording = c .recording;
         one-space = c .one-space;
         closed = rw l e;
-        gives = rw l (z .trace);
+        out-is = rw l (z .trace);
         beyond = rw l (closed-beyond b tr (c .bytes) (c .recorder) (c .recording) (c .one-space) (5 * length tr + 8) e);
       }
 
@@ -93,7 +93,7 @@ pub recorded-then-read : RecordedThenRead
 recorded-then-read tr a b room = record { recorded = recordable a b room; accepts = read-encoded a []; reads = records-encoded a [] }
 
 pub read-then-recorded : ReadThenRecorded
-read-then-recorded b bytes start n m e space room =
-    let a = accepts b start n m (sym e) in
+read-then-recorded b bytes t e space room =
+    let a = accepts b t e in
     let l = a .counts in
-    rw (one-trace b start n m bytes e) (recordable (a .acceptable) space (omega arith))
+    rw (one-trace b t bytes e) (recordable (a .acceptable) space (omega arith))

@@ -6,13 +6,14 @@ use mathlib.Core.List.{List, [], _∷_, _++_}
 use lib.ListN.{length, take, drop}
 use Rattle.records.specs.Bytes.{recordBytes, trailerBytes}
 use Rattle.records.specs.declared.Record.{Record}
-use Rattle.records.specs.Records.{past, begins}
+use Rattle.records.specs.Records.{past}
 use Rattle.trace.specs.Place.{between}
 use Rattle.trace.specs.Rule.{situation}
-use Rattle.trace.specs.Reading.{accepted, recordsIn, readReply, Acceptable}
+use Rattle.trace.specs.Reply.{Reply, refused, gives}
+use Rattle.trace.specs.Reading.{traceFrom, recordsIn, Accepts, Acceptable}
 use Rattle.records.specs.Encoding.{traceOf}
 use Rattle.recorder.specs.declared.Recorder.{Recorder}
-use Rattle.recorder.specs.Recording.{Outcome, refused, opens, taken, closes, held, openLeft, stepLeft, closeLeft}
+use Rattle.recorder.specs.Recording.{done, held, openLeft, stepLeft, closeLeft}
 
 -- "if nobody else altered the bytes meanwhile": the bytes w′ begin with the records that the recorder has stored in w. They may be fewer or more than those of
 -- w, and other bytes may stand after the records.
@@ -23,9 +24,9 @@ Unaltered r w w′ = take (recordBytes * held r) w′ ≡ take (recordBytes * he
 -- first list has the steps taken, in order; refused calls may stand between them. The second has the bytes for the next call: what the call before left or, by
 -- `lent`, any others in which the records so far are unaltered.
 pub data Recording (b : List ℕ) : List Record → List ℕ → Recorder → Type 0 where
-  opening : openLeft b .answer ≡ opens → Recording b [] (openLeft b .bytes) (openLeft b .recorder)
+  opening : openLeft b .answer ≡ done → Recording b [] (openLeft b .bytes) (openLeft b .recorder)
   lent : {tr : List Record} {w : List ℕ} {r : Recorder} → Recording b tr w r → (w′ : List ℕ) → Unaltered r w w′ → Recording b tr w′ r
-  step : {tr : List Record} {w : List ℕ} {r : Recorder} → Recording b tr w r → (x : Record) → stepLeft w r x .answer ≡ taken
+  step : {tr : List Record} {w : List ℕ} {r : Recorder} → Recording b tr w r → (x : Record) → stepLeft w r x .answer ≡ done
       → Recording b (tr ++ (x ∷ [])) (stepLeft w r x .bytes) (stepLeft w r x .recorder)
   refused-step : {tr : List Record} {w : List ℕ} {r : Recorder} → Recording b tr w r → (x : Record) (n p : ℕ) → stepLeft w r x .answer ≡ refused n p
       → Recording b tr (stepLeft w r x .bytes) (stepLeft w r x .recorder)
@@ -46,16 +47,17 @@ pub record ClosedTrace (w : List ℕ) (tr : List Record) (n : ℕ) (out : List �
   pub acceptable : Acceptable tr
   pub long : n ≡ recordBytes * length tr + trailerBytes
   pub trace : take n out ≡ traceOf tr
-  pub reads : readReply (take n out) ≡ accepted 0 (length tr) (begins (past tr (length tr)))
-  pub records : recordsIn (take n out) 0 (length tr) ≡ tr
+  pub reads : Accepts (take n out) (traceFrom 0 tr)
+  pub records : recordsIn (take n out) (traceFrom 0 tr) ≡ tr
   pub beyond : drop n out ≡ drop n w
 
 -- "closing gives 26, then 9, then 25 if the bytes lent to it are too few for the trailer": after the steps tr, over the bytes w. A recording is never
 -- closed already.
-pub record ClosingAnswers (tr : List Record) (w : List ℕ) (answer : Outcome) : Type 0 where
+pub record ClosingAnswers (tr : List Record) (w : List ℕ) (answer : Reply ℕ) : Type 0 where
   pub inside : (situation (past tr (length tr)) ≡ between → ⊥) → answer ≡ refused 9 (length tr)
   pub too-few : situation (past tr (length tr)) ≡ between → length w < recordBytes * length tr + trailerBytes → answer ≡ refused 25 0
-  pub closed : situation (past tr (length tr)) ≡ between → recordBytes * length tr + trailerBytes ≤ length w → answer ≡ closes (recordBytes * length tr + trailerBytes)
+  pub closed : situation (past tr (length tr)) ≡ between → recordBytes * length tr + trailerBytes ≤ length w
+      → answer ≡ gives (recordBytes * length tr + trailerBytes)
 
 abbrev pub ClosingIsAnswered : Type 0
 ClosingIsAnswered = (b : List ℕ) (tr : List Record) (w : List ℕ) (r : Recorder) → Recording b tr w r → ClosingAnswers tr w (closeLeft w r .answer)
@@ -63,9 +65,9 @@ ClosingIsAnswered = (b : List ℕ) (tr : List Record) (w : List ℕ) (r : Record
 -- "What is closed is a trace of the steps taken if nobody else altered the bytes meanwhile": for every recording, over whatever unaltered bytes it is closed
 abbrev pub ClosedIsTrace : Type 0
 ClosedIsTrace = (b : List ℕ) (tr : List Record) (w : List ℕ) (r : Recorder) → Recording b tr w r
-    → (n : ℕ) → closeLeft w r .answer ≡ closes n → ClosedTrace w tr n (closeLeft w r .bytes)
+    → (n : ℕ) → closeLeft w r .answer ≡ gives n → ClosedTrace w tr n (closeLeft w r .bytes)
 
 -- "Except where stated, lent memory is unchanged": over one space all along, the bytes after the closed trace are those of the opening.
 abbrev pub BeyondIsUnchanged : Type 0
 BeyondIsUnchanged = (b : List ℕ) (tr : List Record) (w : List ℕ) (r : Recorder) (c : Recording b tr w r) → OneSpace c
-    → (n : ℕ) → closeLeft w r .answer ≡ closes n → drop n (closeLeft w r .bytes) ≡ drop n b
+    → (n : ℕ) → closeLeft w r .answer ≡ gives n → drop n (closeLeft w r .bytes) ≡ drop n b

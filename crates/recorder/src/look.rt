@@ -15,7 +15,8 @@ ghost use Rattle.records.specs.Bytes.{decode};
 ghost use Rattle.records.specs.Records.{past, has};
 ghost use Rattle.records.specs.Records.{begins as begin-count};
 ghost use Rattle.trace.specs.Place.{place};
-ghost use Rattle.trace.specs.Paper.{checkedPaper, verdict};
+ghost use Rattle.trace.specs.Reply.{gives, orElse};
+ghost use Rattle.trace.specs.Paper.{checkedPaper};
 ghost use Rattle.recorder.specs.Recording.{ofKind, before, judged};
 
 // Is one of the records of that kind, for event e?
@@ -59,7 +60,7 @@ fn starts(kind: u8) -> bool
 // The check of a record after the first n; what has begun and ended is looked for only where the rules ask.
 pub(crate) fn check(bytes: &[u8], n: usize, r: Recorder, rec: Record) -> Checked
     requires { ⌜ n ≤ 4096 ⌝ }
-    ensures { λ c. ⌜ checkedPaper c ≡ verdict (judged (now (bytes .entry)) n r rec) (n + 1) (place (r .situation) (rec .kind)) ⌝ }
+    ensures { λ c. ⌜ checkedPaper c ≡ orElse (judged (now (bytes .entry)) n r rec) (n + 1) (gives (place (r .situation) (rec .kind))) ⌝ }
 {
     let recs = access::records_from(bytes, 0, n);
     let first_begun = seen_if(starts(rec.kind), recs, 1, EventId(rec.first));

@@ -1,32 +1,42 @@
--- The reader's refusals have numbers up to 10 and places up to 4,096. Assumes nothing.
-use Prim.Native.Nat.{ℕ, zero, suc, _+_, _-_, _/_, _%_, _≤_}
-use mathlib.Core.Path.{_≡_, refl, sym, subst}
-use mathlib.Core.Bool.{Bool, true, false, cond, not, _&&_}
+-- Refusals have numbers up to 24 and places up to 4,097; the reader's. Assumes nothing.
+use Prim.Native.Nat.{ℕ, zero, suc, _+_, _≤_}
+use mathlib.Core.Path.{_≡_, refl}
+use mathlib.Core.Bool.{Bool, true, false, cond, not}
 use mathlib.Core.List.{List, [], _∷_}
 use native.Mathlib.Omega.{arith}
-use lib.Dec.{eqb, leb}
-use lib.ListN.{length, getD}
+use lib.Dec.{eqb}
+use lib.ListN.{length}
 use Rattle.records.specs.declared.Record.{Record}
-use Rattle.records.specs.Records.{begins, begun, ended}
-use Rattle.slices.specs.Slices.{twoBytes}
-use Rattle.trace.specs.Place.{place, between, unknownKind}
+use Rattle.records.specs.Records.{begun, ended}
+use Rattle.trace.specs.Place.{place, unknownKind}
 use Rattle.trace.specs.Rule.{situation, owner, wellFormed, misplaced, again, early, judge, rule}
-use Rattle.trace.specs.Reading.{Reply, refused, accepted, demand, orElse, closing, walk, distance, trailerReply, frameReply, recordsIn, recordsReply, readReply}
+use Rattle.trace.specs.Reply.{Reply, refused, gives, demand, orElse, then}
+use Rattle.trace.specs.Reading.{closing, walk, trailerReply, frameReply, recordsIn, readReply}
 use Rattle.trace.proofs.Accepted.{framed, records-length}
 
-abbrev pub Small : Reply → Type 0
-Small (refused n p) = (n ≤ 10) × (p ≤ 4096)
-Small (accepted s n m) = Unit {0}
+unfoldable pub Small : {A : Type 0} → Reply A → Type 0
+Small (refused n p) = (n ≤ 24) × (p ≤ 4097)
+Small (gives a) = Unit {0}
 
-small-demand : (t : Bool) (n p : ℕ) (y : Reply) → n ≤ 10 → p ≤ 4096 → Small y → Small (demand t n p y)
-unfolding demand
-small-demand true n p y h k s = s
-small-demand false n p y h k s = (h, k)
+module _ {A : Type 0} where
+  pub small-gives : (a : A) → Small (gives a)
+  unfolding Small
+  small-gives a = tt
 
-small-else : (n p : ℕ) (y : Reply) → n ≤ 10 → p ≤ 4096 → Small y → Small (orElse n p y)
-unfolding orElse
-small-else zero p y h k s = s
-small-else (suc n) p y h k s = (h, k)
+  pub small-demand : (t : Bool) (n p : ℕ) (y : Reply A) → n ≤ 24 → p ≤ 4097 → Small y → Small (demand t n p y)
+  unfolding demand Small
+  small-demand true n p y h k s = s
+  small-demand false n p y h k s = (h, k)
+
+  small-else : (n p : ℕ) (y : Reply A) → n ≤ 24 → p ≤ 4097 → Small y → Small (orElse n p y)
+  unfolding orElse Small
+  small-else zero p y h k s = s
+  small-else (suc n) p y h k s = (h, k)
+
+pub small-then : {A B : Type 0} (x : Reply A) (f : A → Reply B) → Small x → ((a : A) → gives a ≡ x → Small (f a)) → Small (then x f)
+unfolding then Small
+small-then (refused n p) f s g = s
+small-then (gives a) f s g = g a refl
 
 rule-small : (before : List Record) (r : Record) → rule before r ≤ 8
 unfolding rule judge
@@ -47,9 +57,7 @@ rule-small before r =
 walk-small : (start m : ℕ) (rest before : List Record) → length before + length rest ≤ 4096 → Small (walk start m before rest)
 unfolding walk closing
 walk-small start m [] before h =
-    let end = accepted start (length before) (begins before) in
-    small-demand (eqb (situation before) between) 9 (length before) (demand (eqb (begins before) m) 10 0 end) (omega arith) (omega arith)
-    (small-demand (eqb (begins before) m) 10 0 end (omega arith) (omega arith) tt)
+    small-demand _ 9 (length before) _ (omega arith) (omega arith) (small-demand _ 10 0 _ (omega arith) (omega arith) (small-gives _))
 walk-small start m (r ∷ rest) before h =
     small-else (rule before r) (length before + 1) (walk start m (r ∷ before) rest) (omega (arith, rule-small before r)) (omega arith)
     (walk-small start m rest (r ∷ before) (omega arith))
@@ -57,24 +65,9 @@ walk-small start m (r ∷ rest) before h =
 frame-small : (b : List ℕ) → Small (frameReply b)
 unfolding frameReply trailerReply
 frame-small b =
-    let t = length b - 8 in
-    let d = distance b t in
-    small-demand (leb 8 (length b)) 1 0 (trailerReply b t d) (omega arith) (omega arith) (of-trailer t d)
-  where
-    of-trailer : (t d : ℕ) → Small (trailerReply b t d)
-    of-trailer t d =
-        let third = demand (eqb (d % 5) 0 && leb d 20480 && leb d t) 3 0 (accepted (t - d) (d / 5) (twoBytes b (t + 4))) in
-        small-demand (eqb (getD b (t + 7) 0) 167) 1 0 (demand (eqb (getD b (t + 6) 0) 1) 2 0 third) (omega arith) (omega arith)
-        (small-demand (eqb (getD b (t + 6) 0) 1) 2 0 third (omega arith) (omega arith)
-        (small-demand (eqb (d % 5) 0 && leb d 20480 && leb d t) 3 0 (accepted (t - d) (d / 5) (twoBytes b (t + 4))) (omega arith) (omega arith) tt))
+    small-demand _ 1 0 _ (omega arith) (omega arith) (small-demand _ 1 0 _ (omega arith) (omega arith)
+    (small-demand _ 2 0 _ (omega arith) (omega arith) (small-demand _ 3 0 _ (omega arith) (omega arith) (small-gives _))))
 
 pub read-small : (b : List ℕ) → Small (readReply b)
-unfolding readReply recordsReply
-read-small b = go (frameReply b) refl
-  where
-    go : (x : Reply) → frameReply b ≡ x → Small (recordsReply b x)
-    go (refused n p) e = subst (λ x. Small x) e (frame-small b)
-    go (accepted s n m) e =
-        let f = framed b s n m (sym e) in
-        let ends = f .ends in
-        walk-small s m (recordsIn b s n) [] (omega (arith, f .few, records-length b s n (omega arith)))
+unfolding readReply
+read-small b = small-then (frameReply b) _ (frame-small b) (λ t e. let f = framed b t e in walk-small (t .start) (t .events) (recordsIn b t) [] (omega (arith, f .few, records-length f)))

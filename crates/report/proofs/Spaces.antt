@@ -1,37 +1,34 @@
 -- The trace program's spaces suffice: an accepted trace is refused by 23 alone. Assumes nothing.
-use Prim.Native.Nat.{ℕ, _+_}
-use mathlib.Core.Path.{_≡_, sym, ap, _∙_, subst}
+use Prim.Native.Nat.{ℕ}
+use mathlib.Core.Path.{_≡_, sym, _∙_}
 use mathlib.Core.Bool.{Bool, true, false}
-use native.Mathlib.Omega.{arith}
-use lib.Dec.{leb, eqb}
-use lib.ListN.{length}
-use Rattle.records.specs.Records.{past, begins}
-use Rattle.trace.specs.Reading.{recordsIn}
+use mathlib.Core.List.{List}
+use lib.Dec.{eqb}
+use Rattle.records.specs.declared.Record.{Record}
+use Rattle.trace.specs.Reply.{refused, gives, demand}
+use Rattle.trace.specs.Reading.{recordsIn, readReply}
 use Rattle.trace.proofs.Accepted.{accepts}
-use Rattle.clocks.specs.Rows.{spaceFor}
-use Rattle.order.specs.Fill.{beginPosition, shortRow, chainsUsed}
-use Rattle.races.specs.Lists.{pairsOf, refused, listed, demand, listFilled, listTrace}
+use Rattle.trace.proofs.ReplyLaws.{not-both, then-given}
+use Rattle.order.specs.Fill.{eventsIn, shortRow}
+use Rattle.order.specs.Lent.{workFor, enoughChains, onClocks}
+use Rattle.order.proofs.LentLaws.{fitted}
+use Rattle.order.proofs.FilledTrace.{events-of}
+use Rattle.races.specs.Lists.{listFilled, listReady, listReply}
 use Rattle.races.proofs.Spaces.{never-21, never-22, never-24}
 use Rattle.report.specs.Text.{SpacesSuffice}
 
--- where the tests of 21, 22 and 24 pass
-only-23 : (x₁ x₂ x₃ x₄ : Bool) (place e r c count k p : ℕ) → x₁ ≡ true → x₂ ≡ true → x₄ ≡ true
-    → demand x₁ 21 0 (demand x₂ 22 0 (demand x₃ 23 place (demand x₄ 24 0 (listed e r c count)))) ≡ refused k p → k ≡ 23
-unfolding demand
-only-23 true true false true place e r c count k p f g h q = cc
-only-23 true true true true place e r c count k p f g h q = let z : _≡_ {A = ℕ} 0 1 = cc in absurd (omega arith)
-only-23 true true x₃ false place e r c count k p f g h q = let z : _≡_ {A = ℕ} 0 1 = cc in absurd (omega arith)
-only-23 true false x₃ x₄ place e r c count k p f g h q = let z : _≡_ {A = ℕ} 0 1 = cc in absurd (omega arith)
-only-23 false x₂ x₃ x₄ place e r c count k p f g h q = let z : _≡_ {A = ℕ} 0 1 = cc in absurd (omega arith)
+only-23 : {A : Type 0} (tr : List Record) (m w : ℕ) (a : A) (k p : ℕ) → enoughChains tr m w (gives a) ≡ refused k p → k ≡ 23
+unfolding enoughChains demand
+only-23 tr m w a k p e = go (eqb (shortRow tr w) m) _ e
+  where
+    go : (x : Bool) (place : ℕ) → demand x 23 place (gives a) ≡ refused k p → k ≡ 23
+    go true place q = absurd (not-both a k p q)
+    go false place q = cc
 
 pub spaces-suffice : SpacesSuffice
-unfolding listTrace listFilled
-spaces-suffice b start n m e k p q =
-    let a = accepts b start n m (sym e) in
-    let tr = recordsIn b start n in
-    let row = shortRow tr 32 in
-    let rows-are : begins (past tr (length tr)) ≡ m = ap (λ i. begins (past tr i)) (a .counts) ∙ a .begun in
-    let clocks : spaceFor 32 m 32768 ≡ true = subst (λ i. spaceFor 32 i 32768 ≡ true) rows-are (never-21 (a .acceptable)) in
-    let work : leb m 1024 ≡ true = subst (λ i. leb i 1024 ≡ true) rows-are (never-22 (a .acceptable)) in
-    only-23 (spaceFor 32 m 32768) (leb m 1024) (eqb row m) (leb (length (pairsOf tr true)) 8192) (beginPosition tr row + 1)
-    m (length tr) (chainsUsed tr) (length (pairsOf tr true)) k p clocks work (never-24 (a .acceptable)) q
+unfolding listReply listReady listFilled onClocks demand eventsIn
+spaces-suffice b t e k p q =
+    let a = accepts b t e .acceptable in
+    let m = sym (events-of b t e) in
+    let ready = fitted (readReply b) 32 32768 (workFor 1024) t (record { found-is = e; has-space = rw m at (never-21 a); has-work = rw m at (never-22 a) }) in
+    only-23 (recordsIn b t) (t .events) 32 _ k p (rw (never-24 a) at (sym (then-given ready _) ∙ q))

@@ -6,22 +6,24 @@ use mathlib.Core.List.{List, [], _∷_, _++_, append-assoc}
 use native.Mathlib.Omega.{arith}
 use native.Mathlib.Numerals.{add-one}
 use borrow.Author.Tests.{lt-ltb, le-ltb, leb-true}
-use lib.Dec.{T, leb, eqb}
-use lib.ListN.{length, getD, take, drop, length-append, length-take, length-drop}
+use lib.Dec.{leb}
+use lib.ListN.{length, getD, take, drop, length-append, length-take, length-drop, length-replicate}
 use lib.Seq.{getD-append-add}
 use Rattle.slices.proofs.Cleared.{zeros-length}
 use Rattle.records.specs.declared.Record.{Record}
 use Rattle.records.specs.Records.{at}
 use Rattle.listing.specs.Lines.{refusedLine, headerLine, pairLine, putAt, Printed}
-use Rattle.trace.specs.Reading as reading
-use Rattle.trace.specs.Reading.{Reply, recordsIn, readReply}
-use Rattle.clocks.specs.Rows.{spaceFor}
-use Rattle.order.specs.Fill.{beginPosition, shortRow, chainsUsed}
+use Rattle.trace.specs.Reply.{refused, gives}
+use Rattle.trace.specs.Reading.{readReply, recordsRead}
+use Rattle.trace.proofs.Accepted.{records-read}
+use Rattle.trace.proofs.ReplyLaws.{same-given, passed, unless-given}
+use Rattle.order.specs.Lent.{workFor}
+use Rattle.order.proofs.LentLaws.{fits, filling}
 use Rattle.races.specs.declared.Listing.{Listing}
 use Rattle.races.specs.Paper.{listPaper, Lists}
-use Rattle.races.specs.Lists.{numbers, entry, pairsOf, shapeOf, markOf, listFor, ListReply, refused, listed, demand, listFilled, listTrace}
-use Rattle.races.specs.Lists.{listRead, listReply, listAfter, listAfterRead}
-use Rattle.report.specs.Text.{pairLines, replyLines, readLines, linesOf, putLines, afterLines, Prints, entryLine, entryLines, noClocks, noWork, noList}
+use Rattle.races.specs.declared.Summary.{Summary}
+use Rattle.races.specs.Lists.{numbers, entry, pairsOf, shapeOf, markOf, listFilled, listReady, listReply, listAfter}
+use Rattle.report.specs.Text.{pairLines, replyLines, programReply, linesOf, putLines, afterLines, Prints, entryLine, entryLines, noClocks, noWork, noList}
 
 -- one line, then the rest
 pub prints-none : (s : List ℕ) (at : ℕ) → Prints s at [] s at
@@ -109,81 +111,47 @@ module _ (tr : List Record) where
       ap₂ _∷_ (five before (a + 1) (b + 1) (at tr b .second) (shapeOf tr a b) (markOf tr a b) (numbers tr ps ++ rest) i h)
       (ap (λ l. entryLines l (suc i) (length ps)) (sym (append-assoc before e (numbers tr ps ++ rest))) ∙ entries-lines ps (before ++ e) rest (suc i) k)
 
--- the parts of a reply
-abbrev countOf : ListReply → ℕ
-countOf (refused n p) = 0
-countOf (listed e r c k) = k
-
-abbrev isListed : ListReply → Bool
-isListed (refused n p) = false
-isListed (listed e r c k) = true
-
 -- What the program's call of the short list gives, and its lines.
 module _ (b clocks′ work′ list′ : List ℕ) (r : Listing) (h : length b ≤ 32768) (l : Lists true b 32 noClocks clocks′ noWork work′ noList list′ r) where
   spaces : (length noClocks ≡ 32768) × (length noWork ≡ 1024) × (length noList ≡ 40960)
   spaces = (zeros-length 32768, zeros-length 1024, zeros-length 40960)
 
-  answer : listPaper r ≡ listRead true b (readReply b) 32 32768 1024 40960
-  unfolding listReply
+  answer : listPaper r ≡ programReply b
   answer = rw (spaces .0, spaces .1, spaces .2) at (l .answer)
 
-  list-after : list′ ≡ listAfterRead true b (readReply b) 32 32768 1024 noList
-  list-after = rw (spaces .0, spaces .1) at (l .list-after)
+  list-after : list′ ≡ listAfter (recordsRead b) (programReply b) (pairsOf (recordsRead b) true) noList
+  list-after = rw (spaces .0, spaces .1, spaces .2) at (l .list-after)
 
-  short-input : linesOf b ≡ readLines b (readReply b)
+  short-input : linesOf b ≡ replyLines (recordsRead b) (programReply b)
   unfolding linesOf
   short-input = rw (le-ltb 32768 (length b) h) refl
 
   -- a trace that is listed
-  module _ (tr : List Record) (m : ℕ) where
-    traced : (q : ListReply) → listTrace true tr m 32 32768 1024 40960 ≡ q → isListed q ≡ true
-        → (countOf q ≡ length (pairsOf tr true)) × (length (pairsOf tr true) ≤ 8192)
-    unfolding listTrace listFilled demand
-    traced q e y = go (spaceFor 32 m 32768) (leb m 1024) (eqb (shortRow tr 32) m) (listFor (length (pairsOf tr true)) 40960) refl e y
-      where
-        strange : false ≡ true → ⊥
-        strange z = subst T (sym z) tt
+  module _ (s : Summary) (p : listPaper r ≡ gives s) where
+    traced : (s .count ≡ length (pairsOf (recordsRead b) true)) × (length (pairsOf (recordsRead b) true) ≤ 8192)
+    unfolding listReply listReady listFilled
+    traced =
+        let g = filling b (listReady b 32 32768 1024) 32 _ s (sym p ∙ answer) in
+        let q = records-read b (g .trace) (fits (readReply b) 32 32768 (workFor 1024) (g .trace) (g .ready-is) .found-is) in
+        let v = passed _ _ _ _ s (g .answers) in
+        (rw q (ap (λ (x : Summary). x .count) (same-given (v .1))), rw q (leb-true _ 8192 (v .0)))
 
-        go : (x₁ x₂ x₃ x₄ : Bool) → listFor (length (pairsOf tr true)) 40960 ≡ x₄
-            → demand x₁ 21 0 (demand x₂ 22 0 (demand x₃ 23 (beginPosition tr (shortRow tr 32) + 1)
-            (demand x₄ 24 0 (listed m (length tr) (chainsUsed tr) (length (pairsOf tr true)))))) ≡ q
-            → isListed q ≡ true → (countOf q ≡ length (pairsOf tr true)) × (length (pairsOf tr true) ≤ 8192)
-        go true true true true f e y = (ap countOf (sym e), leb-true (length (pairsOf tr true)) 8192 f)
-        go true true true false f e y = absurd (strange (ap isListed e ∙ y))
-        go true true false x₄ f e y = absurd (strange (ap isListed e ∙ y))
-        go true false x₃ x₄ f e y = absurd (strange (ap isListed e ∙ y))
-        go false x₂ x₃ x₄ f e y = absurd (strange (ap isListed e ∙ y))
+    pub listed-few : s .count ≤ 8192
+    listed-few = omega (arith, traced .0, traced .1)
 
-  module _ (e n c k : ℕ) (p : listPaper r ≡ listed e n c k) where
-    pub listed-few : k ≤ 8192
-    unfolding listRead
-    listed-few = go (readReply b) (sym answer ∙ p)
-      where
-        go : (q : Reply) → listRead true b q 32 32768 1024 40960 ≡ listed e n c k → k ≤ 8192
-        go (reading.refused x y) f = absurd (subst T (sym (ap isListed f)) tt)
-        go (reading.accepted start x m) f = let (g, w) = traced (recordsIn b start x) m (listed e n c k) f refl in omega arith
-
-    pub listed-lines : linesOf b ≡ headerLine e n c k ∷ entryLines list′ 0 k
-    unfolding listRead readLines replyLines listAfterRead listAfter
-    listed-lines = short-input ∙ go (readReply b) (sym answer ∙ p) list-after
-      where
-        go : (q : Reply) → listRead true b q 32 32768 1024 40960 ≡ listed e n c k → list′ ≡ listAfterRead true b q 32 32768 1024 noList
-            → readLines b q ≡ headerLine e n c k ∷ entryLines list′ 0 k
-        go (reading.refused x y) f a = absurd (subst T (sym (ap isListed f)) tt)
-        go (reading.accepted start x m) f a =
-            let tr = recordsIn b start x in
-            let (g, w) = traced tr m (listed e n c k) f refl in
-            let ps = pairsOf tr true in
-            let lines = entries-lines tr ps [] (drop (5 * length ps) noList) 0 refl in
-            rw f (ap (λ ls. headerLine e n c k ∷ ls) (sym (ap₂ (λ i j. entryLines i 0 j) (a ∙ rw (spaces .2, f) refl) g ∙ lines)))
+    pub listed-lines : linesOf b ≡ headerLine (s .events) (s .records) (s .chains) (s .count) ∷ entryLines list′ 0 (s .count)
+    unfolding replyLines listAfter
+    listed-lines =
+        let tr = recordsRead b in
+        let ps = pairsOf tr true in
+        let e : gives s ≡ programReply b = sym p ∙ answer in
+        let lines = entries-lines tr ps [] (drop (5 * length ps) noList) 0 refl in
+        short-input ∙ rw (← e) (ap (λ ls. headerLine (s .events) (s .records) (s .chains) (s .count) ∷ ls)
+        (sym (ap₂ (λ i j. entryLines i 0 j) (list-after ∙ unless-given e noList _) (traced .0) ∙ lines)))
 
   pub refused-lines : (n p : ℕ) → listPaper r ≡ refused n p → linesOf b ≡ refusedLine n p ∷ []
-  unfolding listRead readLines replyLines
-  refused-lines n p f = short-input ∙ go (readReply b) (sym answer ∙ f)
-    where
-      go : (q : Reply) → listRead true b q 32 32768 1024 40960 ≡ refused n p → readLines b q ≡ refusedLine n p ∷ []
-      go (reading.refused x y) f = ap (λ z. replyLines [] z) f
-      go (reading.accepted start x m) f = rw f refl
+  unfolding replyLines
+  refused-lines n p f = let e : refused n p ≡ programReply b = sym f ∙ answer in short-input ∙ rw (← e) refl
 
 pub long-input : (b : List ℕ) → 32768 < length b → linesOf b ≡ refusedLine 13 0 ∷ []
 unfolding linesOf

@@ -7,10 +7,12 @@ use lib.Dec.{ltb}
 use lib.ListN.{length, getD, drop}
 use Rattle.records.specs.declared.Record.{Record}
 use Rattle.records.specs.Records.{at}
-use Rattle.trace.specs.Reading as reading
-use Rattle.trace.specs.Reading.{Reply, recordsIn, readReply}
+use Rattle.records.specs.declared.Trace.{Trace}
+use Rattle.trace.specs.Reply.{Reply, refused, gives}
+use Rattle.trace.specs.Reading.{recordsRead, Accepts}
+use Rattle.races.specs.declared.Summary.{Summary}
 use Rattle.slices.specs.Slices.{zeros}
-use Rattle.races.specs.Lists.{entryNumbers, ListReply, refused, listed, listTrace, pairsOf, shapeOf, markOf}
+use Rattle.races.specs.Lists.{entryNumbers, listReply, pairsOf, shapeOf, markOf}
 use Rattle.listing.specs.Lines.{headerLine, pairLine, refusedLine, putAt, afterLine}
 
 -- "then the short list: first, second, cell, shape (ww, wr or rw, first access then second), mark (open or covered)."; records are numbered from 1
@@ -19,23 +21,21 @@ pairLines tr [] = []
 pairLines tr ((a, b) ∷ ps) = pairLine (a + 1) (b + 1) (at tr b .second) (shapeOf tr a b) (markOf tr a b) ∷ pairLines tr ps
 
 -- "prints one header line .., then the short list"; "A refusal prints one line only"
-unfoldable pub replyLines : List Record → ListReply → List (List ℕ)
+unfoldable pub replyLines : List Record → Reply Summary → List (List ℕ)
 replyLines tr (refused n p) = refusedLine n p ∷ []
-replyLines tr (listed e r c k) = headerLine e r c k ∷ pairLines tr (pairsOf tr true)
+replyLines tr (gives s) = headerLine (s .events) (s .records) (s .chains) (s .count) ∷ pairLines tr (pairsOf tr true)
 
 -- "uses width 32 and spaces that never give 22 or 24": 32 × 1,024 clocks, 1,024 bytes, 8,192 entries
-unfoldable pub readLines : List ℕ → Reply → List (List ℕ)
-readLines b (reading.refused n p) = refusedLine n p ∷ []
-readLines b (reading.accepted start n m) = replyLines (recordsIn b start n) (listTrace true (recordsIn b start n) m 32 32768 1024 40960)
+abbrev pub programReply : List ℕ → Reply Summary
+programReply b = listReply true b 32 32768 1024 40960
 
 -- the sentence as a theorem, which adds that 21 is never given either: an accepted trace is refused by 23 alone
 abbrev pub SpacesSuffice : Type 0
-SpacesSuffice = (b : List ℕ) (start n m : ℕ) → readReply b ≡ reading.accepted start n m
-    → (k p : ℕ) → listTrace true (recordsIn b start n) m 32 32768 1024 40960 ≡ refused k p → k ≡ 23
+SpacesSuffice = (b : List ℕ) (t : Trace) → Accepts b t → (k p : ℕ) → programReply b ≡ refused k p → k ≡ 23
 
 -- "13: program only, more than 32,768 bytes."; "Order: 13, 1, 2, 3, .."
 unfoldable pub linesOf : List ℕ → List (List ℕ)
-linesOf b = cond (ltb 32768 (length b)) (refusedLine 13 0 ∷ []) (readLines b (readReply b))
+linesOf b = cond (ltb 32768 (length b)) (refusedLine 13 0 ∷ []) (replyLines (recordsRead b) (programReply b))
 
 -- the whole text
 unfoldable pub text : List (List ℕ) → List ℕ

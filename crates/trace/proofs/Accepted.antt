@@ -1,87 +1,82 @@
 -- What an accepted reply says, and what makes a reply accepted.
 -- Assumes nothing.
-use Prim.Native.Nat.{ℕ, zero, suc, min, _+_, _*_, _-_, _/_, _%_, _<_, _≤_}
+use Prim.Native.Nat.{ℕ, zero, suc, _+_, _*_, _-_, _/_, _%_, _<_, _≤_}
 use mathlib.Core.Path.{_≡_, refl, sym, ap, _∙_}
-use mathlib.Core.Bool.{Bool, true, false, _&&_, and-eq-true-iff}
-use mathlib.Core.List.{List, [], _∷_}
+use mathlib.Core.Bool.{_&&_, and-eq-true-iff}
+use mathlib.Core.List.{List, []}
 use mathlib.Core.Logic.{⊎-elim}
 use native.Mathlib.Omega.{arith}
-use native.Mathlib.Nat.{add-zero, zero-add, eq-or-lt-of-le}
+use native.Mathlib.Nat.{eq-or-lt-of-le}
 use borrow.Author.Tests.{leb-true, eqb-true, eq-eqb}
 use lib.Dec.{leb, eqb}
 use lib.ListN.{length, drop, length-drop, length-take, drop-of-length-le}
 use lib.Seq.{drop-cons}
 use Rattle.records.specs.declared.Record.{Record}
+use Rattle.records.specs.declared.Trace.{Trace}
 use Rattle.records.specs.Bytes.{decode, part}
 use Rattle.records.specs.Records.{noRecord, at, past, begins}
 use Rattle.trace.specs.Place.{between}
 use Rattle.trace.specs.Rule.{situation, rule}
-use Rattle.trace.specs.Reading.{Reply, refused, accepted, demand, orElse, closing, walk, distance, trailerReply, frameReply, recordsIn, recordsReply, readReply, Acceptable}
+use Rattle.trace.specs.Reply.{Reply, gives, demand, orElse, then}
+use Rattle.trace.specs.Reading.{closing, walk, distance, trailerReply, frameReply, recordsIn, readReply, recordsRead, Accepts, Acceptable}
 use Rattle.records.proofs.Decoded.{decoded-length}
 use Rattle.records.proofs.Records.{past-length}
-
--- an accepted reply passed the demand, and passed the record
-pub passed : (t : Bool) (n p : ℕ) (y : Reply) (s k m : ℕ) → accepted s k m ≡ demand t n p y → (t ≡ true) × (accepted s k m ≡ y)
-unfolding demand
-passed true n p y s k m e = (refl, e)
-passed false n p y s k m e = let z : _≡_ {A = ℕ} 0 1 = cc in absurd (omega arith)
-
-pub passed-record : (x p : ℕ) (y : Reply) (s k m : ℕ) → accepted s k m ≡ orElse x p y → (x ≡ 0) × (accepted s k m ≡ y)
-unfolding orElse
-passed-record zero p y s k m e = (refl, e)
-passed-record (suc x) p y s k m e = let z : _≡_ {A = ℕ} 0 1 = cc in absurd (omega arith)
-
-same-parts : (s n m s′ n′ m′ : ℕ) → accepted s n m ≡ accepted s′ n′ m′ → (s ≡ s′) × (n ≡ n′) × (m ≡ m′)
-same-parts s n m s′ n′ m′ e = (cc, cc, cc)
+use Rattle.trace.proofs.ReplyLaws.{passed, passed-record, same-given, given-by, unless-given}
 
 -- what the trailer accepts: at most 4,096 records, which end where the trailer starts
-pub record Framed (b : List ℕ) (start n : ℕ) : Type 0 where
-  pub few : n ≤ 4096
-  pub ends : start + 5 * n + 8 ≡ length b
+pub record Framed (b : List ℕ) (t : Trace) : Type 0 where
+  pub few : t .records ≤ 4096
+  pub ends : t .start + 5 * t .records + 8 ≡ length b
 
-pub framed : (b : List ℕ) (s n m : ℕ) → accepted s n m ≡ frameReply b → Framed b s n
+pub framed : (b : List ℕ) (t : Trace) → gives t ≡ frameReply b → Framed b t
 unfolding frameReply trailerReply
-framed b s n m e =
+framed b r e =
     let t = length b - 8 in
     let d = distance b t in
-    let p1 = passed _ _ _ _ s n m e in
-    let p2 = passed _ _ _ _ s n m (p1 .1) in
-    let p3 = passed _ _ _ _ s n m (p2 .1) in
-    let p4 = passed _ _ _ _ s n m (p3 .1) in
+    let p1 = passed _ _ _ _ r e in
+    let p2 = passed _ _ _ _ r (p1 .1) in
+    let p3 = passed _ _ _ _ r (p2 .1) in
+    let p4 = passed _ _ _ _ r (p3 .1) in
     let t1 = and-eq-true-iff (eqb (d % 5) 0 && leb d 20480) (leb d t) .0 (p4 .0) in
     let t2 = and-eq-true-iff (eqb (d % 5) 0) (leb d 20480) .0 (t1 .0) in
     let l = leb-true 8 (length b) (p1 .0) in
     let q1 = leb-true d t (t1 .1) in
     let q2 = leb-true d 20480 (t2 .1) in
     let q3 = eqb-true (d % 5) 0 (t2 .0) in
-    let q4 = same-parts _ _ _ _ _ _ (p4 .1) in
+    let q4 = same-given (p4 .1) in
+    let es : r .start ≡ t - d = ap (λ (x : Trace). x .start) q4 in
+    let en : r .records ≡ d / 5 = ap (λ (x : Trace). x .records) q4 in
     record { few = omega arith; ends = omega arith }
 
 pub part-length : (b : List ℕ) (s n : ℕ) → s + 5 * n ≤ length b → length (part b s n) ≡ 5 * n
 unfolding part
 part-length b s n h = simp (length-take, length-drop) (omega arith)
 
-pub records-length : (b : List ℕ) (s n : ℕ) → s + 5 * n ≤ length b → length (recordsIn b s n) ≡ n
+-- so many bytes hold so many records
+pub decoded : (b : List ℕ) (s n : ℕ) → s + 5 * n ≤ length b → length (decode (part b s n)) ≡ n
+decoded b s n h = let l = part-length b s n h in let d = decoded-length (part b s n) in omega arith
+
+pub records-length : {b : List ℕ} {t : Trace} → Framed b t → length (recordsIn b t) ≡ t .records
 unfolding recordsIn
-records-length b s n h = let l = part-length b s n h in let d = decoded-length (part b s n) in omega arith
+records-length {b} {t} f = let e = f .ends in decoded b (t .start) (t .records) (omega arith)
 
 -- the walk from record i on is accepted: each record from there passes its rule, and the trace closes after the last
 module _ (tr : List Record) (start m : ℕ) where
   abbrev Each : ℕ → Type 0
   Each i = (j : ℕ) → i ≤ j → j < length tr → rule (past tr j) (at tr j) ≡ 0
 
-  record Walked (i : ℕ) (x : Reply) : Type 0 where
+  record Walked (i : ℕ) (x : Reply Trace) : Type 0 where
     each : Each i
     closes : x ≡ closing start m (past tr (length tr))
 
-  walked : (k i s n e : ℕ) → i + k ≡ length tr → accepted s n e ≡ walk start m (past tr i) (drop i tr) → Walked i (accepted s n e)
+  walked : (k i : ℕ) (t : Trace) → i + k ≡ length tr → gives t ≡ walk start m (past tr i) (drop i tr) → Walked i (gives t)
   unfolding walk past
-  walked zero i s n e l q =
+  walked zero i t l q =
       let f : i ≡ length tr = omega arith in
       record { each = λ j a b. absurd (omega arith); closes = q ∙ simp (f, drop-of-length-le tr {i = length tr} (omega arith)) }
-  walked (suc k) i s n e l q =
-      let p = passed-record _ _ _ s n e (rw (drop-cons tr i noRecord (omega arith)) at q) in
-      let w = walked k (suc i) s n e (omega arith) (p .1) in
+  walked (suc k) i t l q =
+      let p = passed-record _ _ _ t (rw (drop-cons tr i noRecord (omega arith)) at q) in
+      let w = walked k (suc i) t (omega arith) (p .1) in
       record { each = λ j a b. ⊎-elim (λ z. rw (← z) (p .0)) (λ z. w .each j z b) (eq-or-lt-of-le a); closes = w .closes }
 
   -- and the other way: records that pass are walked to the end
@@ -95,44 +90,48 @@ module _ (tr : List Record) (start m : ℕ) where
       let w = walks k (suc i) (omega arith) (λ j a b. h j (omega arith) b) in
       rw (drop-cons tr i noRecord (omega arith), z) w
 
--- An accepted trace: the trailer's bounds, acceptable records, their number, and the number of begins.
-pub record Accepts (b : List ℕ) (start n m : ℕ) : Type 0 where
-  pub frame : Framed b start n
-  pub counts : length (recordsIn b start n) ≡ n
-  pub acceptable : Acceptable (recordsIn b start n)
-  pub begun : begins (past (recordsIn b start n) n) ≡ m
+-- An accepted trace is the one that the trailer names: its bounds, acceptable records, their number, and the number of begins.
+pub record AcceptedTrace (b : List ℕ) (t : Trace) : Type 0 where
+  pub named : gives t ≡ frameReply b
+  pub frame : Framed b t
+  pub counts : length (recordsIn b t) ≡ t .records
+  pub acceptable : Acceptable (recordsIn b t)
+  pub begun : begins (past (recordsIn b t) (t .records)) ≡ t .events
 
-accepts-from : (b : List ℕ) (s n m : ℕ) (x : Reply) → frameReply b ≡ x → accepted s n m ≡ recordsReply b x → Accepts b s n m
-unfolding recordsReply closing past
-accepts-from b s n m (refused k p) f q = let z : _≡_ {A = ℕ} 0 1 = cc in absurd (omega arith)
-accepts-from b s n m (accepted s′ n′ m′) f q =
-    let tr = recordsIn b s′ n′ in
-    let fr = framed b s′ n′ m′ (sym f) in
-    let ends = fr .ends in
-    let l = records-length b s′ n′ (omega arith) in
-    let w = walked tr s′ m′ (length tr) 0 s n m (omega arith) q in
-    let c1 = passed _ _ _ _ s n m (w .closes) in
-    let c2 = passed _ _ _ _ s n m (c1 .1) in
-    let o = same-parts _ _ _ _ _ _ (c2 .1) in
-    let en : n ≡ n′ = o .1 ∙ past-length tr (length tr) ∙ l in
+-- the walk over what the trailer names gives just that
+walked-whole : (b : List ℕ) (n t : Trace) → gives n ≡ frameReply b → gives t ≡ walk (n .start) (n .events) [] (recordsIn b n) → AcceptedTrace b t
+unfolding closing past
+walked-whole b n t f q =
+    let tr = recordsIn b n in
+    let fr = framed b n f in
+    let l = records-length fr in
+    let w = walked tr (n .start) (n .events) (length tr) 0 t (omega arith) q in
+    let c1 = passed _ _ _ _ t (w .closes) in
+    let c2 = passed _ _ _ _ t (c1 .1) in
+    let k = eqb-true _ _ (c2 .0) in
     let few = fr .few in
-    rw (o .0, en) (record {
+    let e : t ≡ n = same-given (c2 .1) ∙ (λ z. record { start = n .start; records = (past-length tr (length tr) ∙ l) z; events = k z }) in
+    rw e (record {
+      named = f;
       frame = fr;
       counts = l;
       acceptable = record { few = omega arith; passes = λ i h. w .each i (omega arith) h; closed = eqb-true _ _ (c1 .0) };
-      begun = rw l at (sym (o .2));
+      begun = rw l at k;
     })
 
-pub accepts : (b : List ℕ) (s n m : ℕ) → accepted s n m ≡ readReply b → Accepts b s n m
+pub accepts : (b : List ℕ) (t : Trace) → Accepts b t → AcceptedTrace b t
 unfolding readReply
-accepts b s n m e = accepts-from b s n m (frameReply b) refl e
+accepts b t e = let g = given-by (frameReply b) _ t e in walked-whole b (g .0) t (g .1) (g .2)
+
+pub records-read : (b : List ℕ) (t : Trace) → Accepts b t → recordsRead b ≡ recordsIn b t
+unfolding recordsRead
+records-read b t e = unless-given e [] _
 
 -- whatever passes every rule is accepted
-pub accepted-of : (b : List ℕ) (s n m : ℕ) → frameReply b ≡ accepted s n m → Acceptable (recordsIn b s n) → begins (past (recordsIn b s n) n) ≡ m → readReply b ≡ accepted s n m
-unfolding readReply recordsReply closing demand past
-accepted-of b s n m f a c =
-    let fr = framed b s n m (sym f) in
-    let ends = fr .ends in
-    let l = records-length b s n (omega arith) in
-    rw f (walks (recordsIn b s n) s m (length (recordsIn b s n)) 0 (omega arith) (λ j h k. a .passes j k)
-    ∙ simp (l, eq-eqb (situation (past (recordsIn b s n) n)) between (rw l at (a .closed)), c, eq-eqb m m refl, past-length (recordsIn b s n) n))
+pub accepted-of : (b : List ℕ) (t : Trace) → gives t ≡ frameReply b → Acceptable (recordsIn b t) → begins (past (recordsIn b t) (t .records)) ≡ t .events → Accepts b t
+unfolding readReply then closing demand past
+accepted-of b t f a c =
+    let tr = recordsIn b t in
+    let l = records-length (framed b t f) in
+    rw (← f) (sym (walks tr (t .start) (t .events) (length tr) 0 (omega arith) (λ j h k. a .passes j k)
+    ∙ simp (l, eq-eqb (situation (past tr (t .records))) between (rw l at (a .closed)), c, eq-eqb (t .events) (t .events) refl, past-length tr (t .records))))

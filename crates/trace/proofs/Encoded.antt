@@ -11,17 +11,20 @@ use lib.Dec.{leb, ltb, eqb}
 use lib.ListN.{length, getD, drop, length-append, take-append-drop, drop-of-length-le}
 use lib.Seq.{take-at, drop-at, drop-cons, drop-drop, getD-append-add, getD-drop, getD-take}
 use Rattle.records.specs.declared.Record.{Record}
+use Rattle.records.specs.declared.Trace.{Trace}
 use Rattle.slices.specs.Slices.{twoBytes}
 use Rattle.records.specs.Bytes.{recordAt, recordsFrom, decode, part}
 use Rattle.records.specs.Records.{at, past, isBegin}
 use Rattle.records.specs.Records.{begins as begin-count}
 use Rattle.trace.specs.Place.{place}
 use Rattle.trace.specs.Rule.{situation, numbered, rule}
-use Rattle.trace.specs.Reading.{Reply, refused, accepted, demand, closing, walk, distance, trailerReply, frameReply, recordsIn, recordsReply, readReply, Acceptable}
+use Rattle.trace.specs.Reply.{gives, demand, then}
+use Rattle.trace.specs.Reading.{walk, distance, trailerReply, frameReply, traceFrom, recordsIn, readReply, Accepts, Acceptable}
 use Rattle.records.specs.Encoding.{Bytes, low, high, encode, trailer, traceOf}
 use Rattle.records.proofs.Records.{past-length}
 use Rattle.records.proofs.Encoded.{Narrow, AllNarrow, encode-length, decode-encode, encode-decode, begins-most, low-high, low-of, high-of, four-bytes}
-use Rattle.trace.proofs.Accepted.{passed, passed-record, part-length, records-length, accepts, accepted-of}
+use Rattle.trace.proofs.ReplyLaws.{passed, same-given}
+use Rattle.trace.proofs.Accepted.{part-length, decoded, accepts, accepted-of}
 use Rattle.trace.proofs.Marked.{formed}
 use Rattle.trace.proofs.Blocks.{passing}
 use Rattle.records.proofs.Positions.{lt-or-ge}
@@ -93,7 +96,7 @@ module _ (tr : List Record) (few : length tr ≤ 4096) (p : List ℕ) where
       let t = length p + d in
       rw (trailer-at t 0 (omega arith), trailer-at (t + 1) 1 (omega arith), trailer-at (t + 2) 2 (omega arith), trailer-at (t + 2 + 1) 3 (omega arith)) (four-bytes d (omega arith))
 
-  frame-is : frameReply b ≡ accepted (length p) (length tr) m
+  frame-is : gives (traceFrom (length p) tr) ≡ frameReply b
   unfolding frameReply trailerReply demand trailer
   frame-is =
       let t = length p + d in
@@ -119,7 +122,7 @@ module _ (tr : List Record) (few : length tr ≤ 4096) (p : List ℕ) where
       )
 
   module _ (narrow : AllNarrow tr) where
-    pub records-narrow : recordsIn b (length p) (length tr) ≡ tr
+    pub records-narrow : recordsIn b (traceFrom (length p) tr) ≡ tr
     unfolding recordsIn part traceOf
     records-narrow =
         rw (drop-at p (traceOf tr) (length p) refl, take-at (encode tr) (trailer d m) (5 * length tr) (encode-length tr))
@@ -127,72 +130,54 @@ module _ (tr : List Record) (few : length tr ≤ 4096) (p : List ℕ) where
 
     -- the reader's reply is what the walk over the records gives
     pub read-narrow : readReply b ≡ walk (length p) m [] tr
-    unfolding readReply recordsReply
-    read-narrow = rw (frame-is, records-narrow)
+    unfolding readReply then
+    read-narrow = rw (← frame-is, records-narrow)
 
 -- the reader accepts the trace of an acceptable sequence of records, and reads the records
 module _ {tr : List Record} (a : Acceptable tr) (p : List ℕ) where
   narrow : AllNarrow tr
   narrow i h = passes-narrow (past tr i) (at tr i) (a .passes i h)
 
-  pub records-encoded : recordsIn (p ++ traceOf tr) (length p) (length tr) ≡ tr
+  pub records-encoded : recordsIn (p ++ traceOf tr) (traceFrom (length p) tr) ≡ tr
   records-encoded = records-narrow tr (a .few) p narrow
 
-  pub read-encoded : readReply (p ++ traceOf tr) ≡ accepted (length p) (length tr) (begin-count (past tr (length tr)))
+  pub read-encoded : Accepts (p ++ traceOf tr) (traceFrom (length p) tr)
   read-encoded =
       let e = records-encoded in
-      accepted-of (p ++ traceOf tr) (length p) (length tr) (begin-count (past tr (length tr))) (frame-is tr (a .few) p) (rw e a) (rw e)
-
--- what the walk accepts is what it was told
-walk-told : (start told : ℕ) (rest before : List Record) (s n m : ℕ) → accepted s n m ≡ walk start told before rest → (s ≡ start) × (n ≡ length rest + length before) × (m ≡ told)
-unfolding walk closing
-walk-told start told [] before s n m e =
-    let c1 = passed _ _ _ _ s n m e in
-    let c2 = passed _ _ _ _ s n m (c1 .1) in
-    let q : accepted s n m ≡ accepted start (length before) (begin-count before) = c2 .1 in
-    let k = eqb-true (begin-count before) told (c2 .0) in
-    let z : n ≡ length before = cc in
-    (cc, omega arith, cc)
-walk-told start told (r ∷ rest) before s n m e =
-    let w = walk-told start told rest (r ∷ before) s n m (passed-record _ _ _ s n m e .1) in
-    let k = w .1 in
-    (w .0, omega arith, w .2)
+      accepted-of (p ++ traceOf tr) (traceFrom (length p) tr) (frame-is tr (a .few) p) (rw e a) (rw e)
 
 -- what the trailer says
 record Closes (b : List ℕ) (s n m : ℕ) : Type 0 where
-  few : n ≤ 4096
   ends : length b ≡ s + 5 * n + 8
   mark : getD b (s + 5 * n + 7) 0 ≡ 167
   edition : getD b (s + 5 * n + 6) 0 ≡ 1
   back : distance b (s + 5 * n) ≡ 5 * n
   begun : twoBytes b (s + 5 * n + 4) ≡ m
 
-closes : (b : List ℕ) (s n m : ℕ) → accepted s n m ≡ frameReply b → Closes b s n m
+closes : (b : List ℕ) (r : Trace) → gives r ≡ frameReply b → Closes b (r .start) (r .records) (r .events)
 unfolding frameReply trailerReply
-closes b s n m e =
+closes b r e =
     let t = length b - 8 in
     let d = distance b t in
-    let p1 = passed _ _ _ _ s n m e in
-    let p2 = passed _ _ _ _ s n m (p1 .1) in
-    let p3 = passed _ _ _ _ s n m (p2 .1) in
-    let p4 = passed _ _ _ _ s n m (p3 .1) in
+    let p1 = passed _ _ _ _ r e in
+    let p2 = passed _ _ _ _ r (p1 .1) in
+    let p3 = passed _ _ _ _ r (p2 .1) in
+    let p4 = passed _ _ _ _ r (p3 .1) in
     let t1 = and-eq-true-iff (eqb (d % 5) 0 && leb d 20480) (leb d t) .0 (p4 .0) in
     let t2 = and-eq-true-iff (eqb (d % 5) 0) (leb d 20480) .0 (t1 .0) in
     let l = leb-true 8 (length b) (p1 .0) in
     let q1 = leb-true d t (t1 .1) in
-    let q2 = leb-true d 20480 (t2 .1) in
     let q3 = eqb-true (d % 5) 0 (t2 .0) in
-    let q : accepted s n m ≡ accepted (t - d) (d / 5) (twoBytes b (t + 4)) = p4 .1 in
-    let es : s ≡ t - d = cc in
-    let en : n ≡ d / 5 = cc in
-    let et : s + 5 * n ≡ t = omega arith in
+    let q = same-given (p4 .1) in
+    let es : r .start ≡ t - d = ap (λ (x : Trace). x .start) q in
+    let en : r .records ≡ d / 5 = ap (λ (x : Trace). x .records) q in
+    let et : r .start + 5 * r .records ≡ t = omega arith in
     record {
-      few = omega arith;
       ends = omega arith;
       mark = rw et (eqb-true (getD b (t + 7) 0) 167 (p2 .0));
       edition = rw et (eqb-true (getD b (t + 6) 0) 1 (p3 .0));
       back = rw et (omega arith);
-      begun = rw et (cc);
+      begun = rw et (sym (ap (λ (x : Trace). x .events) q));
     }
 
 -- the bytes that a trailer is read from are the trailer
@@ -237,38 +222,23 @@ module _ (b : List ℕ) (s n : ℕ) (fits : s + 5 * n ≤ length b) where
       rw (getD-take (5 * n) (drop s b) i 0 (omega arith), getD-drop s b i 0) (h (s + i) (omega arith))
 
   -- some bytes are the bytes of their records
-  pub part-encoded : Bytes b → encode (recordsIn b s n) ≡ part b s n
-  unfolding recordsIn
+  pub part-encoded : Bytes b → encode (decode (part b s n)) ≡ part b s n
   part-encoded h = encode-decode n (part b s n) (part-length b s n fits) (part-bytes h)
 
   after-part : drop s b ≡ part b s n ++ drop (s + 5 * n) b
   unfolding part
   after-part = sym (take-append-drop (5 * n) (drop s b)) ∙ rw (drop-drop (5 * n) s b)
 
-  closed-part : Bytes b → (m : ℕ) → begin-count (past (recordsIn b s n) n) ≡ m → drop (s + 5 * n) b ≡ trailer (5 * n) m → drop s b ≡ traceOf (recordsIn b s n)
+  closed-part : Bytes b → (m : ℕ) → begin-count (past (decode (part b s n)) n) ≡ m → drop (s + 5 * n) b ≡ trailer (5 * n) m → drop s b ≡ traceOf (decode (part b s n))
   unfolding traceOf
-  closed-part h m e back = after-part ∙ rw (records-length b s n fits, back, e, part-encoded h)
-
-read-from : (b : List ℕ) (x : Reply) → frameReply b ≡ x → recordsReply b x ≡ readReply b
-unfolding readReply
-read-from b x f = ap (recordsReply b) (sym f)
-
-one-from : (b : List ℕ) (s n m : ℕ) (x : Reply) → Bytes b → frameReply b ≡ x → accepted s n m ≡ recordsReply b x → drop s b ≡ traceOf (recordsIn b s n)
-unfolding recordsReply
-one-from b s n m (refused k p) h f q = let z : _≡_ {A = ℕ} 0 1 = cc in absurd (omega arith)
-one-from b s n m (accepted s′ n′ m′) h f q =
-    let w = walk-told s′ m′ (recordsIn b s′ n′) [] s n m q in
-    let c = closes b s′ n′ m′ (sym f) in
-    let ends = c .ends in
-    let l = records-length b s′ n′ (omega arith) in
-    let k = w .1 in
-    let en : n ≡ n′ = omega arith in
-    let begun = accepts b s n m (q ∙ read-from b (accepted s′ n′ m′) f) .begun in
-    rw (w .0, en)
-    (closed-part b s′ n′ (omega arith) h m′ (rw (w .0, en) at begun ∙ w .2)
-    (tail-trailer b h (s′ + 5 * n′) (5 * n′) m′ ends (c .mark) (c .edition) (c .back) (c .begun)))
+  closed-part h m e back = after-part ∙ rw (decoded b s n fits, back, e, part-encoded h)
 
 -- Each acceptable sequence of records has just one trace, counted from record 1.
-pub one-trace : (b : List ℕ) (s n m : ℕ) → Bytes b → readReply b ≡ accepted s n m → drop s b ≡ traceOf (recordsIn b s n)
-unfolding readReply
-one-trace b s n m h e = one-from b s n m (frameReply b) h refl (sym e)
+pub one-trace : (b : List ℕ) (t : Trace) → Bytes b → Accepts b t → drop (t .start) b ≡ traceOf (recordsIn b t)
+unfolding recordsIn
+one-trace b t h e =
+    let a = accepts b t e in
+    let c = closes b t (a .named) in
+    let ends = c .ends in
+    closed-part b (t .start) (t .records) (omega arith) h (t .events) (a .begun)
+    (tail-trailer b h (t .start + 5 * t .records) (5 * t .records) (t .events) ends (c .mark) (c .edition) (c .back) (c .begun))

@@ -4,12 +4,13 @@ use Prim.Native.Nat.{ℕ}
 use mathlib.Core.Path.{_≡_, refl}
 use mathlib.Core.List.{List, [], _∷_, _++_, map}
 use Rattle.records.specs.declared.Record.{Record}
+use Rattle.records.specs.declared.Trace.{Trace}
 use Rattle.records.specs.Bytes.{recordAt, recordsFrom, decode, part}
 use Rattle.records.specs.Records.{past, has, begun, ended, begins}
 use Rattle.trace.specs.Place.{place}
 use Rattle.trace.specs.Rule.{situation, owner, numbered, wellFormed, misplaced, again, early, judge, rule}
-use Rattle.trace.specs.Reading.{Reply, refused, accepted, demand, orElse, closing, walk, distance, trailerReply, frameReply, recordsIn, recordsReply}
-use Rattle.trace.specs.Reading.{readReply}
+use Rattle.trace.specs.Reply.{Reply, refused, gives, demand, orElse, then}
+use Rattle.trace.specs.Reading.{closing, walk, distance, trailerReply, frameReply, recordsIn, readReply}
 use Rattle.records.specs.Encoding.{encode, trailer}
 
 -- a record, by "Kind, first, second"
@@ -43,18 +44,18 @@ trailerT = 60 ∷ 0 ∷ 0 ∷ 0 ∷ 3 ∷ 0 ∷ 1 ∷ 167 ∷ []
 -- bytes, and the reply that document 01 gives for them
 pub record Case : Type 0 where
   pub bytes : List ℕ
-  pub reply : Reply
+  pub reply : Reply Trace
 
-abbrev of : List ℕ → Reply → Case
+abbrev of : List ℕ → Reply Trace → Case
 of b r = record { bytes = b; reply = r }
 
 -- these records, with the trailer that names distance d and m begins
-abbrev reads : List Record → ℕ → ℕ → Reply → Case
+abbrev reads : List Record → ℕ → ℕ → Reply Trace → Case
 reads tr d m r = of (encode tr ++ trailer d m) r
 
 abbrev pub cases : List Case
 cases =
-    of (7 ∷ 7 ∷ encode recordsT ++ trailerT) (accepted 2 12 3)
+    of (7 ∷ 7 ∷ encode recordsT ++ trailerT) (gives (record { start = 2; records = 12; events = 3 }))
     ∷ of (0 ∷ 0 ∷ 0 ∷ 0 ∷ 0 ∷ 0 ∷ 1 ∷ 168 ∷ []) (refused 1 0)
     ∷ of (0 ∷ 0 ∷ 0 ∷ 0 ∷ 0 ∷ 0 ∷ 2 ∷ 167 ∷ []) (refused 2 0)
     ∷ reads [] 5 0 (refused 3 0)
@@ -71,5 +72,5 @@ cases =
 -- every case gets the reply that it expects
 pub hold : map (λ (c : Case). readReply (c .bytes)) cases ≡ map (λ (c : Case). c .reply) cases
 unfolding encode trailer recordAt recordsFrom decode past has begun ended begins place situation owner numbered wellFormed misplaced again early judge rule
-    demand orElse closing walk distance trailerReply frameReply part recordsIn recordsReply readReply
+    demand orElse then closing walk distance trailerReply frameReply part recordsIn readReply
 hold = refl

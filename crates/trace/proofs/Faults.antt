@@ -1,14 +1,15 @@
 -- The rule for one record: refusals 4 to 6, and then 7 and 8.
 -- Assumes nothing.
-use Prim.Native.Nat.{ℕ, zero, suc}
-use mathlib.Core.Path.{_≡_, refl, _∙_, sym}
+use Prim.Native.Nat.{ℕ}
+use mathlib.Core.Path.{_≡_, refl, _∙_}
 use mathlib.Core.Bool.{Bool, true, false, cond, not}
 use native.Mathlib.Omega.{arith}
 use lib.Dec.{eqb}
 use Rattle.records.specs.declared.Record.{Record}
 use Rattle.trace.specs.Place.{place}
 use Rattle.trace.specs.Rule.{wellFormed, misplaced, again, early, judge}
-use Rattle.trace.specs.Paper.{Verdict, passes, fails, verdict}
+use Rattle.trace.specs.Reply.{refused, gives, orElse}
+use Rattle.trace.proofs.ReplyLaws.{stops}
 
 abbrev pub placeFault : ℕ → ℕ → Record → ℕ
 placeFault s e r = cond (eqb (place s (r .kind)) 3) 4 (cond (not (wellFormed r)) 5 (cond (misplaced s e r) 6 0))
@@ -39,10 +40,10 @@ module _ (s o : ℕ) (r : Record) (a b c : Bool) {n : ℕ} (e : n ≡ placeFault
   unfolding judge
   by-order h q = q ∙ goes-on (eqb (place s (r .kind)) 3) (not (wellFormed r)) (misplaced s o r) (orderFault r a b c) n e h
 
--- the verdict of a fault, and of none
-pub at-fault : (n : ℕ) {j : ℕ} (op next : ℕ) → n ≡ j → (n ≡ 0 → ⊥) → fails n op ≡ verdict j op next
-at-fault zero op next e h = absurd (h refl)
-at-fault (suc n) op next e h = rw (← e)
+-- the answer of a fault, and of none
+pub at-fault : (n : ℕ) {j : ℕ} (op next : ℕ) → n ≡ j → (n ≡ 0 → ⊥) → refused n op ≡ orElse j op (gives next)
+at-fault n op next e h = rw (← e) (stops n op (gives next) h)
 
-pub no-fault : {n j next after : ℕ} (op : ℕ) → n ≡ j → n ≡ 0 → next ≡ after → passes next ≡ verdict j op after
+pub no-fault : {n j next after : ℕ} (op : ℕ) → n ≡ j → n ≡ 0 → next ≡ after → gives next ≡ orElse j op (gives after)
+unfolding orElse
 no-fault op e z q = rw (← e, z, q)

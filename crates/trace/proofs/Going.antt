@@ -1,6 +1,6 @@
 -- The walk over the records, turn by turn: what the reader's loop keeps, and what each way out of it shows.
 -- Assumes nothing.
-use Prim.Native.Nat.{ℕ, zero, suc, _+_, _<_, _≤_}
+use Prim.Native.Nat.{ℕ, _+_, _<_, _≤_}
 use mathlib.Core.Path.{_≡_, refl, sym, _∙_}
 use mathlib.Core.Bool.{Bool, true, false, cond, and-eq-true-iff}
 use mathlib.Core.List.{List, [], _∷_}
@@ -18,17 +18,13 @@ use Rattle.trace.specs.Place.{between, inside, place}
 use Rattle.trace.specs.Rule.{situation, owner, numbered, wellFormed, misplaced, again, early, judge, rule}
 use Rattle.trace.specs.Status.{hasBegun, hasEnded, noted}
 use Rattle.trace.specs.Inner.{Inner, Accesses, none, more}
-use Rattle.trace.specs.Reading.{Reply, refused, accepted, demand, closing, orElse, walk}
+use Rattle.trace.specs.Reply.{refused, gives, demand, orElse}
+use Rattle.trace.specs.Reading.{closing, walk}
+use Rattle.trace.proofs.ReplyLaws.{stops}
 use Rattle.records.proofs.Records.{past-more, past-length}
 use Rattle.trace.proofs.Marked.{formed, judge-same}
 use Rattle.trace.proofs.StatusLaws.{Tracks, tracks-start, tracks-next}
 use Rattle.trace.proofs.Blocks.{passing, again-start, Running, running-start, running-next, body-begun}
-
--- a fault is what the walk stops at
-pub stops : (n op : ℕ) (y : Reply) → (n ≡ 0 → ⊥) → refused n op ≡ orElse n op y
-unfolding orElse
-stops zero op y h = absurd (h refl)
-stops (suc n) op y h = refl
 
 -- one turn of the walk
 walk-step : (tr : List Record) (start m i : ℕ) → i < length tr
@@ -73,7 +69,7 @@ in-range x h = let p = leb-true x 1024 (and-eq-true-iff (leb 1 x) (leb x 1024) .
 
 module _ {tr : List Record} {start m s e f i : ℕ} {st : List ℕ} (g : Going tr start m s e f i st) where
   -- the walk's end, after k records
-  pub going-end : {k : ℕ} → k ≡ length tr → k ≤ i → walk start m [] tr ≡ demand (eqb s between) 9 k (demand (eqb f m) 10 0 (accepted start k f))
+  pub going-end : {k : ℕ} → k ≡ length tr → k ≤ i → walk start m [] tr ≡ demand (eqb s between) 9 k (demand (eqb f m) 10 0 (gives (record { start = start; records = k; events = f })))
   unfolding walk closing
   going-end {k} z h =
       let w = g .within in

@@ -3,10 +3,9 @@
 use mathlib.Core.Path.{_≡_, refl}
 use native.Mathlib.Omega.{arith}
 use denote.Enum.Declared.{tagOf, declared}
-use Rattle.trace.specs.declared.Refusal.{Refusal}
 use Rattle.trace.specs.declared.Reading.{Reading}
 use Rattle.trace.specs.declared.Reading.the-variants.{Accepted, Refused}
-use Rattle.trace.specs.Reading.{Reply, refused}
+use Rattle.trace.specs.Reply.{refused}
 use Rattle.trace.specs.Paper.{paper, refusalIn}
 use Rattle.trace.proofs.Reading.{enum}
 

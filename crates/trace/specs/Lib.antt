@@ -1,3 +1,4 @@
+pub mod Reply
 pub mod Place
 pub mod Rule
 pub mod Inner

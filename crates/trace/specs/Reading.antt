@@ -1,43 +1,29 @@
 -- The reader's whole reply. "Order: 13, 1, 2, 3, then each record with 4 to 8 in turn, then 9, 10, 11, 12."
 -- Assumes nothing.
-use Prim.Native.Nat.{ℕ, zero, suc, _+_, _*_, _-_, _/_, _%_, _<_, _≤_}
+use Prim.Native.Nat.{ℕ, _+_, _*_, _-_, _/_, _%_, _<_, _≤_}
 use mathlib.Core.Path.{_≡_}
-use mathlib.Core.Bool.{Bool, true, false, _&&_}
+use mathlib.Core.Bool.{_&&_}
 use mathlib.Core.List.{List, [], _∷_}
 use lib.Dec.{leb, eqb}
 use lib.ListN.{getD, length}
 use Rattle.records.specs.declared.Record.{Record}
+use Rattle.records.specs.declared.Trace.{Trace}
 use Rattle.records.specs.Records.{at, past, begins}
 use Rattle.slices.specs.Slices.{twoBytes}
 use Rattle.records.specs.Bytes.{recordBytes, trailerBytes, decode, part}
 use Rattle.trace.specs.Place.{between}
 use Rattle.trace.specs.Rule.{situation, rule}
-
--- "A refusal gives its number and a record number, 0 where no record is concerned." An accepted trace says where record 1 starts in the bytes, how many
--- records and how many begins there are.
-pub data Reply : Type 0 where
-  refused : ℕ → ℕ → Reply
-  accepted : ℕ → ℕ → ℕ → Reply
-
--- next where the test passes, else refusal n with its place
-unfoldable pub demand : Bool → ℕ → ℕ → Reply → Reply
-demand true n p next = next
-demand false n p next = refused n p
-
--- a record's refusal, or next where it passes
-unfoldable pub orElse : ℕ → ℕ → Reply → Reply
-orElse zero p next = next
-orElse (suc n) p next = refused (suc n) p
+use Rattle.trace.specs.Reply.{Reply, gives, demand, orElse, then, unless}
 
 -- The trace stops after the records before; the trailer names m begins. "9: the trace stops inside an event action or after a join. 10: begins differ from
 -- the trailer's number."
-unfoldable pub closing : ℕ → ℕ → List Record → Reply
+unfoldable pub closing : ℕ → ℕ → List Record → Reply Trace
 closing start m before =
     demand (eqb (situation before) between) 9 (length before)
-    (demand (eqb (begins before) m) 10 0 (accepted start (length before) (begins before)))
+    (demand (eqb (begins before) m) 10 0 (gives (record { start = start; records = length before; events = begins before })))
 
 -- each record in turn, after the records before, the latest first
-unfoldable pub walk : ℕ → ℕ → List Record → List Record → Reply
+unfoldable pub walk : ℕ → ℕ → List Record → List Record → Reply Trace
 walk start m before [] = closing start m before
 walk start m before (r ∷ rest) = orElse (rule before r) (length before + 1) (walk start m (r ∷ before) rest)
 
@@ -47,27 +33,35 @@ distance b t = twoBytes b t + 65536 * twoBytes b (t + 2)
 
 -- The trailer, which starts at t and names the distance d: "1: fewer than 8 bytes, or last byte not hex A7. 2: edition not 1. 3: distance not a multiple of 5,
 -- above 20,480, or more than the bytes before the trailer." Its reply is where record 1 starts, how many records and the number of begins it names.
-unfoldable pub trailerReply : List ℕ → ℕ → ℕ → Reply
+unfoldable pub trailerReply : List ℕ → ℕ → ℕ → Reply Trace
 trailerReply b t d =
     demand (eqb (getD b (t + 7) 0) 167) 1 0
     (demand (eqb (getD b (t + 6) 0) 1) 2 0
     (demand (eqb (d % recordBytes) 0 && leb d 20480 && leb d t) 3 0
-    (accepted (t - d) (d / recordBytes) (twoBytes b (t + 4)))))
+    (gives (record { start = t - d; records = d / recordBytes; events = twoBytes b (t + 4) }))))
 
 -- "The trace closes with an 8-byte trailer that points back"
-unfoldable pub frameReply : List ℕ → Reply
+unfoldable pub frameReply : List ℕ → Reply Trace
 frameReply b = demand (leb trailerBytes (length b)) 1 0 (trailerReply b (length b - trailerBytes) (distance b (length b - trailerBytes)))
 
--- the n records that start at start
-unfoldable pub recordsIn : List ℕ → ℕ → ℕ → List Record
-recordsIn b start n = decode (part b start n)
+-- where record 1 starts, how many records and how many begins there are, of the records tr
+abbrev pub traceFrom : ℕ → List Record → Trace
+traceFrom start tr = record { start = start; records = length tr; events = begins (past tr (length tr)) }
 
-unfoldable pub recordsReply : List ℕ → Reply → Reply
-recordsReply b (refused n p) = refused n p
-recordsReply b (accepted start n m) = walk start m [] (recordsIn b start n)
+-- the records of a trace
+unfoldable pub recordsIn : List ℕ → Trace → List Record
+recordsIn b t = decode (part b (t .start) (t .records))
 
-unfoldable pub readReply : List ℕ → Reply
-readReply b = recordsReply b (frameReply b)
+unfoldable pub readReply : List ℕ → Reply Trace
+readReply b = then (frameReply b) (λ t. walk (t .start) (t .events) [] (recordsIn b t))
+
+-- the records that were read, none where the trace is refused
+unfoldable pub recordsRead : List ℕ → List Record
+recordsRead b = unless (readReply b) [] (λ t. recordsIn b t)
+
+-- "A trace is accepted when no refusal of the trace itself applies, so far 1 to 10"
+abbrev pub Accepts : List ℕ → Trace → Type 0
+Accepts b t = gives t ≡ readReply b
 
 -- A sequence of records that a trace can hold: "At most 4,096 records", each passes its rule after those before it, and the last leaves the trace between event
 -- actions.

@@ -10,7 +10,8 @@ ghost use Prim.Native.Nat.{_+_, _*_, _-_, _/_, _≤_};
 ghost use lib.ListN.{length};
 ghost use Rattle.slices.specs.Slices.{twoBytes};
 ghost use Rattle.records.specs.Bytes.{recordBytes, trailerBytes};
-ghost use Rattle.trace.specs.Reading.{accepted, orElse, distance, trailerReply, frameReply};
+ghost use Rattle.trace.specs.Reply.{gives, orElse};
+ghost use Rattle.trace.specs.Reading.{distance, trailerReply, frameReply};
 ghost use Rattle.trace.specs.Paper.{paper};
 
 // The distance from the trailer's start, at, back to record 1.
@@ -24,8 +25,8 @@ fn distance_at(bytes: &[u8], at: usize) -> usize
 // The first of refusals 1 to 3 that applies to the trailer at, which names the distance d, or 0.
 fn fault(bytes: &[u8], at: usize, d: usize) -> u16
     requires { ⌜ at + trailerBytes ≤ length (now bytes) ⌝ }
-    ensures { λ n. ⌜ (orElse n 0 (accepted (at - d) (d / recordBytes) (twoBytes (now (bytes .entry)) (at + 4))) ≡ trailerReply (now (bytes .entry)) at d) ×
-        (n ≡ 0 → d ≤ at) ⌝ }
+    ensures { λ n. ⌜ (orElse n 0 (gives (record { start = at - d; records = d / recordBytes; events = twoBytes (now (bytes .entry)) (at + 4) }))
+        ≡ trailerReply (now (bytes .entry)) at d) × (n ≡ 0 → d ≤ at) ⌝ }
 {
     if bytes[at + 7] != 167 {
         return crate::NO_TRAILER;

@@ -10,7 +10,8 @@ use records::Trace;
 use records::access;
 ghost use mathlib.Core.Path.{_≡_};
 ghost use Prim.Native.Nat.{_≤_};
-ghost use Rattle.trace.specs.Reading.{refused, accepted, readReply};
+ghost use Rattle.trace.specs.Reply.{refused, gives};
+ghost use Rattle.trace.specs.Reading.{readReply};
 ghost use Rattle.trace.specs.Paper.{paper, refusalIn};
 
 // A refusal: its number and a record number, 0 where no record is concerned.
@@ -81,7 +82,7 @@ pub(crate) fn refuse(number: u16, op: usize) -> Reading
 }
 
 pub(crate) fn accept(start: usize, records: usize, events: usize) -> Reading
-    ensures { λ r. ⌜ paper r ≡ accepted start records events ⌝ }
+    ensures { λ r. ⌜ paper r ≡ gives (record { start = start; records = records; events = events }) ⌝ }
 {
     Reading::Accepted(Trace {
         start: start,

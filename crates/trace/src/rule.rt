@@ -10,7 +10,8 @@ ghost use mathlib.Core.Bool.{cond, not};
 ghost use lib.Dec.{eqb};
 ghost use Rattle.trace.specs.Place.{place};
 ghost use Rattle.trace.specs.Rule.{numbered, wellFormed, misplaced, again, early, judge};
-ghost use Rattle.trace.specs.Paper.{checkedPaper, verdict};
+ghost use Rattle.trace.specs.Reply.{gives, orElse};
+ghost use Rattle.trace.specs.Paper.{checkedPaper};
 
 pub(crate) fn is_numbered(x: u16) -> bool
     ensures { λ r. ⌜ r ≡ numbered x ⌝ }
@@ -139,7 +140,8 @@ pub fn check(
     second_begun: bool,
     second_ended: bool,
 ) -> Checked
-    ensures { λ c. ⌜ checkedPaper c ≡ verdict (judge situation (owner .0) r «first_begun» «second_begun» «second_ended») (op .0) (place situation (r .kind)) ⌝ }
+    ensures { λ c. ⌜ checkedPaper c
+        ≡ orElse (judge situation (owner .0) r «first_begun» «second_begun» «second_ended») (op .0) (gives (place situation (r .kind))) ⌝ }
 {
     let places = place::table();
     let next = place::next(&places, situation, r.kind);

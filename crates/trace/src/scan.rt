@@ -21,13 +21,15 @@ ghost use Rattle.trace.specs.Place.{place};
 ghost use Rattle.trace.specs.Rule.{again, early};
 ghost use Rattle.trace.specs.Inner.{Inner, Accesses};
 ghost use Rattle.trace.specs.Status.{hasBegun, hasEnded, noted};
-ghost use Rattle.trace.specs.Reading.{accepted, demand, walk};
+ghost use Rattle.trace.specs.Reply.{gives, demand};
+ghost use Rattle.trace.specs.Reading.{walk};
 ghost use Rattle.trace.specs.Paper.{paper};
 
 // The trace ends after that many records, `found` of them begins, in that situation.
 fn finish(records: usize, start: usize, events: usize, now_in: u8, found: usize) -> Reading
     requires { ⌜ records ≤ 4096 ⌝ }
-    ensures { λ r. ⌜ paper r ≡ demand (eqb «now_in» 0) 9 records (demand (eqb found events) 10 0 (accepted start records found)) ⌝ }
+    ensures { λ r. ⌜ paper r ≡ demand (eqb «now_in» 0) 9 records
+        (demand (eqb found events) 10 0 (gives (record { start = start; records = records; events = found }))) ⌝ }
 {
     if now_in != 0 {
         return refuse(crate::STOPS_INSIDE, records);

@@ -1,7 +1,8 @@
 -- `job_order::jco_ask_pair` meets its contract.
 -- Assumes nothing.
 use mathlib.Core.Path.{ap, _∙_}
-use Rattle.pair.specs.Pair.{PairReply}
+use Rattle.trace.specs.Reply.{Reply}
+use Rattle.pair.specs.Pair.{PairMark}
 use Rattle.job_order.specs.Calls.{pairNumbers}
 use borrow.Author.Needs.{needs}
 use Rattle.job_order.proofs.jco_ask_pair.Statement.{statement}
@@ -25,7 +26,7 @@ same-length-3 c = search needs
 returns : tie.Need-returns
 returns c =
     let asks = c .before .before .before .before .before .before .before .ask-pair .ensures in
-    record { given = c .pair .ensures .0 ∙ ap (λ (r : PairReply). pairNumbers r (c .pair .result .count)) (asks .answer); clocks-after = asks .clocks-after; work-after = asks .work-after; list-after = rw (c .pair .ensures .1) (asks .list-after) }
+    record { given = c .pair .ensures .0 ∙ ap (λ (r : Reply PairMark). pairNumbers r (c .pair .result .count)) (asks .answer); clocks-after = asks .clocks-after; work-after = asks .work-after; list-after = rw (c .pair .ensures .1) (asks .list-after) }
 
 pub jco-ask-pair-spec : {M : Type 1} → statement M
 jco-ask-pair-spec =

@@ -28,7 +28,7 @@ refusal-of-requires c κs = search needs
 returns : tie.Need-returns
 returns c =
     let e = sym (c .before .before .before .read-within .ensures) ∙ sym (upward (c .before .before .before .read-within .result) (c .before .before .match .keys2)) in
-    fills _ _ _ _ noChains [] [] _ noTrace (stopped _ _ _ _ _ _ _ _ _ _ _ _ (simp (c .refusal-of .ensures)) refl refl e)
+    fills _ _ _ _ noChains [] [] _ noTrace (stopped _ _ _ _ _ _ _ _ _ _ (simp (c .refusal-of .ensures)) refl refl e)
 
 numbers-1024-requires : tie.Need-numbers-1024-requires
 numbers-1024-requires c κs = search needs
@@ -47,9 +47,9 @@ fill-rows-requires c κs =
     let a = c .before .before .before .before .before .before .before .before .before .before .before .before .args in
     let t = c .before .before .before .before .before .before .before .reading .given .0 .0 in
     let b = now (a .bytes) in
-    let g = fitting b _ _ _ _ _ (t .start) (t .records) (t .events) (sym (ap paper (c .before .before .before .before .before .before .before .reading .given .1)) ∙ c .before .before .before .before .before .before .before .before .before .read-within .ensures) in (
-      read-acceptable b (t .start) (t .records) (t .events) (g .read) _ (c .before .before .before .records .ensures),
-      read-events b (t .start) (t .records) (t .events) (g .read) _ (c .before .before .before .records .ensures),
+    let g = fitting b _ _ _ _ _ t (sym (ap paper (c .before .before .before .before .before .before .before .reading .given .1)) ∙ c .before .before .before .before .before .before .before .before .before .read-within .ensures) in (
+      read-acceptable b t (g .read) _ (c .before .before .before .records .ensures),
+      read-events b t (g .read) _ (c .before .before .before .records .ensures),
       g .has-space,
       c .before .before .before .before .before .numbers-1024 .ensures,
     )
@@ -62,8 +62,9 @@ returns-2 c =
     let a = c .before .before .before .before .before .before .before .before .before .before .before .before .before .before .before .before .args in
     let t = c .before .before .before .before .before .before .before .before .before .before .before .reading .given .0 .0 in
     let b = now (a .bytes) in
-    let g = fitting b _ _ _ _ _ (t .start) (t .records) (t .events) (sym (ap paper (c .before .before .before .before .before .before .before .before .before .before .before .reading .given .1)) ∙ c .before .before .before .before .before .before .before .before .before .before .before .before .before .read-within .ensures) in
-    fills _ _ _ _ _ [] _ _ _ (passed b (t .start) (t .records) (t .events) (g .read) _ _ _ _ (now (a .clocks)) _ (g .has-records) (g .has-space) (g .has-room) _ _ _ _ _ _ (records-are b (t .start) (t .records) (t .events) (g .read) _ (c .before .before .before .before .before .before .before .records .ensures)) (c .before .before .before .fill-rows .ensures) refl)
+    let e = sym (ap paper (c .before .before .before .before .before .before .before .before .before .before .before .reading .given .1)) ∙ c .before .before .before .before .before .before .before .before .before .before .before .before .before .read-within .ensures in
+    let g = fitting b _ _ _ _ _ t e in
+    fills _ _ _ _ _ [] _ _ _ (passed b _ _ (now (a .clocks)) _ t e _ _ _ _ _ (records-are b t (g .read) _ (c .before .before .before .before .before .before .before .records .ensures)) (c .before .before .before .fill-rows .ensures))
 
 pub fill-spec : {M : Type 1} → statement M
 fill-spec =

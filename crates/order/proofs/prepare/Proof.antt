@@ -7,7 +7,7 @@ use Rattle.order.specs.Paper.{fillPaper}
 use Rattle.trace.specs.Paper.{paper}
 use Rattle.trace.proofs.Upward.{upward}
 use native.Mathlib.Omega.{arith}
-use mathlib.Core.Path.{refl, sym, ap, _∙_}
+use mathlib.Core.Path.{sym, ap, _∙_}
 use denote.Ref.{now}
 use borrow.Author.Needs.{needs}
 use Rattle.order.proofs.prepare.Statement.{statement}
@@ -34,7 +34,7 @@ unfilled-requires c κs = search needs
 returns : tie.Need-returns
 returns c =
     let e = sym (c .before .before .before .before .read-within .ensures) ∙ sym (upward (c .before .before .before .before .read-within .result) (c .before .before .before .match .keys2)) in
-    stopped _ _ _ _ _ _ _ _ _ _ _ _ (ap fillPaper (c .unfilled .ensures .0) ∙ simp (c .before .refusal-of .ensures)) (c .unfilled .ensures .1) (cleared-whole (now (c .before .before .before .before .before .before .before .before .before .args .of)) (omega arith) (c .before .before .before .before .before .clear .ensures)) e
+    stopped _ _ _ _ _ _ _ _ _ _ (ap fillPaper (c .unfilled .ensures .0) ∙ simp (c .before .refusal-of .ensures)) (c .unfilled .ensures .1) (cleared-whole (now (c .before .before .before .before .before .before .before .before .before .args .of)) (omega arith) (c .before .before .before .before .before .clear .ensures)) e
 
 records-requires : tie.Need-records-requires
 records-requires c κs = search needs
@@ -44,9 +44,9 @@ fill-rows-requires c κs =
     let a = c .before .before .before .before .before .before .before .before .before .before .before .before .args in
     let t = c .before .before .before .before .before .reading .given .0 .0 in
     let b = now (a .bytes) in
-    let g = fitting b _ _ _ _ _ (t .start) (t .records) (t .events) (sym (ap paper (c .before .before .before .before .before .reading .given .1)) ∙ c .before .before .before .before .before .before .before .read-within .ensures) in (
-      read-acceptable b (t .start) (t .records) (t .events) (g .read) _ (c .before .before .before .records .ensures),
-      read-events b (t .start) (t .records) (t .events) (g .read) _ (c .before .before .before .records .ensures),
+    let g = fitting b _ _ _ _ _ t (sym (ap paper (c .before .before .before .before .before .reading .given .1)) ∙ c .before .before .before .before .before .before .before .read-within .ensures) in (
+      read-acceptable b t (g .read) _ (c .before .before .before .records .ensures),
+      read-events b t (g .read) _ (c .before .before .before .records .ensures),
       g .has-space,
       cleared-whole (now (a .of)) (omega arith) (c .before .before .before .before .before .before .before .before .clear .ensures),
     )
@@ -59,8 +59,9 @@ returns-2 c =
     let a = c .before .before .before .before .before .before .before .before .before .before .before .before .before .before .before .args in
     let t = c .before .before .before .before .before .before .before .before .reading .given .0 .0 in
     let b = now (a .bytes) in
-    let g = fitting b _ _ _ _ _ (t .start) (t .records) (t .events) (sym (ap paper (c .before .before .before .before .before .before .before .before .reading .given .1)) ∙ c .before .before .before .before .before .before .before .before .before .before .read-within .ensures) in
-    passed b (t .start) (t .records) (t .events) (g .read) _ _ _ _ (now (a .clocks)) _ (g .has-records) (g .has-space) (g .has-room) _ _ _ _ _ _ (records-are b (t .start) (t .records) (t .events) (g .read) _ (c .before .before .before .before .before .before .records .ensures)) (c .before .before .fill-rows .ensures) refl
+    let e = sym (ap paper (c .before .before .before .before .before .before .before .before .reading .given .1)) ∙ c .before .before .before .before .before .before .before .before .before .before .read-within .ensures in
+    let g = fitting b _ _ _ _ _ t e in
+    passed b _ _ (now (a .clocks)) _ t e _ _ _ _ _ (records-are b t (g .read) _ (c .before .before .before .before .before .before .records .ensures)) (c .before .before .fill-rows .ensures)
 
 pub prepare-spec : {M : Type 1} → statement M
 prepare-spec =

@@ -1,8 +1,9 @@
 -- `order::read_within` meets its contract.
 -- Assumes nothing.
 use Rattle.order.proofs.EntryLaws.{refused-reading}
-use Rattle.order.specs.Prepare.{within, readWithin}
-use Rattle.trace.specs.Reading as reading
+use Rattle.order.specs.Lent.{asking, spaces, spaced}
+use Rattle.order.specs.Prepare.{readWithin}
+use Rattle.trace.specs.Reply.{demand, then}
 use Rattle.trace.specs.Paper.{paper}
 use borrow.Author.Tests.{not-true, not-false, le-leb, lt-leb}
 use mathlib.Core.Path.{sym, ap, _∙_}
@@ -21,7 +22,7 @@ enum-told : tie.Need-enum-told
 enum-told c = search needs
 
 returns : tie.Need-returns
-unfolding readWithin within
+unfolding readWithin asking spaced then
 returns c =
     let e = refused-reading (now (c .before .before .before .before .args .bytes)) (c .before .before .read .result) (c .before .before .read .ensures) (c .before .match .keys2) in
     c .before .before .read .ensures ∙ rw e
@@ -30,7 +31,7 @@ has-records-requires : tie.Need-has-records-requires
 has-records-requires c κs = search needs
 
 returns-2 : tie.Need-returns-2
-unfolding readWithin within reading.demand
+unfolding readWithin asking spaced spaces then demand
 returns-2 c =
     let e = sym (ap paper (c .before .before .before .reading .given .1)) ∙ c .before .before .before .before .before .read .ensures in
     let records = sym (c .before .has-records .ensures) ∙ not-true (c .before .has-records .result) (c .if1 .taken) in
@@ -40,7 +41,7 @@ has-space-requires : tie.Need-has-space-requires
 has-space-requires c κs = search needs
 
 returns-3 : tie.Need-returns-3
-unfolding readWithin within reading.demand
+unfolding readWithin asking spaced spaces then demand
 returns-3 c =
     let e = sym (ap paper (c .before .before .before .before .before .reading .given .1)) ∙ c .before .before .before .before .before .before .before .read .ensures in
     let records = sym (c .before .before .before .has-records .ensures) ∙ not-false (c .before .before .before .has-records .result) (c .before .before .if1 .left) in
@@ -48,7 +49,7 @@ returns-3 c =
     rw (← e, records, space)
 
 returns-4 : tie.Need-returns-4
-unfolding readWithin within reading.demand
+unfolding readWithin asking spaced spaces then demand
 returns-4 c =
     let e = sym (ap paper (c .before .before .before .before .before .before .before .reading .given .1)) ∙ c .before .before .before .before .before .before .before .before .before .read .ensures in
     let records = sym (c .before .before .before .before .before .has-records .ensures) ∙ not-false (c .before .before .before .before .before .has-records .result) (c .before .before .before .before .if1 .left) in
@@ -56,7 +57,7 @@ returns-4 c =
     rw (← e, records, space, lt-leb _ _ (c .if3 .taken))
 
 returns-5 : tie.Need-returns-5
-unfolding readWithin within reading.demand
+unfolding readWithin asking spaced spaces then demand
 returns-5 c =
     let e = sym (ap paper (c .before .before .before .before .before .before .before .reading .given .1)) ∙ c .before .before .before .before .before .before .before .before .before .read .ensures in
     let records = sym (c .before .before .before .before .before .has-records .ensures) ∙ not-false (c .before .before .before .before .before .has-records .result) (c .before .before .before .before .if1 .left) in

@@ -6,8 +6,7 @@ use mathlib.Core.Path.{refl, sym, ap}
 use Rattle.order.specs.Paper.{fillPaper}
 use Rattle.order.proofs.Upward.{upward}
 use Rattle.races.proofs.FilledLaws.{of-length}
-use Rattle.races.proofs.PreparedLaws.{marks-cleared}
-use Rattle.pair.proofs.PairEnds.{not-asked, askable}
+use Rattle.pair.proofs.PairEnds.{for-pair, not-asked, askable}
 use borrow.Author.Needs.{needs}
 use Rattle.pair.proofs.ask_pair.Statement.{statement}
 use Rattle.pair.proofs.ask_pair.Tie as tie
@@ -48,18 +47,16 @@ same-length-2 c = search needs
 returns : tie.Need-returns
 returns c =
     let s = c .before .before .before .before .before .before .before .before .before .before .before .before .before .before .before .before .before .before .before .before .before .before in
-    let p = c .before .before .before .before .before .before .before .before .before .before .prepare .ensures in
-    let w = marks-cleared _ p (c .before .before .before .before .before .clear .ensures) in
+    let p = for-pair (s .args .a .0) (s .args .b .0) _ (c .before .before .before .before .before .before .before .before .before .before .before .before .before .before .before .smaller .ensures) (c .before .before .before .before .before .before .before .before .before .before .before .before .before .before .larger .ensures) (c .before .before .before .before .before .before .before .before .before .before .prepare .ensures) in
     not-asked (now (s .args .bytes)) (s .args .a .0) (s .args .b .0) (s .args .width) (now (s .args .clocks)) _ (now (s .args .work)) _ _ (now (s .args .list)) _ _
-    (c .before .before .before .before .before .before .before .before .before .before .before .before .before .before .before .smaller .ensures) (c .before .before .before .before .before .before .before .before .before .before .before .before .before .before .larger .ensures) p w _ _ (upward (c .before .before .before .before .before .before .before .before .before .before .prepare .result .answer) (c .before .before .match .keys2)) _ (simp (c .refusal-of .ensures))
+    p (c .before .before .before .before .before .clear .ensures) _ _ (upward (c .before .before .before .before .before .before .before .before .before .before .prepare .result .answer) (c .before .before .match .keys2)) _ (simp (c .refusal-of .ensures))
 
 sub-i : tie.Need-sub-i
 sub-i c =
     let s = c .before .before .before .before .before .before .before .before .before .before .before .before .before .before .before .before .before .before .before .before .before .before .before in
-    let p = c .before .before .before .before .before .before .before .before .before .before .before .prepare .ensures in
-    let w = marks-cleared _ p (c .before .before .before .before .before .before .clear .ensures) in
+    let p = for-pair (s .args .a .0) (s .args .b .0) _ (c .before .before .before .before .before .before .before .before .before .before .before .before .before .before .before .before .smaller .ensures) (c .before .before .before .before .before .before .before .before .before .before .before .before .before .before .before .larger .ensures) (c .before .before .before .before .before .before .before .before .before .before .before .prepare .ensures) in
     let l = askable (now (s .args .bytes)) (s .args .a .0) (s .args .b .0) (s .args .width) (now (s .args .clocks)) _ (now (s .args .work)) _ _ (now (s .args .list)) _ _
-    (c .before .before .before .before .before .before .before .before .before .before .before .before .before .before .before .before .smaller .ensures) (c .before .before .before .before .before .before .before .before .before .before .before .before .before .before .before .larger .ensures) p w _ (ap fillPaper (c .before .before .answer .given .1)) _ refl in
+    p (c .before .before .before .before .before .before .clear .ensures) _ (ap fillPaper (c .before .before .answer .given .1)) _ refl in
     l .both-in .first
 
 cast-i : tie.Need-cast-i
@@ -68,10 +65,9 @@ cast-i c = search needs
 sub-j : tie.Need-sub-j
 sub-j c =
     let s = c .before .before .before .before .before .before .before .before .before .before .before .before .before .before .before .before .before .before .before .before .before .before .before .before in
-    let p = c .before .before .before .before .before .before .before .before .before .before .before .before .prepare .ensures in
-    let w = marks-cleared _ p (c .before .before .before .before .before .before .before .clear .ensures) in
+    let p = for-pair (s .args .a .0) (s .args .b .0) _ (c .before .before .before .before .before .before .before .before .before .before .before .before .before .before .before .before .before .smaller .ensures) (c .before .before .before .before .before .before .before .before .before .before .before .before .before .before .before .before .larger .ensures) (c .before .before .before .before .before .before .before .before .before .before .before .before .prepare .ensures) in
     let l = askable (now (s .args .bytes)) (s .args .a .0) (s .args .b .0) (s .args .width) (now (s .args .clocks)) _ (now (s .args .work)) _ _ (now (s .args .list)) _ _
-    (c .before .before .before .before .before .before .before .before .before .before .before .before .before .before .before .before .before .smaller .ensures) (c .before .before .before .before .before .before .before .before .before .before .before .before .before .before .before .before .larger .ensures) p w _ (ap fillPaper (c .before .before .before .answer .given .1)) _ refl in
+    p (c .before .before .before .before .before .before .before .clear .ensures) _ (ap fillPaper (c .before .before .before .answer .given .1)) _ refl in
     l .both-in .second
 
 cast-j : tie.Need-cast-j
@@ -83,19 +79,17 @@ records-requires c κs = search needs
 slice-aggregate-ask-filled : tie.Need-slice-aggregate-ask-filled
 slice-aggregate-ask-filled c =
     let s = c .before .before .before .before .before .before .before .before .before .before .before .before .before .before .before .before .before .before .before .before .before .before .before .before .before .before .before in
-    let p = c .before .before .before .before .before .before .before .before .before .before .before .before .before .before .before .prepare .ensures in
-    let w = marks-cleared _ p (c .before .before .before .before .before .before .before .before .before .before .clear .ensures) in
+    let p = for-pair (s .args .a .0) (s .args .b .0) _ (c .before .before .before .before .before .before .before .before .before .before .before .before .before .before .before .before .before .before .before .before .smaller .ensures) (c .before .before .before .before .before .before .before .before .before .before .before .before .before .before .before .before .before .before .before .larger .ensures) (c .before .before .before .before .before .before .before .before .before .before .before .before .before .before .before .prepare .ensures) in
     let l = askable (now (s .args .bytes)) (s .args .a .0) (s .args .b .0) (s .args .width) (now (s .args .clocks)) _ (now (s .args .work)) _ _ (now (s .args .list)) _ _
-    (c .before .before .before .before .before .before .before .before .before .before .before .before .before .before .before .before .before .before .before .before .smaller .ensures) (c .before .before .before .before .before .before .before .before .before .before .before .before .before .before .before .before .before .before .before .larger .ensures) p w _ (ap fillPaper (c .before .before .before .before .before .before .answer .given .1)) _ (c .before .before .records .ensures) in
+    p (c .before .before .before .before .before .before .before .before .before .before .clear .ensures) _ (ap fillPaper (c .before .before .before .before .before .before .answer .given .1)) _ (c .before .before .records .ensures) in
     sym (of-length (l .filled))
 
 ask-filled-requires : tie.Need-ask-filled-requires
 ask-filled-requires c κs =
     let s = c .before .before .before .before .before .before .before .before .before .before .before .before .before .before .before .before .before .before .before .before .before .before .before .before .before .before .before .before .before .before in
-    let p = c .before .before .before .before .before .before .before .before .before .before .before .before .before .before .before .before .before .before .prepare .ensures in
-    let w = marks-cleared _ p (c .before .before .before .before .before .before .before .before .before .before .before .before .before .clear .ensures) in
+    let p = for-pair (s .args .a .0) (s .args .b .0) _ (c .before .before .before .before .before .before .before .before .before .before .before .before .before .before .before .before .before .before .before .before .before .before .before .smaller .ensures) (c .before .before .before .before .before .before .before .before .before .before .before .before .before .before .before .before .before .before .before .before .before .before .larger .ensures) (c .before .before .before .before .before .before .before .before .before .before .before .before .before .before .before .before .before .before .prepare .ensures) in
     let l = askable (now (s .args .bytes)) (s .args .a .0) (s .args .b .0) (s .args .width) (now (s .args .clocks)) _ (now (s .args .work)) _ _ (now (s .args .list)) _ _
-    (c .before .before .before .before .before .before .before .before .before .before .before .before .before .before .before .before .before .before .before .before .before .before .before .smaller .ensures) (c .before .before .before .before .before .before .before .before .before .before .before .before .before .before .before .before .before .before .before .before .before .before .larger .ensures) p w _ (ap fillPaper (c .before .before .before .before .before .before .before .before .before .answer .given .1)) _ (c .before .before .before .before .before .records .ensures) in
+    p (c .before .before .before .before .before .before .before .before .before .before .before .before .before .clear .ensures) _ (ap fillPaper (c .before .before .before .before .before .before .before .before .before .answer .given .1)) _ (c .before .before .before .before .before .records .ensures) in
     ((l .filled, l .chains-used, omega (arith, l .both-in .second, l .both-in .second-inside)), l .clear)
 
 same-length-3 : tie.Need-same-length-3
@@ -110,10 +104,9 @@ same-length-5 c = search needs
 returns-2 : tie.Need-returns-2
 returns-2 c =
     let s = c .before .before .before .before .before .before .before .before .before .before .before .before .before .before .before .before .before .before .before .before .before .before .before .before .before .before .before .before .before .before .before .before .before .before .before in
-    let p = c .before .before .before .before .before .before .before .before .before .before .before .before .before .before .before .before .before .before .before .before .before .before .before .prepare .ensures in
-    let w = marks-cleared _ p (c .before .before .before .before .before .before .before .before .before .before .before .before .before .before .before .before .before .before .clear .ensures) in
+    let p = for-pair (s .args .a .0) (s .args .b .0) _ (c .before .before .before .before .before .before .before .before .before .before .before .before .before .before .before .before .before .before .before .before .before .before .before .before .before .before .before .before .smaller .ensures) (c .before .before .before .before .before .before .before .before .before .before .before .before .before .before .before .before .before .before .before .before .before .before .before .before .before .before .before .larger .ensures) (c .before .before .before .before .before .before .before .before .before .before .before .before .before .before .before .before .before .before .before .before .before .before .before .prepare .ensures) in
     let l = askable (now (s .args .bytes)) (s .args .a .0) (s .args .b .0) (s .args .width) (now (s .args .clocks)) _ (now (s .args .work)) _ _ (now (s .args .list)) _ _
-    (c .before .before .before .before .before .before .before .before .before .before .before .before .before .before .before .before .before .before .before .before .before .before .before .before .before .before .before .before .smaller .ensures) (c .before .before .before .before .before .before .before .before .before .before .before .before .before .before .before .before .before .before .before .before .before .before .before .before .before .before .before .larger .ensures) p w _ (ap fillPaper (c .before .before .before .before .before .before .before .before .before .before .before .before .before .before .answer .given .1)) _ (c .before .before .before .before .before .before .before .before .before .before .records .ensures) in
+    p (c .before .before .before .before .before .before .before .before .before .before .before .before .before .before .before .before .before .before .clear .ensures) _ (ap fillPaper (c .before .before .before .before .before .before .before .before .before .before .before .before .before .before .answer .given .1)) _ (c .before .before .before .before .before .before .before .before .before .before .records .ensures) in
     let a = c .before .before .before .before .ask-filled .ensures in
     l .answers _ _ _ (a .0) (a .1)
 

@@ -1,7 +1,8 @@
 -- `question::happens_before` meets its contract.
 -- Assumes nothing.
 use Rattle.order.proofs.EntryLaws.{refused-reading, records-are, read-acceptable, read-events}
-use Rattle.question.specs.Question.{orderRead, orderReply}
+use Rattle.trace.specs.Reply.{then}
+use Rattle.question.specs.Question.{orderReply}
 use Rattle.trace.specs.Paper.{paper}
 use mathlib.Core.Path.{sym, ap, _∙_}
 use denote.Ref.{now}
@@ -22,7 +23,7 @@ refusal-of-requires : tie.Need-refusal-of-requires
 refusal-of-requires c κs = search needs
 
 returns : tie.Need-returns
-unfolding orderReply orderRead
+unfolding orderReply then
 returns c = simp (c .refusal-of .ensures, refused-reading (now (c .before .before .before .before .before .before .args .bytes)) (c .before .before .before .read .result) (c .before .before .before .read .ensures) (c .before .before .match .keys2))
 
 records-requires : tie.Need-records-requires
@@ -32,14 +33,14 @@ ask-requires : tie.Need-ask-requires
 ask-requires c κs =
     let t = c .before .before .reading .given .0 .0 in
     let e = sym (ap paper (c .before .before .reading .given .1)) ∙ c .before .before .before .before .read .ensures in
-    (read-acceptable (now (c .before .before .before .before .before .before .before .args .bytes)) (t .start) (t .records) (t .events) e _ (c .records .ensures), read-events (now (c .before .before .before .before .before .before .before .args .bytes)) (t .start) (t .records) (t .events) e _ (c .records .ensures))
+    (read-acceptable (now (c .before .before .before .before .before .before .before .args .bytes)) t e _ (c .records .ensures), read-events (now (c .before .before .before .before .before .before .before .args .bytes)) t e _ (c .records .ensures))
 
 returns-2 : tie.Need-returns-2
-unfolding orderReply orderRead
+unfolding orderReply then
 returns-2 c =
     let t = c .before .before .before .reading .given .0 .0 in
     let e = sym (ap paper (c .before .before .before .reading .given .1)) ∙ c .before .before .before .before .before .read .ensures in
-    rw (← e, ← records-are (now (c .before .before .before .before .before .before .before .before .args .bytes)) (t .start) (t .records) (t .events) e _ (c .before .records .ensures)) (c .ask .ensures)
+    rw (← e, ← records-are (now (c .before .before .before .before .before .before .before .before .args .bytes)) t e _ (c .before .records .ensures)) (c .ask .ensures)
 
 pub happens-before-spec : {M : Type 1} → statement M
 happens-before-spec =

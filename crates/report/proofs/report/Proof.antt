@@ -60,7 +60,7 @@ put-entries-requires c κs =
     let short = spaces .before .before .before .if1 .left in
     let zeros = over-zeros (spaces .before .before .no-clocks .ensures) (spaces .before .bytes-1024 .ensures) (spaces .no-list .ensures) in
     let lists = zeros (called .short-list .ensures) in
-    listed-few input _ _ _ _ short lists _ _ _ _ (ap listPaper (found .found .given .1))
+    listed-few input _ _ _ _ short lists _ (ap listPaper (found .found .given .1))
 
 enum-known-found-2 : tie.Need-enum-known-found-2
 enum-known-found-2 c = search needs
@@ -86,7 +86,7 @@ returns-2 c =
     let short = spaces .before .before .before .if1 .left in
     let zeros = over-zeros (spaces .before .before .no-clocks .ensures) (spaces .before .bytes-1024 .ensures) (spaces .no-list .ensures) in
     let lists = zeros (called .short-list .ensures) in
-    rw (listed-lines input _ _ _ _ short lists _ _ _ _ (ap listPaper (found .found .given .1)))
+    rw (listed-lines input _ _ _ _ short lists _ (ap listPaper (found .found .given .1)))
     (prints-then (s7 .put-header .ensures) (c .before .before .put-entries .ensures))
 
 same-length-3 : tie.Need-same-length-3

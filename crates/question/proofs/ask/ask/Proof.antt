@@ -3,7 +3,8 @@
 use Rattle.question.proofs.AskLaws.{ask-space, ask-short, ask-done}
 use Rattle.order.proofs.SpaceLaws.{has-room}
 use Rattle.order.proofs.RankLaws.{ranks-are}
-use Rattle.question.specs.Question.{demand, bothBegin, orderTrace, answered}
+use Rattle.trace.specs.Reply.{demand, gives}
+use Rattle.question.specs.Question.{bothBegin, orderTrace}
 use Rattle.order.specs.HappensBefore.{rank}
 use Rattle.records.specs.Bytes.{decode}
 use borrow.Author.Tests.{eq-eqb, ne-eqb, not-true, not-false}
@@ -120,7 +121,7 @@ returns-5 c =
     let e : c .before .before .before .before .before .before .before .before .before .before .before .before .before .rank-of .result ≡ rank (decode (now (c .before .before .before .before .before .before .before .before .before .before .before .before .before .before .before .before .before .before .args .recs))) (c .before .before .before .before .before .before .before .before .before .before .before .before .before .before .before .before .before .before .args .t .0) = c .before .before .before .before .before .before .before .before .before .before .before .before .before .rank-of .ensures ∙ ap (λ m. getD m (c .before .before .before .before .before .before .before .before .before .before .before .before .before .before .before .before .before .before .args .t .0) 0) (c .before .before .before .before .before .before .before .before .before .before .before .before .before .before .before .ranks .ensures) ∙ ranks-are (c .before .before .before .before .before .before .before .before .before .before .before .before .before .before .before .before .before .before .pre .0) (c .before .before .before .before .before .before .before .before .before .before .before .before .before .before .before .before .before .before .args .t .0) in
     let f : c .before .before .before .before .before .before .before .before .before .before .before .rank-of2 .result ≡ rank (decode (now (c .before .before .before .before .before .before .before .before .before .before .before .before .before .before .before .before .before .before .args .recs))) (c .before .before .before .before .before .before .before .before .before .before .before .before .before .before .before .before .before .before .args .u .0) = c .before .before .before .before .before .before .before .before .before .before .before .rank-of2 .ensures ∙ ap (λ m. getD m (c .before .before .before .before .before .before .before .before .before .before .before .before .before .before .before .before .before .before .args .u .0) 0) (c .before .before .before .before .before .before .before .before .before .before .before .before .before .before .before .ranks .ensures) ∙ ranks-are (c .before .before .before .before .before .before .before .before .before .before .before .before .before .before .before .before .before .before .pre .0) (c .before .before .before .before .before .before .before .before .before .before .before .before .before .before .before .before .before .before .args .u .0) in
     let h : length (decode (now (c .before .before .before .before .before .before .before .before .before .before .before .before .before .before .before .before .before .before .args .recs))) ≤ c .before .before .before .before .before .chain-pass .result .position = omega (arith, c .before .before .before .before .count .ensures, c .before .before .if4 .left) in
-    c .answer .ensures ∙ (ap answered (c .before .compare .ensures) ∙ sym (ask-done (c .before .before .before .before .before .before .before .before .before .before .before .before .before .before .before .before .before .before .pre .0) (c .before .before .before .before .before .before .before .before .before .before .before .before .before .before .before .before .before .before .args .events) (c .before .before .before .before .before .before .before .before .before .before .before .before .before .before .before .before .before .before .args .width) (c .before .before .before .before .before .before .before .before .before .before .before .before .before .before .before .before .before .before .pre .1) (now (c .before .before .before .before .before .before .before .before .before .before .before .before .before .before .before .before .before .before .args .clocks)) (c .before .before .before .before .before .before .before .before .before .before .before .before .before .before .before .before .before .before .args .t .0) (c .before .before .before .before .before .before .before .before .before .before .before .before .before .before .before .before .before .before .args .u .0) _ _ e f (c .before .before .before .before .before .before .before .before .before .before .if1 .left) (c .before .before .before .before .before .before .before .before .before .if2 .left) (sym (c .before .before .before .before .before .before .before .before .has-space .ensures) ∙ not-false (c .before .before .before .before .before .before .before .before .has-space .result) (c .before .before .before .before .before .before .before .if3 .left)) _ _ (c .before .before .before .before .before .chain-pass .ensures) h))
+    c .answer .ensures ∙ (ap gives (c .before .compare .ensures) ∙ sym (ask-done (c .before .before .before .before .before .before .before .before .before .before .before .before .before .before .before .before .before .before .pre .0) (c .before .before .before .before .before .before .before .before .before .before .before .before .before .before .before .before .before .before .args .events) (c .before .before .before .before .before .before .before .before .before .before .before .before .before .before .before .before .before .before .args .width) (c .before .before .before .before .before .before .before .before .before .before .before .before .before .before .before .before .before .before .pre .1) (now (c .before .before .before .before .before .before .before .before .before .before .before .before .before .before .before .before .before .before .args .clocks)) (c .before .before .before .before .before .before .before .before .before .before .before .before .before .before .before .before .before .before .args .t .0) (c .before .before .before .before .before .before .before .before .before .before .before .before .before .before .before .before .before .before .args .u .0) _ _ e f (c .before .before .before .before .before .before .before .before .before .before .if1 .left) (c .before .before .before .before .before .before .before .before .before .if2 .left) (sym (c .before .before .before .before .before .before .before .before .has-space .ensures) ∙ not-false (c .before .before .before .before .before .before .before .before .has-space .result) (c .before .before .before .before .before .before .before .if3 .left)) _ _ (c .before .before .before .before .before .chain-pass .ensures) h))
 
 pub ask-spec : {M : Type 1} → statement M
 ask-spec =

@@ -1,11 +1,10 @@
 -- `races::lists::list_races` meets its contract.
 -- Assumes nothing.
-use Rattle.races.proofs.ListEnds.{not-listed, listable}
-use Rattle.races.proofs.PreparedLaws.{marks-cleared}
+use Rattle.races.proofs.ListEnds.{for-list, not-listed, listable}
 use Rattle.races.proofs.FilledLaws.{of-length, ranks-length}
 use Rattle.order.specs.Paper.{fillPaper}
 use Rattle.order.proofs.Upward.{upward}
-use mathlib.Core.Path.{refl, sym, ap}
+use mathlib.Core.Path.{sym, ap}
 use denote.Ref.{now}
 use borrow.Author.Needs.{needs}
 use Rattle.races.proofs.lists.list_races.Statement.{statement}
@@ -41,9 +40,8 @@ same-length-2 c = search needs
 returns : tie.Need-returns
 returns c =
     let s = c .before .before .before .before .before .before .before .before .before .before .before .before .before .before .before .before .before .before .before .before in
-    let p = c .before .before .before .before .before .before .before .before .before .before .prepare .ensures in
-    let w = marks-cleared _ p (c .before .before .before .before .before .clear .ensures) in
-    not-listed (now (s .args .bytes)) (s .args .short) (s .args .width) (now (s .args .clocks)) _ (now (s .args .work)) _ _ (now (s .args .list)) _ _ p w _ _ (upward (c .before .before .before .before .before .before .before .before .before .before .prepare .result .answer) (c .before .before .match .keys2)) _ (simp (c .refusal-of .ensures))
+    let p = for-list _ (c .before .before .before .before .before .before .before .before .before .before .prepare .ensures) in
+    not-listed (now (s .args .bytes)) (s .args .short) (s .args .width) (now (s .args .clocks)) _ (now (s .args .work)) _ _ (now (s .args .list)) _ _ p (c .before .before .before .before .before .clear .ensures) _ _ (upward (c .before .before .before .before .before .before .before .before .before .before .prepare .result .answer) (c .before .before .match .keys2)) _ (simp (c .refusal-of .ensures))
 
 records-requires : tie.Need-records-requires
 records-requires c κs = search needs
@@ -51,25 +49,22 @@ records-requires c κs = search needs
 slice-aggregate-list-filled : tie.Need-slice-aggregate-list-filled
 slice-aggregate-list-filled c =
     let s = c .before .before .before .before .before .before .before .before .before .before .before .before .before .before .before .before .before .before .before .before .before .before .before in
-    let p = c .before .before .before .before .before .before .before .before .before .before .before .before .before .prepare .ensures in
-    let w = marks-cleared _ p (c .before .before .before .before .before .before .before .before .clear .ensures) in
-    let l = listable (now (s .args .bytes)) (s .args .short) (s .args .width) (now (s .args .clocks)) _ (now (s .args .work)) _ _ (now (s .args .list)) _ _ p w _ (ap fillPaper (c .before .before .before .before .answer .given .1)) _ (c .before .before .records .ensures) in
+    let p = for-list _ (c .before .before .before .before .before .before .before .before .before .before .before .before .before .prepare .ensures) in
+    let l = listable (now (s .args .bytes)) (s .args .short) (s .args .width) (now (s .args .clocks)) _ (now (s .args .work)) _ _ (now (s .args .list)) _ _ p (c .before .before .before .before .before .before .before .before .clear .ensures) _ (ap fillPaper (c .before .before .before .before .answer .given .1)) _ (c .before .before .records .ensures) in
     sym (of-length (l .filled))
 
 slice-aggregate-list-filled-2 : tie.Need-slice-aggregate-list-filled-2
 slice-aggregate-list-filled-2 c =
     let s = c .before .before .before .before .before .before .before .before .before .before .before .before .before .before .before .before .before .before .before .before .before .before .before .before in
-    let p = c .before .before .before .before .before .before .before .before .before .before .before .before .before .before .prepare .ensures in
-    let w = marks-cleared _ p (c .before .before .before .before .before .before .before .before .before .clear .ensures) in
-    let l = listable (now (s .args .bytes)) (s .args .short) (s .args .width) (now (s .args .clocks)) _ (now (s .args .work)) _ _ (now (s .args .list)) _ _ p w _ (ap fillPaper (c .before .before .before .before .before .answer .given .1)) _ (c .before .before .before .records .ensures) in
+    let p = for-list _ (c .before .before .before .before .before .before .before .before .before .before .before .before .before .before .prepare .ensures) in
+    let l = listable (now (s .args .bytes)) (s .args .short) (s .args .width) (now (s .args .clocks)) _ (now (s .args .work)) _ _ (now (s .args .list)) _ _ p (c .before .before .before .before .before .before .before .before .before .clear .ensures) _ (ap fillPaper (c .before .before .before .before .before .answer .given .1)) _ (c .before .before .before .records .ensures) in
     sym (ranks-length (l .filled))
 
 list-filled-requires : tie.Need-list-filled-requires
 list-filled-requires c κs =
     let s = c .before .before .before .before .before .before .before .before .before .before .before .before .before .before .before .before .before .before .before .before .before .before .before .before .before in
-    let p = c .before .before .before .before .before .before .before .before .before .before .before .before .before .before .before .prepare .ensures in
-    let w = marks-cleared _ p (c .before .before .before .before .before .before .before .before .before .before .clear .ensures) in
-    let l = listable (now (s .args .bytes)) (s .args .short) (s .args .width) (now (s .args .clocks)) _ (now (s .args .work)) _ _ (now (s .args .list)) _ _ p w _ (ap fillPaper (c .before .before .before .before .before .before .answer .given .1)) _ (c .before .before .before .before .records .ensures) in
+    let p = for-list _ (c .before .before .before .before .before .before .before .before .before .before .before .before .before .before .before .prepare .ensures) in
+    let l = listable (now (s .args .bytes)) (s .args .short) (s .args .width) (now (s .args .clocks)) _ (now (s .args .work)) _ _ (now (s .args .list)) _ _ p (c .before .before .before .before .before .before .before .before .before .before .clear .ensures) _ (ap fillPaper (c .before .before .before .before .before .before .answer .given .1)) _ (c .before .before .before .before .records .ensures) in
     (l .filled, l .events-are, l .chains-used)
 
 same-length-3 : tie.Need-same-length-3
@@ -84,9 +79,8 @@ same-length-5 c = search needs
 returns-2 : tie.Need-returns-2
 returns-2 c =
     let s = c .before .before .before .before .before .before .before .before .before .before .before .before .before .before .before .before .before .before .before .before .before .before .before .before .before .before .before .before .before .before in
-    let p = c .before .before .before .before .before .before .before .before .before .before .before .before .before .before .before .before .before .before .before .before .prepare .ensures in
-    let w = marks-cleared _ p (c .before .before .before .before .before .before .before .before .before .before .before .before .before .before .before .clear .ensures) in
-    let l = listable (now (s .args .bytes)) (s .args .short) (s .args .width) (now (s .args .clocks)) _ (now (s .args .work)) _ _ (now (s .args .list)) _ _ p w _ (ap fillPaper (c .before .before .before .before .before .before .before .before .before .before .before .answer .given .1)) _ (c .before .before .before .before .before .before .before .before .before .records .ensures) in
+    let p = for-list _ (c .before .before .before .before .before .before .before .before .before .before .before .before .before .before .before .before .before .before .before .before .prepare .ensures) in
+    let l = listable (now (s .args .bytes)) (s .args .short) (s .args .width) (now (s .args .clocks)) _ (now (s .args .work)) _ _ (now (s .args .list)) _ _ p (c .before .before .before .before .before .before .before .before .before .before .before .before .before .before .before .clear .ensures) _ (ap fillPaper (c .before .before .before .before .before .before .before .before .before .before .before .answer .given .1)) _ (c .before .before .before .before .before .before .before .before .before .records .ensures) in
     l .done _ _ _ (c .before .before .before .before .list-filled .ensures)
 
 pub list-races-spec : {M : Type 1} → statement M

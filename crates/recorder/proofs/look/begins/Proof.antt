@@ -1,7 +1,6 @@
 -- `recorder::look::begins` meets its contract.
 -- Assumes nothing.
 use mathlib.Core.Path.{_∙_}
-use Rattle.trace.specs.Reading.{recordsIn}
 use Rattle.recorder.specs.Recording.{before}
 use borrow.Author.Needs.{needs}
 use Rattle.recorder.proofs.look.begins.Statement.{statement}
@@ -14,7 +13,7 @@ count-begins-requires : tie.Need-count-begins-requires
 count-begins-requires c κs = search needs
 
 returns : tie.Need-returns
-unfolding before recordsIn
+unfolding before
 returns c = c .count-begins .ensures ∙ simp (c .before .records-from .ensures)
 
 pub begins-spec : {M : Type 1} → statement M

@@ -2,7 +2,6 @@
 -- Assumes nothing.
 use Rattle.recorder.proofs.Looking.{judge-asked}
 use Rattle.recorder.specs.Recording.{before, judged}
-use Rattle.trace.specs.Reading.{recordsIn}
 use Rattle.records.specs.Records.{begun, ended}
 use mathlib.Core.Path.{_∙_}
 use borrow.Author.Needs.{needs}
@@ -34,7 +33,7 @@ check-requires : tie.Need-check-requires
 check-requires c κs = search needs
 
 returns : tie.Need-returns
-unfolding judged before recordsIn begun ended
+unfolding judged before begun ended
 returns c =
     let at-seen-if2 = c .before .before .before .before in
     let at-seen-if = at-seen-if2 .before .before in

@@ -2,7 +2,8 @@
 -- Assumes nothing.
 use borrow.Author.Tests.{lt-leb, le-leb, eq-eqb, ne-eqb}
 use native.Mathlib.Omega.{arith}
-use Rattle.trace.specs.Reading.{trailerReply, demand, orElse}
+use Rattle.trace.specs.Reply.{demand, orElse}
+use Rattle.trace.specs.Reading.{trailerReply}
 use borrow.Author.Needs.{needs}
 use Rattle.trace.proofs.frame.fault.Statement.{statement}
 use Rattle.trace.proofs.frame.fault.Tie as tie

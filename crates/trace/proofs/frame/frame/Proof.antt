@@ -2,8 +2,9 @@
 -- Assumes nothing.
 use mathlib.Core.Path.{_∙_}
 use borrow.Author.Tests.{lt-leb, le-leb}
-use Rattle.trace.specs.Reading.{frameReply, demand, orElse}
-use Rattle.trace.proofs.Going.{stops}
+use Rattle.trace.specs.Reply.{demand, orElse}
+use Rattle.trace.specs.Reading.{frameReply}
+use Rattle.trace.proofs.ReplyLaws.{stops}
 use borrow.Author.Needs.{needs}
 use Rattle.trace.proofs.frame.frame.Statement.{statement}
 use Rattle.trace.proofs.frame.frame.Tie as tie

@@ -2,7 +2,7 @@
 -- Assumes nothing.
 use mathlib.Core.Path.{_∙_}
 use borrow.Author.Tests.{eq-eqb, ne-eqb}
-use Rattle.trace.specs.Reading.{demand}
+use Rattle.trace.specs.Reply.{demand}
 use borrow.Author.Needs.{needs}
 use Rattle.trace.proofs.scan.finish.Statement.{statement}
 use Rattle.trace.proofs.scan.finish.Tie as tie
