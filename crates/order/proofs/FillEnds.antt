@@ -14,7 +14,7 @@ use Rattle.trace.specs.Reading.{Acceptable}
 use Rattle.ranks.specs.Ranks.{ranksOf}
 use Rattle.clocks.specs.Rows.{spaceFor, clearRows}
 use Rattle.clocks.proofs.RowLaws.{clear-rows-fit}
-use Rattle.order.specs.Fill.{eventsIn, shortRow, traceClocks, noChains, refused, filled, demand, fillTrace, clocksAfterTrace, chainsAfterReply}
+use Rattle.order.specs.Fill.{eventsIn, shortRow, noChains, refused, filled, demand, fillTrace, clocksAfterTrace, chainsAfterReply}
 use Rattle.order.specs.declared.Filling.{Filling}
 use Rattle.order.specs.Paper.{fillPaper, FillsTrace}
 use Rattle.order.specs.PassEnds.{Ready, Passes}

@@ -3,7 +3,7 @@
 use Prim.Native.Nat.{ℕ, suc, _+_, _*_, _-_, _<_, _≤_, max}
 use mathlib.Core.Path.{_≡_, refl, sym, ap, ap₂, _∙_, subst}
 use mathlib.Core.Bool.{_&&_}
-use mathlib.Core.List.{List, [], _∷_, _++_, append-assoc}
+use mathlib.Core.List.{List, [], _++_, append-assoc}
 use mathlib.Core.Logic.{_≢_, _⊎_, inl, inr}
 use native.Mathlib.Omega.{arith}
 use native.Mathlib.Numerals.{add-one}
@@ -11,14 +11,14 @@ use native.Mathlib.Nat.{mul-le-mul-right, suc-mul}
 use borrow.Author.Tests.{le-leb, lt-leb, eq-eqb, ne-eqb}
 use lib.Dec.{eqb, eqb→eq}
 use lib.ListN.{length, getD, set, drop, replicate, length-append, length-replicate, length-set, getD-replicate, List·getD-append, List·getD-eq-default}
-use lib.Seq.{set-at, drop-at, getD-set-same, getD-set-other, ext-getD, getD-append-add}
+use lib.Seq.{set-at, drop-at, getD-set-other, ext-getD, getD-append-add}
 use Rattle.records.specs.declared.Record.{Record}
 use Rattle.records.specs.Records.{at, isBegin}
 use Rattle.trace.specs.Reading.{Acceptable}
 use Rattle.trace.proofs.Events.{few-events}
 use Rattle.records.proofs.Positions.{lt-or-ge}
 use Rattle.ranks.specs.Ranks.{ranksOf}
-use Rattle.ranks.specs.Said.{Op, link, begin}
+use Rattle.ranks.specs.Said.{Op, begin}
 use Rattle.order.specs.Links.{Links, Forward, _∈_, leq}
 use Rattle.clocks.specs.Rows.{rowsIf, clearRow}
 use Rattle.order.specs.Chains.{bit}

@@ -1,13 +1,12 @@
 -- The walk along the links of an acceptable trace. Assumes nothing.
 use Prim.Native.Nat.{ℕ, _-_, _≤_, _<_}
 use mathlib.Core.Path.{_≡_, subst, fun-ext}
-use mathlib.Core.List.{List, _++_}
+use mathlib.Core.List.{List}
 use native.Mathlib.Omega.{arith}
 use lib.ListN.{length}
 use Rattle.records.specs.declared.Record.{Record}
 use Rattle.trace.specs.Reading.{Acceptable}
 use Rattle.ranks.specs.Ranks.{ranksOf}
-use Rattle.order.specs.Clocks.{flat}
 use Rattle.order.specs.Schedule.{begins}
 use Rattle.order.specs.Walk.{FillWalked, opBy, FillWalks}
 use Rattle.order.specs.HappensBefore.{opAt}

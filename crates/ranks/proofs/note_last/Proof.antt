@@ -6,7 +6,6 @@ use lib.ListN.{length}
 use mathlib.Core.Path.{_≡_, refl, ap, _∙_}
 use Prim.Native.Nat.{_-_, _≤_}
 use denote.Ref.{now}
-use borrow.Author.Needs.{needs}
 use native.Mathlib.Omega.{arith}
 use Rattle.ranks.proofs.note_last.Statement.{statement}
 use Rattle.ranks.proofs.note_last.Tie as tie

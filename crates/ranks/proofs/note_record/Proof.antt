@@ -1,13 +1,12 @@
 -- `ranks::note_record` meets its contract.
 -- Assumes nothing.
 use Rattle.ranks.proofs.RankLaws.{ranks-more}
-use Rattle.ranks.specs.Ranks.{ranksUpto}
 use Rattle.records.proofs.Records.{past-more}
-use Rattle.records.specs.Records.{past, begins}
+use Rattle.records.specs.Records.{begins}
 use Rattle.records.specs.Bytes.{decode}
 use lib.Dec.{eqb}
 use mathlib.Core.Bool.{cond, Bool, true, false}
-use mathlib.Core.Path.{_≡_, _∙_}
+use mathlib.Core.Path.{_∙_}
 use Prim.Native.Nat.{ℕ, _+_, _≤_}
 use denote.Ref.{now}
 use borrow.Author.Needs.{needs}

@@ -1,9 +1,6 @@
 -- `order::rows::clear_fresh` meets its contract.
 -- Assumes nothing.
-use Rattle.clocks.proofs.RowLaws.{clear-row-length}
 use borrow.Author.Tests.{eq-eqb, ne-eqb}
-use mathlib.Core.Path.{sym, ap, _∙_}
-use native.Mathlib.Omega.{arith}
 use borrow.Author.Needs.{needs}
 use Rattle.order.proofs.rows.clear_fresh.Statement.{statement}
 use Rattle.order.proofs.rows.clear_fresh.Tie as tie
