@@ -13,10 +13,11 @@ use borrow.Author.Tests.{lt-ltb, ltb-true, le-leb, leb-true}
 use borrow.Rule.Slice.PartMut.{putMid, set-mid-at, post-is, mid-len}
 use lib.Dec.{leb, ltb}
 use lib.ListN.{length, getD, set, take, drop, replicate, length-append, length-take, length-drop, length-set, length-replicate, replicate-append-replicate}
-use lib.Seq.{getD-set-other, getD-take, getD-drop, take-at, drop-append-add, drop-drop}
+use lib.ListN.{getD-replicate, List·getD-append}
+use lib.Seq.{length-take-le, getD-append-add, getD-take, getD-drop, take-at, drop-append-add, drop-drop}
 use Rattle.slices.specs.Slices.{zeros, cleared}
 use Rattle.slices.proofs.Cleared.{cleared-whole}
-use Rattle.clocks.specs.Rows.{oneMore, hasRow, rowsIf, reach, mergeAt, mergeFrom, mergeRow, copyAt, copyFrom, copyRow, clearRow, clearRows}
+use Rattle.clocks.specs.Rows.{oneMore, hasRow, rowsIf, reach, mergeAt, mergeFrom, mergeRow, span, clearPast, copyAt, copyFrom, copyRow, clearRow, clearRows}
 
 -- row u stands in the clocks
 pub record Stands (space w u : ℕ) : Type 0 where
@@ -67,6 +68,14 @@ module _ (w chains p : ℕ) where
       go : Dec (chains ≤ c) → (chains ≤ c) ⊎ (p < c)
       go (yes l) = inl l
       go (no n) = inr (omega (arith, n))
+
+  pub span-le : span w chains p ≤ w
+  unfolding span
+  span-le = omega arith
+
+  pub span-past : (c : ℕ) → c < w → span w chains p ≤ c → (chains ≤ c) ⊎ (p < c)
+  unfolding reach span
+  span-past c h k = reach-past c h (omega arith)
 
 -- a store in the part of a row is a store in the clocks
 pub stored :
@@ -150,31 +159,58 @@ module _ (w chains p u : ℕ) (cs : List ℕ) where
   unfolding copyRow
   copy-row-none e = rw e
 
-  pub copy-row-is : (ltb p u && hasRow (length cs) w u) ≡ true → copyRow w chains p u cs ≡ copyFrom w p u 0 (reach w chains p) cs
+  pub copy-row-is :
+      (ltb p u && hasRow (length cs) w u) ≡ true → copyRow w chains p u cs ≡ clearPast w u (span w chains p) (copyFrom w p u 0 (span w chains p) cs)
   unfolding copyRow
   copy-row-is e = rw e
 
--- copying over zeros is merging
-copy-at-merges : (w p u c : ℕ) (cs : List ℕ) → getD cs (u * w + c) 0 ≡ 0 → copyAt w p u c cs ≡ mergeAt w p u c cs
-unfolding copyAt mergeAt
-copy-at-merges w p u c cs z = let e : getD cs (p * w + c) 0 ≡ max (getD cs (u * w + c) 0) (getD cs (p * w + c) 0) = omega arith in ap (set cs (u * w + c)) e
+  pub copy-row-fits :
+      p < u → w ≤ 1024 → u * w + w ≤ length cs → copyRow w chains p u cs ≡ clearPast w u (span w chains p) (copyFrom w p u 0 (span w chains p) cs)
+  copy-row-fits h k l = copy-row-is (rw (lt-ltb p u h) (stands-row (length cs) w u k l))
 
-merge-at-other : (w p u c d : ℕ) (cs : List ℕ) → c < d → getD (mergeAt w p u c cs) (u * w + d) 0 ≡ getD cs (u * w + d) 0
-unfolding mergeAt
-merge-at-other w p u c d cs h = getD-set-other cs (u * w + c) (u * w + d) (max (getD cs (u * w + c) 0) (getD cs (p * w + c) 0)) 0 (omega arith)
+-- zeros in row u from entry c on, by place
+module _ (w u c : ℕ) (cs : List ℕ) (fits : u * w + w ≤ length cs) (inside : c ≤ w) where
+  front : length (take (u * w + c) cs) ≡ u * w + c
+  front = length-take-le (u * w + c) cs (omega arith)
 
-copy-from-merges : (w p u k c : ℕ) (cs : List ℕ) → ((d : ℕ) → c ≤ d → d < c + k → getD cs (u * w + d) 0 ≡ 0) → copyFrom w p u c k cs ≡ mergeFrom w p u c k cs
-unfolding copyFrom mergeFrom
-copy-from-merges w p u zero c cs z = refl
-copy-from-merges w p u (suc k) c cs z =
-    rw (copy-at-merges w p u c cs (z c (omega arith) (omega arith)))
-    (copy-from-merges w p u k (suc c) (mergeAt w p u c cs) (λ d h i. merge-at-other w p u c d cs (omega arith) ∙ z d (omega arith) (omega arith)))
+  pub past-length : length (clearPast w u c cs) ≡ length cs
+  unfolding clearPast
+  past-length = simp (length-append, length-take, length-replicate, length-drop) (omega arith)
 
-pub copy-merges : (w chains p u : ℕ) (cs : List ℕ) → ((d : ℕ) → d < w → getD cs (u * w + d) 0 ≡ 0) → copyRow w chains p u cs ≡ mergeRow w chains p u cs
-unfolding copyRow mergeRow
-copy-merges w chains p u cs z =
-    ap (λ xs. rowsIf (ltb p u && hasRow (length cs) w u) xs cs)
-    (copy-from-merges w p u (reach w chains p) 0 cs (λ d h i. z d (omega (arith, reach-le w chains p))))
+  pub past-before : (i : ℕ) → i < u * w + c → getD (clearPast w u c cs) i 0 ≡ getD cs i 0
+  unfolding clearPast
+  past-before i h =
+      List·getD-append (take (u * w + c) cs) (replicate (w - c) 0 ++ drop (u * w + w) cs) 0 i (omega (arith, front)) ∙ getD-take (u * w + c) cs i 0 h
+
+  pub past-in : (i : ℕ) → u * w + c ≤ i → i < u * w + w → getD (clearPast w u c cs) i 0 ≡ 0
+  unfolding clearPast
+  past-in i h k =
+      let j = i - (u * w + c) in
+      let e : i ≡ length (take (u * w + c) cs) + j = omega (arith, front) in
+      ap (λ (x : ℕ). getD (take (u * w + c) cs ++ (replicate (w - c) 0 ++ drop (u * w + w) cs)) x 0) e
+      ∙ (getD-append-add (take (u * w + c) cs) (replicate (w - c) 0 ++ drop (u * w + w) cs) j 0
+      ∙ (List·getD-append (replicate (w - c) 0) (drop (u * w + w) cs) 0 j (omega (arith, length-replicate {A = ℕ} (w - c) 0))
+      ∙ getD-replicate {A = ℕ} (w - c) j 0 0 (omega arith)))
+
+  pub past-after : (i : ℕ) → u * w + w ≤ i → getD (clearPast w u c cs) i 0 ≡ getD cs i 0
+  unfolding clearPast
+  past-after i h =
+      let j = i - (u * w + w) in
+      let z = length-replicate {A = ℕ} (w - c) 0 in
+      let e : i ≡ length (take (u * w + c) cs) + (length (replicate {A = ℕ} (w - c) 0) + j) = omega (arith, front) in
+      let q : u * w + w + j ≡ i = omega arith in
+      ap (λ (x : ℕ). getD (take (u * w + c) cs ++ (replicate (w - c) 0 ++ drop (u * w + w) cs)) x 0) e
+      ∙ (getD-append-add (take (u * w + c) cs) (replicate (w - c) 0 ++ drop (u * w + w) cs) (length (replicate {A = ℕ} (w - c) 0) + j) 0
+      ∙ (getD-append-add (replicate (w - c) 0) (drop (u * w + w) cs) j 0 ∙ (getD-drop (u * w + w) cs j 0 ∙ ap (λ (x : ℕ). getD cs x 0) q)))
+
+-- clearing the end of a row's part
+pub past-at :
+    (w u c : ℕ) (xs ys : List ℕ) → u * w + w ≤ length xs → c ≤ w →
+    ys ≡ replicate (length (take (u * w + w - (u * w + c)) (drop (u * w + c) xs))) 0 → putMid (u * w + c) (u * w + w - (u * w + c)) xs ys ≡ clearPast w u c xs
+unfolding clearPast
+past-at w u c xs ys h i e =
+    let l : length (take (u * w + w - (u * w + c)) (drop (u * w + c) xs)) ≡ w - c = mid-len (u * w + c) (u * w + w) xs h ∙ omega arith in
+    rw (e, l, post-is (u * w + c) (u * w + w) xs (omega arith))
 
 -- clearing the part of a row
 pub cleared-at : (w u : ℕ) (xs ys : List ℕ) → u * w + w ≤ length xs → ys ≡ cleared w (take (u * w + w - u * w) (drop (u * w) xs)) → putMid (u * w) (u * w + w - u * w) xs ys ≡ take (u * w) xs ++ (replicate w 0 ++ drop (u * w + w) xs)
@@ -192,6 +228,13 @@ module _ (w u : ℕ) (cs : List ℕ) where
   pub clear-row-is : hasRow (length cs) w u ≡ true → clearRow w u cs ≡ take (u * w) cs ++ (replicate w 0 ++ drop (u * w + w) cs)
   unfolding clearRow
   clear-row-is e = rw e
+
+  pub clear-row-past : hasRow (length cs) w u ≡ true → clearRow w u cs ≡ clearPast w u 0 cs
+  unfolding clearPast
+  clear-row-past e =
+      let z : u * w + 0 ≡ u * w = omega arith in
+      let k : w - 0 ≡ w = omega arith in
+      rw (z, k) (clear-row-is e)
 
   pub clear-row-length : length (clearRow w u cs) ≡ length cs
   clear-row-length = go (hasRow (length cs) w u) refl

@@ -1,6 +1,6 @@
 -- Clock rows in lent clocks: "A clock row has one 16-bit entry per chain, one row after another in begin order". Row u at a width is the
 -- part that starts at u × width. Assumes nothing.
-use Prim.Native.Nat.{ℕ, zero, suc, _+_, _*_, _/_, min, max}
+use Prim.Native.Nat.{ℕ, zero, suc, _+_, _*_, _-_, _/_, min, max}
 use mathlib.Core.Bool.{Bool, true, false, _&&_}
 use mathlib.Core.List.{List, _++_}
 use lib.Dec.{leb, ltb}
@@ -43,7 +43,13 @@ mergeRow width chains p u cs = rowsIf (ltb p u && hasRow (length cs) width u) (m
 unfoldable pub oneMore : ℕ → List ℕ → List ℕ
 oneMore c row = rowsIf (ltb c (length row) && ltb (getD row c 0) 65535) (set row c (getD row c 0 + 1)) row
 
--- the same with copying: where row u is 0 it is merging (`copy-merges`)
+-- The same with copying, over whatever row u holds: zeros past the entries that are copied, a multiple of 32 where the width allows it.
+unfoldable pub span : ℕ → ℕ → ℕ → ℕ
+span width chains p = min width ((min chains (p + 1) + 31) / 32 * 32)
+
+unfoldable pub clearPast : ℕ → ℕ → ℕ → List ℕ → List ℕ
+clearPast width u c cs = take (u * width + c) cs ++ (replicate (width - c) 0 ++ drop (u * width + width) cs)
+
 unfoldable pub copyAt : ℕ → ℕ → ℕ → ℕ → List ℕ → List ℕ
 copyAt width p u c cs = set cs (u * width + c) (getD cs (p * width + c) 0)
 
@@ -52,7 +58,8 @@ copyFrom width p u c zero cs = cs
 copyFrom width p u c (suc k) cs = copyFrom width p u (suc c) k (copyAt width p u c cs)
 
 unfoldable pub copyRow : ℕ → ℕ → ℕ → ℕ → List ℕ → List ℕ
-copyRow width chains p u cs = rowsIf (ltb p u && hasRow (length cs) width u) (copyFrom width p u 0 (reach width chains p) cs) cs
+copyRow width chains p u cs =
+    rowsIf (ltb p u && hasRow (length cs) width u) (clearPast width u (span width chains p) (copyFrom width p u 0 (span width chains p) cs)) cs
 
 -- zeros in row u, where it stands in the clocks; and in the first rows
 unfoldable pub clearRow : ℕ → ℕ → List ℕ → List ℕ

@@ -4,10 +4,10 @@ use slices::numbers::get;
 use slices::numbers::larger;
 ghost use mathlib.Core.Path.{_≡_};
 ghost use mathlib.Core.Bool.{_&&_};
-ghost use Prim.Native.Nat.{_<_, max};
+ghost use Prim.Native.Nat.{_+_, _<_, min, max};
 ghost use lib.Dec.{ltb};
 ghost use lib.ListN.{getD, set};
-ghost use Rattle.clocks.specs.Rows.{spaceFor, compareIn, hasRow, reach, mergeRow, oneMore, copyRow, clearRow, clearRows};
+ghost use Rattle.clocks.specs.Rows.{spaceFor, compareIn, hasRow, reach, mergeRow, oneMore, span, copyRow, clearRow, clearRows};
 
 // Whether the width is in range and that many rows fit the clock space.
 pub fn has_space(width: usize, events: usize, space: usize) -> bool
@@ -67,16 +67,22 @@ fn fits(space: usize, width: usize, p: u16, u: u16) -> bool
     has_row(space, width, u)
 }
 
-// How many entries of row p are gone through where that many chains are taken: no row has more chains than begins up to its own, and every row
-// is 0 past its chains, so a multiple of sixteen where the width allows it.
+// How many chains row p can have where that many are taken: no more than begins up to its own.
+fn most(chains: usize, p: u16) -> usize
+    ensures { λ r. ⌜ r ≡ min chains (p + 1) ⌝ }
+{
+    if (p as usize) < chains {
+        return (p as usize) + 1;
+    }
+    chains
+}
+
+// How many entries of row p are gone through where that many chains are taken: every row is 0 past its chains, so a multiple of sixteen where
+// the width allows it.
 fn reach(width: usize, chains: usize, p: u16) -> usize
     ensures { λ r. ⌜ r ≡ reach width chains p ⌝ }
 {
-    let mut entries = chains;
-    if (p as usize) < chains {
-        entries = (p as usize) + 1;
-    }
-    let whole = (entries + 15) / 16 * 16;
+    let whole = (most(chains, p) + 15) / 16 * 16;
     if whole < width {
         return whole;
     }
@@ -114,7 +120,18 @@ pub fn add_one(row: &mut [u16], c: usize)
     }
 }
 
-// Row p is copied over row u, as far as merging goes; no other part is written.
+// How many entries of row p are copied: as far as merging goes, to a multiple of 32 where the width allows it.
+fn span(width: usize, chains: usize, p: u16) -> usize
+    ensures { λ r. ⌜ r ≡ span width chains p ⌝ }
+{
+    let whole = (most(chains, p) + 31) / 32 * 32;
+    if whole < width {
+        return whole;
+    }
+    width
+}
+
+// Row p is copied over row u, whatever that holds; no other part is written.
 pub fn copy_row(clocks: &mut [u16], width: usize, chains: usize, p: u16, u: u16)
     ensures { λ r. ⌜ now (clocks .exit) ≡ copyRow width chains p u (now (clocks .entry)) ⌝ }
 {
@@ -124,17 +141,19 @@ pub fn copy_row(clocks: &mut [u16], width: usize, chains: usize, p: u16, u: u16)
     let a = (u as usize) * width;
     let e = a + width;
     let b = (p as usize) * width;
-    let entries = reach(width, chains, p);
+    let entries = span(width, chains, p);
     let mut c = 0;
     while c < entries {
         let value = clocks[b + c];
         put(&mut clocks[a..e], c, value);
         c += 1;
     }
+    let z = a + entries;
+    clear(&mut clocks[z..e], width);
 }
 
 // Zeros in row u.
-fn clear_row(clocks: &mut [u16], width: usize, u: u16)
+pub fn clear_row(clocks: &mut [u16], width: usize, u: u16)
     ensures { λ r. ⌜ now (clocks .exit) ≡ clearRow width u (now (clocks .entry)) ⌝ }
 {
     if !has_row(clocks.len(), width, u) {

@@ -7,7 +7,7 @@ use lib.ListN.{getD}
 use Rattle.ranks.specs.Said.{Op, link, begin, other}
 use Rattle.order.specs.Schedule.{begins, Ordered}
 use Rattle.order.specs.Walk.{walk, fillWalk}
-use Rattle.clocks.specs.Rows.{hasRow, reach, mergeAt, mergeFrom, mergeRow, copyAt, copyFrom, copyRow}
+use Rattle.clocks.specs.Rows.{hasRow, reach, mergeAt, mergeFrom, mergeRow, span, clearPast, copyAt, copyFrom, copyRow}
 use Rattle.order.proofs.ScheduleLaws.{ordered-zero, ordered-suc}
 
 -- the records of T up to the third begin
@@ -19,9 +19,9 @@ merged-on : walk records 2 1 8 1 (1 ∷ 0 ∷ 0 ∷ 0 ∷ 0 ∷ 0 ∷ []) ≡ re
 unfolding walk mergeRow mergeFrom mergeAt reach hasRow
 merged-on = refl
 
--- so does the walk that fills, and both are to look for a chain from chain 0 on
-copied-on : fillWalk records 2 1 8 1 (1 ∷ 0 ∷ 0 ∷ 0 ∷ 0 ∷ 0 ∷ []) (0 ∷ 0 ∷ 0 ∷ []) ≡ record { position = 4; clocks = 1 ∷ 0 ∷ 1 ∷ 0 ∷ 1 ∷ 0 ∷ []; hints = 0 ∷ 1024 ∷ 1024 ∷ [] }
-unfolding fillWalk copyRow copyFrom copyAt reach hasRow
+-- so does the walk that fills, whatever the other two held, and both are to look for a chain from chain 0 on
+copied-on : fillWalk records 2 1 8 1 (1 ∷ 0 ∷ 7 ∷ 7 ∷ 7 ∷ 7 ∷ []) (0 ∷ 0 ∷ 0 ∷ []) ≡ record { position = 4; clocks = 1 ∷ 0 ∷ 1 ∷ 0 ∷ 1 ∷ 0 ∷ []; hints = 0 ∷ 1024 ∷ 1024 ∷ [] }
+unfolding fillWalk copyRow copyFrom copyAt span clearPast hasRow
 copied-on = refl
 
 -- they stand in order

@@ -20,33 +20,29 @@ use Rattle.order.specs.Lent.{enoughChains, clocksFilled, chainsFilled}
 use Rattle.order.specs.declared.Filling.{Filling}
 use Rattle.order.specs.Paper.{fillPaper, FillsTrace}
 use Rattle.order.specs.PassEnds.{Ready, Passes}
-use Rattle.order.proofs.SpaceLaws.{cleared, cleared-drop, cleared-length, has-room}
+use Rattle.order.proofs.SpaceLaws.{has-room}
 
-module _ (tr : List Record) (a : Acceptable tr) (events width : ℕ) (ee : events ≡ eventsIn tr) (cs cs₁ : List ℕ)
-    (space : spaceFor width events (length cs) ≡ true) (d₁ : cs₁ ≡ clearRows width events cs) where
+module _ (tr : List Record) (a : Acceptable tr) (events width : ℕ) (ee : events ≡ eventsIn tr) (cs : List ℕ)
+    (space : spaceFor width events (length cs) ≡ true) where
   fits : events * width ≤ length cs
   fits = has-room width events (length cs) space .fits
 
   narrow : width ≤ 1024
   narrow = has-room width events (length cs) space .narrow
 
-  c₁ : cs₁ ≡ replicate (events * width) 0 ++ drop (events * width) cs
-  c₁ = d₁ ∙ clear-rows-fit width cs events narrow fits
-
-  pub ready : (ranks sizes of : List ℕ) → ranks ≡ ranksOf tr → sizes ≡ noChains → of ≡ noChains → Ready tr width ranks cs₁ sizes of
+  pub ready : (ranks sizes of : List ℕ) → ranks ≡ ranksOf tr → sizes ≡ noChains → of ≡ noChains → Ready tr width ranks cs sizes of
   ready ranks sizes of r s o = record {
     acceptable = a;
     ranks-are = r;
     narrow = narrow;
-    room = rw (← ee) (omega (arith, cleared-length (events * width) cs cs₁ fits c₁, fits));
-    clear = rw (← ee) (cleared (events * width) cs cs₁ fits c₁);
+    room = rw (← ee) fits;
     sizes-clear = s;
     of-clear = o;
   }
 
-  module _ (cs₂ of : List ℕ) (chains position : ℕ) (p : Passes tr width cs₁ cs₂ of chains position) where
+  module _ (cs₂ of : List ℕ) (chains position : ℕ) (p : Passes tr width cs cs₂ of chains position) where
     rest-of : drop (events * width) cs₂ ≡ drop (events * width) cs
-    rest-of = rw (← ee) at (p .rest) ∙ cleared-drop (events * width) cs cs₁ fits c₁
+    rest-of = rw (← ee) at (p .rest)
 
     not-short : length tr ≤ position → Dec (shortRow tr width ≡ eventsIn tr) → shortRow tr width ≡ eventsIn tr
     not-short h (yes e) = e
@@ -64,13 +60,12 @@ module _ (tr : List Record) (a : Acceptable tr) (events width : ℕ) (ee : event
       unfolding enoughChains demand
       short-reply = rw (ne-eqb (shortRow tr width) events none, ← p .short (not-whole h) .place)
 
-      short-clocks : (cs₃ : List ℕ) → length cs₂ ≡ length cs₁ → cs₃ ≡ clearRows width events cs₂ → cs₃ ≡ clocksFilled tr events width cs
+      short-clocks : (cs₃ : List ℕ) → length cs₂ ≡ length cs → cs₃ ≡ clearRows width events cs₂ → cs₃ ≡ clocksFilled tr events width cs
       unfolding clocksFilled unless
       short-clocks cs₃ l e =
-          let k = cleared-length (events * width) cs cs₁ fits c₁ in
           rw short-reply (e ∙ (clear-rows-fit width cs₂ events narrow (omega (arith, fits)) ∙ ap (λ r. replicate (events * width) 0 ++ r) rest-of))
 
-      pub ends-short : (cs₃ of₃ all : List ℕ) → length cs₂ ≡ length cs₁ → cs₃ ≡ clearRows width events cs₂ → of₃ ≡ noChains → all ≡ ranksOf tr → (r : Filling) → fillPaper r ≡ refused 23 (position + 1) → FillsTrace tr events width cs cs₃ r of₃ all
+      pub ends-short : (cs₃ of₃ all : List ℕ) → length cs₂ ≡ length cs → cs₃ ≡ clearRows width events cs₂ → of₃ ≡ noChains → all ≡ ranksOf tr → (r : Filling) → fillPaper r ≡ refused 23 (position + 1) → FillsTrace tr events width cs cs₃ r of₃ all
       unfolding chainsFilled unless
       ends-short cs₃ of₃ all l e o k r q = record { answer = q ∙ sym short-reply; clocks-after = short-clocks cs₃ l e; chains-after = rw short-reply o; ranks-after = k }
 
@@ -86,8 +81,7 @@ module _ (tr : List Record) (a : Acceptable tr) (events width : ℕ) (ee : event
       whole-clocks : cs₂ ≡ clocksFilled tr events width cs
       unfolding clocksFilled unless
       whole-clocks =
-          rw whole-reply
-          (p .whole enough .clocks-are ∙ rw (← ee) (ap (λ r. traceClocks tr width ++ r) (cleared-drop (events * width) cs cs₁ fits c₁)))
+          rw whole-reply (rw (← ee) at (p .whole enough .clocks-are))
 
       whole-chains : of ≡ chainsFilled tr events width
       unfolding chainsFilled unless

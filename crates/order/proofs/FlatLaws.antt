@@ -1,24 +1,26 @@
 -- Merging and adding in flat clocks, over any rows. Assumes nothing.
-use Prim.Native.Nat.{ℕ, zero, suc, _+_, _*_, _-_, _≤_, _<_, max}
+use Prim.Native.Nat.{ℕ, zero, suc, _+_, _*_, _-_, _/_, _%_, _≤_, _<_, max}
 use mathlib.Core.Path.{_≡_, refl, sym, _∙_, ap, ap₂}
 use mathlib.Core.Logic.{_≢_, _⊎_, inl, inr}
 use mathlib.Core.Bool.{cond, _&&_, and-false}
 use mathlib.Core.List.{List, _++_}
 use native.Mathlib.Omega.{arith}
-use native.Mathlib.Nat.{mul-le-mul-right, suc-mul}
+use native.Mathlib.Nat.{mul-le-mul-right, suc-mul, div-add-mod'}
 use lib.Dec.{eqb}
-use lib.ListN.{length, getD, set, take, drop, length-append, length-take, length-drop, List·getD-append}
-use lib.Seq.{set-append-left, getD-take, getD-drop}
+use lib.ListN.{length, getD, set, take, drop, length-append, length-take, length-drop, List·getD-append, take-append-drop}
+use lib.Seq.{set-append-left, getD-take, getD-drop, getD-append-add, ext-getD, length-take-le}
 use borrow.Author.Tests.{eq-eqb, ne-eqb}
 use Rattle.order.specs.Chains.{bit, firstFrom}
 use Rattle.order.specs.Clocks.{flat}
-use Rattle.clocks.specs.Rows.{reach, mergeAt, mergeFrom, mergeRow}
+use Rattle.clocks.specs.Rows.{reach, mergeAt, mergeFrom, mergeRow, copyRow, clearRow}
 use Rattle.clocks.proofs.RowLaws.{reach-le, reach-past, merge-row-fits, stored}
 use borrow.Rule.Slice.PartMut.{putMid}
 use Rattle.order.specs.Pass.{tick, fullAt, chooseIn, NoneFull}
+use Rattle.order.specs.ByEvent.{OnlyRow}
 use Rattle.slices.proofs.Tests.{decide-eq, decide-lt}
 use Rattle.order.proofs.CountLaws.{first-past, first-over}
-use Rattle.order.proofs.RowLaws.{SameBut, same-but, flat-length, flat-at, flat-same, flat-set, place}
+use Rattle.order.proofs.RowLaws.{SameBut, same-but, flat-length, flat-at, flat-is, flat-same, flat-set, place, row-below}
+use Rattle.order.proofs.OwnRows.{only-cleared, only-copied, cleared-own, copied-own}
 
 -- row p merged into row u
 abbrev pub mergeInto : (ℕ → ℕ → ℕ) → ℕ → ℕ → ℕ → ℕ → ℕ
@@ -29,6 +31,26 @@ into-own r p u c = rw (eq-eqb u u refl)
 
 pub into-other : (r : ℕ → ℕ → ℕ) (p u v c : ℕ) → v ≢ u → mergeInto r p u v c ≡ r v c
 into-other r p u v c n = rw (ne-eqb v u n)
+
+-- row p copied over row u
+abbrev pub copyInto : (ℕ → ℕ → ℕ) → ℕ → ℕ → ℕ → ℕ → ℕ
+copyInto r p u v c = cond (eqb v u) (r p c) (r v c)
+
+pub copy-own : (r : ℕ → ℕ → ℕ) (p u c : ℕ) → copyInto r p u u c ≡ r p c
+copy-own r p u c = rw (eq-eqb u u refl)
+
+pub copy-other : (r : ℕ → ℕ → ℕ) (p u v c : ℕ) → v ≢ u → copyInto r p u v c ≡ r v c
+copy-other r p u v c n = rw (ne-eqb v u n)
+
+-- zeros in row u
+abbrev pub zeroIn : (ℕ → ℕ → ℕ) → ℕ → ℕ → ℕ → ℕ
+zeroIn r u v c = cond (eqb v u) 0 (r v c)
+
+pub zero-own : (r : ℕ → ℕ → ℕ) (u c : ℕ) → zeroIn r u u c ≡ 0
+zero-own r u c = rw (eq-eqb u u refl)
+
+pub zero-other : (r : ℕ → ℕ → ℕ) (u v c : ℕ) → v ≢ u → zeroIn r u v c ≡ r v c
+zero-other r u v c n = rw (ne-eqb v u n)
 
 -- 1 added at entry c of row u
 abbrev pub addAt : (ℕ → ℕ → ℕ) → ℕ → ℕ → ℕ → ℕ → ℕ
@@ -63,6 +85,54 @@ module _ (w m : ℕ) (rest : List ℕ) where
   flat-store r s u c h k f =
       let inside : u * w + c < length (flat w m r) = omega (arith, flat-length w m r, place w m u c h k) in
       set-append-left (flat w m r) rest (u * w + c) (s u c) inside ∙ ap (λ cs. cs ++ rest) (flat-set w m r s u c h k f)
+
+  -- row u stands in the clocks
+  flat-fits : (r : ℕ → ℕ → ℕ) (u : ℕ) → u < m → u * w + w ≤ length (flat w m r ++ rest)
+  flat-fits r u h = omega (arith, flat-length w m r, length-append (flat w m r) rest, mul-le-mul-right w h, suc-mul u w)
+
+  -- clocks that differ in the part of row u alone
+  flat-only :
+      (r s : ℕ → ℕ → ℕ) (u : ℕ) (xs : List ℕ) → u < m → OnlyRow w u (flat w m r ++ rest) xs → ((v d : ℕ) → v ≢ u → s v d ≡ r v d) →
+      ((d : ℕ) → d < w → getD xs (u * w + d) 0 ≡ s u d) → xs ≡ flat w m s ++ rest
+  flat-only r s u xs h o else own = ext-getD 0 xs (flat w m s ++ rest) long (λ i a. each i (decide-lt i (m * w)))
+    where
+      long : length xs ≡ length (flat w m s ++ rest)
+      long = omega (arith, o .as-long, length-append (flat w m r) rest, length-append (flat w m s) rest, flat-length w m r, flat-length w m s)
+
+      entry : (v d : ℕ) → v < m → d < w → (v < u) ⊎ (u ≤ v) → (v ≡ u) ⊎ (v ≢ u) → getD xs (v * w + d) 0 ≡ s v d
+      entry v d a b k (inl e) = rw e (own d b)
+      entry v d a b (inl k) (inr e) =
+          o .before (v * w + d) (omega (arith, place w u v d k b)) ∙ (flat-read r v d a b ∙ sym (else v d e))
+      entry v d a b (inr k) (inr e) =
+          let l : u < v = omega arith in
+          o .after (v * w + d) (omega (arith, mul-le-mul-right w l, suc-mul u w)) ∙ (flat-read r v d a b ∙ sym (else v d e))
+
+      each : (i : ℕ) → (i < m * w) ⊎ (m * w ≤ i) → getD xs i 0 ≡ getD (flat w m s ++ rest) i 0
+      each i (inl a) =
+          let q = row-below w m i a in
+          let e = div-add-mod' i w in
+          sym (ap (λ (x : ℕ). getD xs x 0) e)
+          ∙ (entry (i / w) (i % w) (q .0) (q .1) (decide-lt (i / w) u) (decide-eq (i / w) u)
+          ∙ (sym (flat-read s (i / w) (i % w) (q .0) (q .1)) ∙ ap (λ (x : ℕ). getD (flat w m s ++ rest) x 0) e))
+      each i (inr a) =
+          let past : (t : ℕ → ℕ → ℕ) → getD (flat w m t ++ rest) i 0 ≡ getD rest (i - m * w) 0 = λ t.
+          let e : i ≡ length (flat w m t) + (i - m * w) = omega (arith, flat-length w m t) in
+          ap (λ (x : ℕ). getD (flat w m t ++ rest) x 0) e ∙ getD-append-add (flat w m t) rest (i - m * w) 0 in
+          o .after i (omega (arith, mul-le-mul-right w h, suc-mul u w)) ∙ (past r ∙ sym (past s))
+
+  pub cleared-row : (r : ℕ → ℕ → ℕ) (u : ℕ) → w ≤ 1024 → u < m → clearRow w u (flat w m r ++ rest) ≡ flat w m (zeroIn r u) ++ rest
+  cleared-row r u g h =
+      flat-only r (zeroIn r u) u _ h (only-cleared w u (flat w m r ++ rest)) (zero-other r u)
+      (λ d k. cleared-own w u d (flat w m r ++ rest) g (flat-fits r u h) k ∙ sym (zero-own r u d))
+
+  -- row p is 0 where no chain is taken and past its own number
+  pub copied-row :
+      (r : ℕ → ℕ → ℕ) (chains p u : ℕ) → w ≤ 1024 → p < u → u < m → ((c : ℕ) → c < w → (chains ≤ c) ⊎ (p < c) → r p c ≡ 0) →
+      copyRow w chains p u (flat w m r ++ rest) ≡ flat w m (copyInto r p u) ++ rest
+  copied-row r chains p u g h i z =
+      let read : (d : ℕ) → d < w → getD (flat w m r ++ rest) (p * w + d) 0 ≡ r p d = λ d k. flat-read r p d (omega arith) k in
+      flat-only r (copyInto r p u) u _ i (only-copied w u chains p (flat w m r ++ rest)) (copy-other r p u)
+      (λ d k. copied-own w u chains p d (flat w m r ++ rest) h g (flat-fits r u i) k (λ c a b. read c a ∙ z c a b) ∙ (read d k ∙ sym (copy-own r p u d)))
 
   merge-at : (r : ℕ → ℕ → ℕ) (p u c : ℕ) → p < m → u < m → c < w → mergeAt w p u c (flat w m r ++ rest) ≡ flat w m (edit r p u c) ++ rest
   unfolding mergeAt
@@ -122,6 +192,13 @@ module _ (w m : ℕ) (rest : List ℕ) where
     where
       but : SameBut u c r (addAt r u c)
       but = same-but u c r (addAt r u c) (add-other r u c) (λ d n. add-own r u c d ∙ rw (ne-eqb c d (λ f. n (sym f))) (omega arith))
+
+-- any clocks that have space for the rows
+pub flat-any : (w m : ℕ) (cs : List ℕ) → m * w ≤ length cs → cs ≡ flat w m (λ u c. getD cs (u * w + c) 0) ++ drop (m * w) cs
+flat-any w m cs h =
+    let front = flat-is w m (λ u c. getD cs (u * w + c) 0) (take (m * w) cs) (length-take-le (m * w) cs h)
+    (λ u c a b. getD-take (m * w) cs (u * w + c) 0 (place w m u c a b)) in
+    sym (take-append-drop (m * w) cs) ∙ ap (λ (x : List ℕ). x ++ drop (m * w) cs) front
 
 -- in the part of row u
 pub part-entry : (w u c : ℕ) (xs : List ℕ) → u * w + w ≤ length xs → c < w → (c < length (take (u * w + w - u * w) (drop (u * w) xs))) × (getD (take (u * w + w - u * w) (drop (u * w) xs)) c 0 ≡ getD xs (u * w + c) 0)

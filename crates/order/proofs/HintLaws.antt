@@ -1,28 +1,26 @@
--- The walk that fills, record by record: where the rows are as they should be, a link that copies merges; and what the hints tell.
+-- The walk that fills, record by record: the first link to a row copies, whatever the row held; and what the hints tell.
 -- Assumes nothing.
-use Prim.Native.Nat.{ℕ, zero, suc, _+_, _*_, _-_, _≤_, _<_, max}
+use Prim.Native.Nat.{ℕ, zero, suc, _+_, _-_, _≤_, _<_, max}
 use mathlib.Core.Path.{_≡_, refl, sym, _∙_, ap, ap₂}
 use mathlib.Core.Logic.{_≢_, _⊎_, inl, inr}
-use mathlib.Core.Bool.{Bool, true, false}
+use mathlib.Core.Bool.{true, false}
 use mathlib.Core.List.{List, [], _∷_, _++_, List·Memᴰ·head}
 use native.Mathlib.Omega.{arith}
 use borrow.Author.Tests.{eq-eqb, ne-eqb}
-use lib.Dec.{eqb}
 use lib.ListN.{length, getD, set, length-set}
 use lib.Seq.{getD-set-same, getD-set-other}
 use Rattle.records.specs.declared.Record.{Record}
 use Rattle.records.specs.Records.{at, leading}
 use Rattle.records.proofs.Leading.{leading-le, leading-accesses, leading-over}
 use Rattle.ranks.specs.Said.{Op, link, begin, other}
-use Rattle.clocks.specs.Rows.{rowsIf, mergeRow, copyRow}
-use Rattle.clocks.proofs.RowLaws.{copy-merges}
+use Rattle.clocks.specs.Rows.{mergeRow, copyRow}
 use Rattle.order.specs.Clocks.{largest, flat}
 use Rattle.order.specs.Schedule.{begins, linked, Ordered}
 use Rattle.order.specs.Walk.{FillWalked, stops, fillOn, linkedBy, hintedBy, fillWalk, opBy}
 use Rattle.slices.proofs.Tests.{decide-eq, decide-lt}
 use Rattle.order.proofs.ScheduleLaws.{begins-suc, begins-mono, linked-exact, begin-next, link-between}
-use Rattle.order.proofs.FlatLaws.{mergeInto, merged-row, flat-read}
-use Rattle.order.proofs.WalkLaws.{Along, along-link, along-other, Arrives, arrives-here, arrives-next, ZeroPast, access-other}
+use Rattle.order.proofs.FlatLaws.{mergeInto, into-own, into-other, copyInto, copy-own, copy-other, merged-row, copied-row}
+use Rattle.order.proofs.WalkLaws.{Along, along-link, along-other, ZeroPast, access-other}
 
 abbrev sourceOf : Op → ℕ
 sourceOf (link p u) = suc p
@@ -127,7 +125,7 @@ module _ (op : ℕ → Op) where
         high u h (inr m) = rw (getD-set-other hs v u (C v) 0 m) (f .low u h)
 
     -- no link came where the hint is 0
-    unhinted :
+    pub unhinted :
         (n : ℕ) → Ordered op n → (i : ℕ) → i ≤ n → (hs : List ℕ) → Hinted i hs → ((p : ℕ) → p < begins op i → C p < 1024) →
         (u : ℕ) → begins op i ≤ u → u < length hs → getD hs u 0 ≡ 0 → linked op i u ≡ []
     unhinted n o i h hs f few u a k z = none (linked op i u) refl
@@ -139,79 +137,157 @@ module _ (op : ℕ → Op) where
             let g = link-between op n o (r .0) q u (omega (arith, r .1)) (r .2) in
             absurd (omega (arith, f .hints u q (r .0) a k (r .1) (r .2), few q (omega (arith, g .0, begins-mono op (r .0) i (omega (arith, r .1))))))
 
+module _ (op : ℕ → Op) (n : ℕ) (R : ℕ → ℕ → ℕ) (w : ℕ) (rest : List ℕ) where
+  -- The clocks show the rows of those that have begun or to which a link came; any other row of theirs may hold anything.
+  pub record Shows (i : ℕ) (hs cs : List ℕ) : Type 0 where
+    pub rows : ℕ → ℕ → ℕ
+    pub along : Along op (λ u c. 0) R i rows
+    pub shown : ℕ → ℕ → ℕ
+    pub shown-is : (u c : ℕ) → (u < begins op i) ⊎ (getD hs u 0 ≢ 0) → shown u c ≡ rows u c
+    pub clocks-are : cs ≡ flat w (begins op n) shown ++ rest
+
 module _
     (op : ℕ → Op) (n : ℕ) (o : Ordered op n) (within : (i p u : ℕ) → i < n → op i ≡ link p u → u < begins op n)
     (R : ℕ → ℕ → ℕ) (C : ℕ → ℕ) (w chains : ℕ) (narrow : w ≤ 1024) (rest : List ℕ) where
   pub record FillArrives (i : ℕ) (hs : List ℕ) (r : FillWalked) : Type 0 where
-    pub arrives : Arrives op n (λ u c. 0) R w rest i (record { position = r .position; clocks = r .clocks })
+    pub later : i ≤ r .position
+    pub inside : r .position ≤ n
+    pub none-begun : begins op (r .position) ≡ begins op i
+    pub at-begin : r .position < n → op (r .position) ≡ begin (begins op i)
+    pub shows : Shows op n R w rest (r .position) (r .hints) (r .clocks)
     pub same-length : length (r .hints) ≡ length hs
     pub hinted : Hinted op C (r .position) (r .hints)
     pub past : (u : ℕ) → begins op n ≤ u → getD (r .hints) u 0 ≡ getD hs u 0
 
-  module _ (i p u : ℕ) (rows : ℕ → ℕ → ℕ) (hs : List ℕ) (h : i < n) (x : op i ≡ link p u) (f : Along op (λ u c. 0) R i rows) (t : Hinted op C i hs)
+  module _ (i p u : ℕ) (hs cs : List ℕ) (h : i < n) (x : op i ≡ link p u) (f : Shows op n R w rest i hs cs) (s : ZeroPast op R w chains i) (t : Hinted op C i hs)
       (few : (q : ℕ) → q < begins op i → C q < 1024) (room : begins op n ≤ length hs) where
-    -- the row is 0 where no link has come to it
-    fresh : getD hs u 0 ≡ 0 → (d : ℕ) → d < w → getD (flat w (begins op n) rows ++ rest) (u * w + d) 0 ≡ 0
-    unfolding largest
-    fresh z d a =
-        let to = within i p u h x in
-        let after = link-between op n o i p u h x .1 in
-        let none = unhinted op C n o i (omega arith) hs t few u after (omega arith) z in
-        flat-read w (begins op n) rest rows u d to a ∙ (f .coming u d after ∙ rw none refl)
+    between : (p < begins op i) × (begins op i ≤ u)
+    between = link-between op n o i p u h x
 
-    link-merges : (cs : List ℕ) → cs ≡ flat w (begins op n) rows ++ rest → linkedBy w chains (link p u) hs cs ≡ mergeRow w chains p u cs
-    link-merges cs e = go (decide-eq (getD hs u 0) 0)
+    to : u < begins op n
+    to = within i p u h x
+
+    -- row p is shown, and 0 past its chains
+    source : (c : ℕ) → f .shown p c ≡ f .rows p c
+    source c = f .shown-is p c (inl (between .0))
+
+    zeros : (c : ℕ) → c < w → (chains ≤ c) ⊎ (p < c) → f .shown p c ≡ 0
+    zeros c a d = source c ∙ (f .along .done p c (between .0) ∙ s p c (between .0) a d)
+
+    -- the row is 0 where no link has come to it
+    fresh : getD hs u 0 ≡ 0 → (d : ℕ) → f .rows u d ≡ 0
+    unfolding largest
+    fresh z d =
+        let none = unhinted op C n o i (omega arith) hs t few u (between .1) (omega (arith, to)) z in
+        f .along .coming u d (between .1) ∙ rw none refl
+
+    abbrev noted : List ℕ
+    noted = set hs u (max (getD hs u 0) (1024 - getD hs p 0))
+
+    -- one row is made, the others stay
+    shows-link :
+        (cs′ : List ℕ) (made : ℕ → ℕ → ℕ) → cs′ ≡ flat w (begins op n) made ++ rest → ((v c : ℕ) → v ≢ u → made v c ≡ f .shown v c) →
+        ((c : ℕ) → made u c ≡ mergeInto (f .rows) p u u c) → Shows op n R w rest (suc i) noted cs′
+    shows-link cs′ made e else own = record {
+      rows = mergeInto (f .rows) p u;
+      along = along-link op (λ v c. 0) R n o i p u (f .rows) h x (f .along);
+      shown = made;
+      shown-is = λ v c k. each v c k (decide-eq v u);
+      clocks-are = e;
+    }
       where
-        go : (getD hs u 0 ≡ 0) ⊎ (getD hs u 0 ≢ 0) → linkedBy w chains (link p u) hs cs ≡ mergeRow w chains p u cs
-        go (inl z) = rw (eq-eqb (getD hs u 0) 0 z) (copy-merges w chains p u cs (λ d a. rw e (fresh z d a)))
-        go (inr z) = rw (ne-eqb (getD hs u 0) 0 z) refl
+        before : (v : ℕ) → v ≢ u → (v < begins op (suc i)) ⊎ (getD noted v 0 ≢ 0) → (v < begins op i) ⊎ (getD hs v 0 ≢ 0)
+        before v m (inl k) = inl (omega (arith, begins-suc op i (link p u) x))
+        before v m (inr k) = inr (λ z. k (getD-set-other hs u v (max (getD hs u 0) (1024 - getD hs p 0)) 0 m ∙ z))
+
+        each : (v c : ℕ) → (v < begins op (suc i)) ⊎ (getD noted v 0 ≢ 0) → (v ≡ u) ⊎ (v ≢ u) → made v c ≡ mergeInto (f .rows) p u v c
+        each v c k (inl m) = rw m (own c)
+        each v c k (inr m) = else v c m ∙ (f .shown-is v c (before v m k) ∙ sym (into-other (f .rows) p u v c m))
+
+    shows-linked : (getD hs u 0 ≡ 0) ⊎ (getD hs u 0 ≢ 0) → Shows op n R w rest (suc i) noted (linkedBy w chains (link p u) hs cs)
+    shows-linked (inl z) =
+        let copied = copied-row w (begins op n) rest (f .shown) chains p u narrow (omega (arith, between .0, between .1)) to zeros in
+        let own : (c : ℕ) → copyInto (f .shown) p u u c ≡ mergeInto (f .rows) p u u c = λ c.
+        omega (arith, copy-own (f .shown) p u c, source c, into-own (f .rows) p u c, fresh z c) in
+        rw (eq-eqb (getD hs u 0) 0 z) (shows-link _ (copyInto (f .shown) p u) (ap (copyRow w chains p u) (f .clocks-are) ∙ copied) (copy-other (f .shown) p u) own)
+    shows-linked (inr z) =
+        let merged = merged-row w (begins op n) rest (f .shown) chains p u narrow (omega (arith, between .0, between .1)) to zeros in
+        let own : (c : ℕ) → mergeInto (f .shown) p u u c ≡ mergeInto (f .rows) p u u c = λ c. into-own (f .shown) p u c ∙ (ap₂ max (f .shown-is u c (inr z)) (source c) ∙ sym (into-own (f .rows) p u c)) in
+        rw (ne-eqb (getD hs u 0) 0 z) (shows-link _ (mergeInto (f .shown) p u) (ap (mergeRow w chains p u) (f .clocks-are) ∙ merged) (into-other (f .shown) p u) own)
+
+  shows-other : (i : ℕ) (hs cs : List ℕ) → op i ≡ other → Shows op n R w rest i hs cs → Shows op n R w rest (suc i) hs cs
+  shows-other i hs cs x f = record {
+    rows = f .rows;
+    along = along-other op (λ u c. 0) R i (f .rows) x (f .along);
+    shown = f .shown;
+    shown-is = λ u c k. f .shown-is u c (before u k);
+    clocks-are = f .clocks-are;
+  }
+    where
+      before : (u : ℕ) → (u < begins op (suc i)) ⊎ (getD hs u 0 ≢ 0) → (u < begins op i) ⊎ (getD hs u 0 ≢ 0)
+      before u (inl k) = inl (omega (arith, begins-suc op i other x))
+      before u (inr k) = inr k
+
+  fill-here :
+      (i : ℕ) (cs hs : List ℕ) → i ≤ n → (i < n → op i ≡ begin (begins op i)) → Shows op n R w rest i hs cs → Hinted op C i hs →
+      FillArrives i hs (record { position = i; clocks = cs; hints = hs })
+  fill-here i cs hs h k f t = record {
+    later = omega arith;
+    inside = h;
+    none-begun = refl;
+    at-begin = k;
+    shows = f;
+    same-length = refl;
+    hinted = t;
+    past = λ u a. refl;
+  }
+
+  -- from a record that is no begin on
+  fill-further :
+      (i : ℕ) (hs hs′ : List ℕ) (r : FillWalked) → begins op (suc i) ≡ begins op i → length hs′ ≡ length hs →
+      ((u : ℕ) → begins op n ≤ u → getD hs′ u 0 ≡ getD hs u 0) → FillArrives (suc i) hs′ r → FillArrives i hs r
+  fill-further i hs hs′ r b l same a = record {
+    later = omega (arith, a .later);
+    inside = a .inside;
+    none-begun = a .none-begun ∙ b;
+    at-begin = λ h. a .at-begin h ∙ ap begin b;
+    shows = a .shows;
+    same-length = a .same-length ∙ l;
+    hinted = a .hinted;
+    past = λ u h. a .past u h ∙ same u h;
+  }
 
   -- where k records are left
   pub fill-walked :
-      (k i : ℕ) (rows : ℕ → ℕ → ℕ) (cs hs : List ℕ) → i + k ≡ n → cs ≡ flat w (begins op n) rows ++ rest → Along op (λ u c. 0) R i rows →
-      ZeroPast op R w chains i → Hinted op C i hs → ((q : ℕ) → q < begins op i → C q < 1024) → begins op n ≤ length hs →
-      FillArrives i hs (fillWalk op w chains k i cs hs)
+      (k i : ℕ) (cs hs : List ℕ) → i + k ≡ n → Shows op n R w rest i hs cs → ZeroPast op R w chains i → Hinted op C i hs →
+      ((q : ℕ) → q < begins op i → C q < 1024) → begins op n ≤ length hs → FillArrives i hs (fillWalk op w chains k i cs hs)
   unfolding fillWalk
-  fill-walked zero i rows cs hs z e f s t few room =
-      let r = arrives-here op n (λ u c. 0) R w rest i rows (omega arith) (λ h. absurd (omega arith)) f in
-      rw e (record { arrives = r; same-length = refl; hinted = t; past = λ u h. refl })
-  fill-walked (suc k) i rows cs hs z e f s t few room = go (op i) refl (λ rows′ cs′ hs′. fill-walked k (suc i) rows′ cs′ hs′ (omega arith))
+  fill-walked zero i cs hs z f s t few room = fill-here i cs hs (omega arith) (λ h. absurd (omega arith)) f t
+  fill-walked (suc k) i cs hs z f s t few room = go (op i) refl (λ cs′ hs′. fill-walked k (suc i) cs′ hs′ (omega arith))
     where
       h : i < n
       h = omega arith
 
       go : (x : Op) → op i ≡ x →
-          ((rows′ : ℕ → ℕ → ℕ) (cs′ hs′ : List ℕ) → cs′ ≡ flat w (begins op n) rows′ ++ rest → Along op (λ u c. 0) R (suc i) rows′ →
-          ZeroPast op R w chains (suc i) → Hinted op C (suc i) hs′ → ((q : ℕ) → q < begins op (suc i) → C q < 1024) → begins op n ≤ length hs′ →
-          FillArrives (suc i) hs′ (fillWalk op w chains k (suc i) cs′ hs′)) →
+          ((cs′ hs′ : List ℕ) → Shows op n R w rest (suc i) hs′ cs′ → ZeroPast op R w chains (suc i) → Hinted op C (suc i) hs′ →
+          ((q : ℕ) → q < begins op (suc i) → C q < 1024) → begins op n ≤ length hs′ → FillArrives (suc i) hs′ (fillWalk op w chains k (suc i) cs′ hs′)) →
           FillArrives i hs (fillOn (stops x) i (linkedBy w chains x hs cs) (hintedBy x hs) (fillWalk op w chains k (suc i)))
       go (link p u) x next =
           let b = begins-suc op i (link p u) x in
           let g = link-between op n o i p u h x in
-          let to = within i p u h x in
           let y = max (getD hs u 0) (1024 - getD hs p 0) in
           let size = length-set hs u y in
-          let z : (c : ℕ) → c < w → (chains ≤ c) ⊎ (p < c) → rows p c ≡ 0 = λ c a d. f .done p c (g .0) ∙ s p c (g .0) a d in
-          let merges = merged-row w (begins op n) rest rows chains p u narrow (omega (arith, g .0, g .1)) to z in
-          let m = link-merges i p u rows hs h x f t few room cs e ∙ (ap (mergeRow w chains p u) e ∙ merges) in
-          let along = along-link op (λ u c. 0) R n o i p u rows h x f in
-          let hinted = hinted-link op C i p u hs x (g .0) (g .1) t in
-          let r = next (mergeInto rows p u) (linkedBy w chains (link p u) hs cs) (set hs u y) m along (λ q c a d j. s q c (omega (arith, b)) d j) hinted
+          let to = within i p u h x in
+          let shows = shows-linked i p u hs cs h x f s t few room (decide-eq (getD hs u 0) 0) in
+          let r = next _ (set hs u y) shows (λ q c a d j. s q c (omega (arith, b)) d j) (hinted-link op C i p u hs x (g .0) (g .1) t)
           (λ q a. few q (omega (arith, b))) (omega arith) in
-          record {
-            arrives = arrives-next op n (λ u c. 0) R w rest i _ b (r .arrives);
-            same-length = r .same-length ∙ size;
-            hinted = r .hinted;
-            past = λ v q. r .past v q ∙ getD-set-other hs u v y 0 (omega arith);
-          }
-      go (begin u) x next =
-          let r = arrives-here op n (λ u c. 0) R w rest i rows (omega arith) (λ q. x ∙ ap begin (begin-next op n o i u h x)) f in
-          rw e (record { arrives = r; same-length = refl; hinted = t; past = λ u h. refl })
+          fill-further i hs (set hs u y) _ b size (λ v q. getD-set-other hs u v y 0 (omega arith)) r
+      go (begin u) x next = fill-here i cs hs (omega arith) (λ q. x ∙ ap begin (begin-next op n o i u h x)) f t
       go other x next =
           let b = begins-suc op i other x in
-          let along = along-other op (λ u c. 0) R i rows x f in
-          let r = next rows cs hs e along (λ q c a d j. s q c (omega (arith, b)) d j) (hinted-other op C i hs x t) (λ q a. few q (omega (arith, b))) room in
-          record { arrives = arrives-next op n (λ u c. 0) R w rest i _ b (r .arrives); same-length = r .same-length; hinted = r .hinted; past = r .past }
+          let r = next cs hs (shows-other i hs cs x f) (λ q c a d j. s q c (omega (arith, b)) d j) (hinted-other op C i hs x t)
+          (λ q a. few q (omega (arith, b))) room in
+          fill-further i hs hs _ b refl (λ v q. refl) r
 
 -- the walk as a loop makes it, from record i up to n
 module _ (op : ℕ → Op) (w chains n i : ℕ) (cs hs : List ℕ) where

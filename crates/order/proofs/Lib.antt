@@ -12,6 +12,7 @@ pub mod RowLaws
 pub mod Theorems
 -- The records: links and begins; the pass that fills the rows, with functions and with lists
 pub mod ScheduleLaws
+pub mod OwnRows
 pub mod FlatLaws
 pub mod WalkLaws
 pub mod HintLaws

@@ -3,24 +3,26 @@
 use Prim.Native.Nat.{ℕ, suc, _+_, _*_, _-_, _<_, _≤_, max}
 use mathlib.Core.Path.{_≡_, refl, sym, ap, ap₂, _∙_, subst}
 use mathlib.Core.Bool.{_&&_}
-use mathlib.Core.List.{List, [], _∷_, _++_, append-assoc}
+use mathlib.Core.List.{List, [], _++_, append-assoc}
 use mathlib.Core.Logic.{_≢_, _⊎_, inl, inr}
 use native.Mathlib.Omega.{arith}
 use native.Mathlib.Numerals.{add-one}
 use native.Mathlib.Nat.{mul-le-mul-right, suc-mul}
-use borrow.Author.Tests.{le-leb, lt-leb}
+use borrow.Author.Tests.{le-leb, lt-leb, eq-eqb, ne-eqb}
 use lib.Dec.{eqb, eqb→eq}
-use lib.ListN.{length, getD, set, drop, replicate, length-append, length-replicate, length-set, getD-replicate, List·getD-append}
-use lib.Seq.{set-at, drop-at, getD-set-same, getD-set-other, ext-getD, getD-append-add}
+use lib.ListN.{length, getD, set, drop, replicate, length-append, length-replicate, length-set, getD-replicate, List·getD-append, List·getD-eq-default}
+use lib.Seq.{set-at, drop-at, getD-set-other, ext-getD, getD-append-add}
 use Rattle.records.specs.declared.Record.{Record}
 use Rattle.records.specs.Records.{at, isBegin}
 use Rattle.trace.specs.Reading.{Acceptable}
 use Rattle.trace.proofs.Events.{few-events}
 use Rattle.records.proofs.Positions.{lt-or-ge}
 use Rattle.ranks.specs.Ranks.{ranksOf}
-use Rattle.ranks.specs.Said.{Op, link, begin}
+use Rattle.ranks.specs.Said.{Op, begin}
 use Rattle.order.specs.Links.{Links, Forward, _∈_, leq}
-use Rattle.order.specs.Clocks.{table, flat, chainOf, entry, merged, clocksOf}
+use Rattle.clocks.specs.Rows.{rowsIf, clearRow}
+use Rattle.order.specs.Chains.{bit}
+use Rattle.order.specs.Clocks.{table, flat, largest, chainOf, entry, merged, clocksOf}
 use Rattle.order.specs.Schedule.{begins}
 use Rattle.order.specs.Walk.{FillWalked, FillWalks}
 use Rattle.order.specs.Pass.{tick, chooseIn, Rows, enterRow, beginRow, RoomToBegin, Are}
@@ -33,10 +35,10 @@ use Rattle.order.proofs.CountLaws.{firstFrom-local, first-first, first-
 use Rattle.order.proofs.ScheduleLaws.{begins-zero, begins-suc, begins-mono, begin-next, links-made}
 use Rattle.order.proofs.ChainLaws.{chain-below, members-le, needs-at, needs-none}
 use Rattle.order.proofs.ClockLaws.{chain-merged}
-use Rattle.order.proofs.RowLaws.{flat-length, flat-same, flat-zero, table-length, table-at}
-use Rattle.order.proofs.FlatLaws.{addAt, flat-read, ticked-row}
-use Rattle.order.proofs.WalkLaws.{Along, along-start, pred-linked, ZeroPast}
-use Rattle.order.proofs.HintLaws.{Hinted, hinted-begin, FillArrives}
+use Rattle.order.proofs.RowLaws.{flat-length, flat-same, table-length, table-at}
+use Rattle.order.proofs.FlatLaws.{addAt, zeroIn, zero-own, zero-other, flat-read, flat-any, cleared-row, ticked-row}
+use Rattle.order.proofs.WalkLaws.{along-start, pred-linked, ZeroPast}
+use Rattle.order.proofs.HintLaws.{Hinted, hinted-begin, unhinted, Shows, FillArrives}
 use Rattle.order.proofs.FillLaws.{Taken, taken-start, taken-more, entry-short, row-merged, filling-begin, hinted-none, rows-le}
 use Rattle.order.proofs.TraceOrder.{counted, counted-passes, ops-begins, ops-ordered, op-kind, forward-links, link-target, first-begins}
 use Rattle.order.proofs.TraceWalk.{arrives}
@@ -113,23 +115,26 @@ module _ {tr : List Record} (a : Acceptable tr) (w : ℕ) (rest : List ℕ) wher
 
   -- After the first i records, up to a begin or the end.
   pub record Passing (i : ℕ) (s : Rows) : Type 0 where
-    pub rows : ℕ → ℕ → ℕ
-    pub clocks-are : s .clocks ≡ flat w m rows ++ rest
-    pub along : Along op (λ u c. 0) (entry l) i rows
+    pub shows : Shows op n (entry l) w rest i (s .of) (s .clocks)
     pub taken : Taken l w (begins op i) (s .sizes) (s .chains)
     pub of-size : length (s .of) ≡ 1024
     pub of-hinted : Hinted op (chainOf l) i (s .of)
     pub of-past : (u : ℕ) → m ≤ u → u < 1024 → getD (s .of) u 0 ≡ 0
 
-  pub passing-start : w ≤ 1024 → Passing 0 (record { clocks = replicate (m * w) 0 ++ rest; sizes = noChains; of = noChains; chains = 0 })
+  pub passing-start :
+      (cs : List ℕ) → w ≤ 1024 → cs ≡ flat w m (λ u c. getD cs (u * w + c) 0) ++ rest → Passing 0 (record { clocks = cs; sizes = noChains; of = noChains; chains = 0 })
   unfolding zeros
-  passing-start h =
+  passing-start cs h e =
       let b = begins-zero op in
       let k = length-replicate {A = ℕ} 1024 0 in
       record {
-        rows = λ u c. 0;
-        clocks-are = ap (λ cs. cs ++ rest) (flat-zero w m);
-        along = along-start op (λ u c. 0) (entry l) (λ u c. 0) (λ u c. refl);
+        shows = record {
+          rows = λ u c. 0;
+          along = along-start op (λ u c. 0) (entry l) (λ u c. 0) (λ u c. refl);
+          shown = λ u c. getD cs (u * w + c) 0;
+          shown-is = λ u c g. absurd (none u (lt-or-ge u 1024) g);
+          clocks-are = e;
+        };
         taken = rw b (taken-start l w 1024 h);
         of-size = k;
         of-hinted = record {
@@ -139,97 +144,161 @@ module _ {tr : List Record} (a : Acceptable tr) (w : ℕ) (rest : List ℕ) wher
         };
         of-past = λ u g q. getD-replicate {A = ℕ} 1024 u 0 0 q;
       }
+    where
+      none : (u : ℕ) → (u < 1024) ⊎ (1024 ≤ u) → (u < begins op 0) ⊎ (getD (replicate {A = ℕ} 1024 0) u 0 ≢ 0) → ⊥
+      none u a (inl g) = omega (arith, begins-zero op)
+      none u (inl a) (inr g) = g (getD-replicate {A = ℕ} 1024 u 0 0 a)
+      none u (inr a) (inr g) = g (List·getD-eq-default (replicate {A = ℕ} 1024 0) 0 {n = u} (omega (arith, length-replicate {A = ℕ} 1024 0)))
+
+  -- the same where the clocks show row u
+  pub record Standing (i : ℕ) (s : Rows) (u : ℕ) : Type 0 where
+    pub passing : Passing i s
+    pub own : (c : ℕ) → passing .shows .shown u c ≡ passing .shows .rows u c
 
   module _ (i : ℕ) (s : Rows) (p : Passing i s) where
     -- what is past the rows stays
     pub passing-rest : drop (m * w) (s .clocks) ≡ rest
-    passing-rest = rw (p .clocks-are) (drop-at (flat w m (p .rows)) rest (m * w) (flat-length w m (p .rows)))
+    passing-rest = rw (p .shows .clocks-are) (drop-at (flat w m (p .shows .shown)) rest (m * w) (flat-length w m (p .shows .shown)))
 
     -- the rows past the chains taken are 0
     pub zero-past : ZeroPast op (entry l) w (s .chains) i
     zero-past q c g k d = entry-short l fw (begins op i) q c g (rw (p .taken .chains-are) at d)
 
     -- at a begin
-    module _ (u : ℕ) (h : i < n) (e : op i ≡ begin u) where
+    module _ (narrow : w ≤ 1024) (u : ℕ) (h : i < n) (e : op i ≡ begin u) where
       turn : (u ≡ begins op i) × (u < m)
       turn = begun-below i u h e
 
-      taken : Taken l w u (s .sizes) (s .chains)
-      taken = rw (turn .0) (p .taken)
+      -- its row is 0 where no link came to it
+      unlinked : getD (s .of) u 0 ≡ 0 → (c : ℕ) → p .shows .rows u c ≡ 0
+      unfolding largest
+      unlinked z c =
+          let early : (q : ℕ) → q < begins op i → chainOf l q < 1024 = λ q g. omega (arith, chain-below (leq l) q _ g, p .taken .chains-are, p .taken .chains-fit) in
+          let inside : u < length (s .of) = omega (arith, p .of-size, few, turn .1) in
+          let none = unhinted op (chainOf l) n (ops-ordered a) i (omega arith) (s .of) (p .of-hinted) early u (omega (arith, turn .0)) inside z in
+          p .shows .along .coming u c (omega (arith, turn .0)) ∙ rw none refl
 
-      row-is : (c : ℕ) → c < w → getD (s .clocks) (u * w + c) 0 ≡ p .rows u c
-      row-is c k = ap (λ x. getD x (u * w + c) 0) (p .clocks-are) ∙ flat-read w m rest (p .rows) u c (turn .1) k
-
-      merged-is : (c : ℕ) → c < w → getD (s .clocks) (u * w + c) 0 ≡ merged l u c
-      merged-is c k = row-is c k ∙ row-merged l fw op n (ops-ordered a) (links-made op n) i u h e (p .rows) (p .along) c
-
-      -- what it asks for is there
-      pub passing-room : w ≤ 1024 → RoomToBegin w u s
-      passing-room narrow = record {
-        narrow = narrow;
-        room = record { row = fits; chains-fit = taken .chains-fit; sizes-room = taken .sizes-room };
-        of-room = inside;
-        few-entries = λ c g. omega (arith, row-is c g, rows-le l fw op n (ops-ordered a) (links-made op n) i (p .rows) (omega arith) (p .along) u c, few, begins-mono op i n (omega arith));
-        few-members = λ c g. omega (arith, taken .sizes-are c g, members-le (leq l) u c, few, turn .1);
-        hint-low = p .of-hinted .low u inside;
-        hinted = λ c g q.
-            let k : c < w = omega (arith, taken .chains-fit) in
-            hinted-none l fw u (1024 - getD (s .of) u 0) low c (omega arith) (omega (arith, taken .chains-are)) (sym (merged-is c k) ∙ (q ∙ taken .sizes-are c k));
-      }
+      -- so the clocks show it once it is cleared there
+      pub passing-fresh : Standing i (record { clocks = rowsIf (eqb (getD (s .of) u 0) 0) (clearRow w u (s .clocks)) (s .clocks); sizes = s .sizes; of = s .of; chains = s .chains }) u
+      passing-fresh = go (decide-eq (getD (s .of) u 0) 0)
         where
-          inside : u < length (s .of)
-          inside = omega (arith, p .of-size, few, turn .1)
-
-          low : (q : ℕ) → q ∈ l .preds u → 1024 - getD (s .of) u 0 ≤ chainOf l q
-          low q y =
-              let r = pred-linked op n (ops-ordered a) l (links-made op n) i u h e q y in
-              omega (arith, p .of-hinted .hints u q (r .0) (omega (arith, turn .0)) inside (r .1) (r .2))
-
-          fits : u * w + w ≤ length (s .clocks)
-          fits = omega (arith, ap length (p .clocks-are), length-append (flat w m (p .rows)) rest, flat-length w m (p .rows), mul-le-mul-right w (turn .1), suc-mul u w)
-
-      -- the chain chosen is the chain of the event action
-      pub chosen-is : chooseIn w u (s .clocks) (s .sizes) (s .chains) ≡ chainOf l u
-      unfolding chooseIn
-      chosen-is =
-          firstFrom-local _ _ 0 (s .chains) (λ c g k. let j : c < w = omega (arith, taken .chains-fit) in ap₂ eqb (merged-is c j) (taken .sizes-are c j))
-          ∙ (rw (taken .chains-are) (sym (chain-merged l fw u)))
-
-      -- a chain is left for it
-      pub passing-begin : w ≤ 1024 → chainOf l u < w → Passing (suc i) (beginRow w u s)
-      passing-begin narrow t = rw (chosen-is, enter-room w u s (chainOf l u) t) (record {
-        rows = addAt (p .rows) u (chainOf l u);
-        clocks-are = ap (tick w u (chainOf l u)) (p .clocks-are) ∙ ticked-row w m rest (p .rows) u (chainOf l u) (turn .1) t;
-        along = filling-begin l fw op n (ops-ordered a) (links-made op n) i u h e (p .rows) (p .along);
-        taken = rw b (taken-more l w u (s .sizes) (s .chains) taken t);
-        of-size = length-set (s .of) u (chainOf l u) ∙ p .of-size;
-        of-hinted = hinted-begin op (chainOf l) i u (s .of) e (turn .0) (omega (arith, p .of-size, few, turn .1)) (omega (arith, narrow)) (p .of-hinted);
-        of-past = λ v k g. getD-set-other (s .of) u v (chainOf l u) 0 (omega (arith, turn .1)) ∙ p .of-past v k g;
-      })
-        where
-          b : begins op (suc i) ≡ suc u
-          b = begins-suc op i (begin u) e ∙ ap suc (sym (turn .0))
-
-      -- none is left: it is the begin that needs one
-      pub short-is : w ≤ chainOf l u → shortRow tr w ≡ u
-      unfolding shortRow
-      short-is t = rw (← events-are) (needs-at (leq l) w m u (turn .1) (omega (arith, taken .chains-are, taken .chains-fit)) t)
+          go : (getD (s .of) u 0 ≡ 0) ⊎ (getD (s .of) u 0 ≢ 0) →
+              Standing i (record { clocks = rowsIf (eqb (getD (s .of) u 0) 0) (clearRow w u (s .clocks)) (s .clocks); sizes = s .sizes; of = s .of; chains = s .chains }) u
+          go (inl z) = rw (eq-eqb (getD (s .of) u 0) 0 z) (record {
+            passing = record {
+              shows = record {
+                rows = p .shows .rows;
+                along = p .shows .along;
+                shown = zeroIn (p .shows .shown) u;
+                shown-is = λ v c k. zero-other (p .shows .shown) u v c (apart v k) ∙ p .shows .shown-is v c k;
+                clocks-are = ap (clearRow w u) (p .shows .clocks-are) ∙ cleared-row w m rest (p .shows .shown) u narrow (turn .1);
+              };
+              taken = p .taken;
+              of-size = p .of-size;
+              of-hinted = p .of-hinted;
+              of-past = p .of-past;
+            };
+            own = λ c. zero-own (p .shows .shown) u c ∙ sym (unlinked z c);
+          })
+            where
+              apart : (v : ℕ) → (v < begins op i) ⊎ (getD (s .of) v 0 ≢ 0) → v ≢ u
+              apart v (inl k) x = omega (arith, turn .0)
+              apart v (inr k) x = k (rw x z)
+          go (inr z) = rw (ne-eqb (getD (s .of) u 0) 0 z) (record { passing = p; own = λ c. p .shows .shown-is u c (inr z) })
 
     -- along the links to the next begin
     pub passing-walk :
         (narrow : w ≤ 1024) (r : FillWalked) → FillArrives op n (ops-ordered a) (link-target a) (entry l) (chainOf l) w (s .chains) narrow rest i (s .of) r →
         Passing (r .position) (record { clocks = r .clocks; sizes = s .sizes; of = r .hints; chains = s .chains })
     passing-walk narrow r f =
-        let g = f .arrives in
         record {
-          rows = g .rows;
-          clocks-are = g .clocks-are;
-          along = g .along;
-          taken = rw (g .none-begun) (p .taken);
+          shows = f .shows;
+          taken = rw (f .none-begun) (p .taken);
           of-size = f .same-length ∙ p .of-size;
           of-hinted = f .hinted;
           of-past = λ u h k. f .past u h ∙ p .of-past u h k;
         }
+
+  -- at a begin whose row the clocks show
+  module _ (i : ℕ) (s : Rows) (u : ℕ) (q : Standing i s u) (h : i < n) (e : op i ≡ begin u) where
+    abbrev p : Passing i s
+    p = q .passing
+
+    turn-of : (u ≡ begins op i) × (u < m)
+    turn-of = begun-below i u h e
+
+    taken : Taken l w u (s .sizes) (s .chains)
+    taken = rw (turn-of .0) (p .taken)
+
+    row-is : (c : ℕ) → c < w → getD (s .clocks) (u * w + c) 0 ≡ p .shows .rows u c
+    row-is c k = ap (λ x. getD x (u * w + c) 0) (p .shows .clocks-are) ∙ (flat-read w m rest (p .shows .shown) u c (turn-of .1) k ∙ q .own c)
+
+    merged-is : (c : ℕ) → c < w → getD (s .clocks) (u * w + c) 0 ≡ merged l u c
+    merged-is c k = row-is c k ∙ row-merged l fw op n (ops-ordered a) (links-made op n) i u h e (p .shows .rows) (p .shows .along) c
+
+    -- what it asks for is there
+    pub passing-room : w ≤ 1024 → RoomToBegin w u s
+    passing-room narrow = record {
+      narrow = narrow;
+      room = record { row = fits; chains-fit = taken .chains-fit; sizes-room = taken .sizes-room };
+      of-room = inside;
+      few-entries = λ c g. omega (arith, row-is c g, rows-le l fw op n (ops-ordered a) (links-made op n) i (p .shows .rows) (omega arith) (p .shows .along) u c, few, begins-mono op i n (omega arith));
+      few-members = λ c g. omega (arith, taken .sizes-are c g, members-le (leq l) u c, few, turn-of .1);
+      hint-low = p .of-hinted .low u inside;
+      hinted = λ c g x.
+          let k : c < w = omega (arith, taken .chains-fit) in
+          hinted-none l fw u (1024 - getD (s .of) u 0) low c (omega arith) (omega (arith, taken .chains-are)) (sym (merged-is c k) ∙ (x ∙ taken .sizes-are c k));
+    }
+      where
+        inside : u < length (s .of)
+        inside = omega (arith, p .of-size, few, turn-of .1)
+
+        low : (t : ℕ) → t ∈ l .preds u → 1024 - getD (s .of) u 0 ≤ chainOf l t
+        low t y =
+            let r = pred-linked op n (ops-ordered a) l (links-made op n) i u h e t y in
+            omega (arith, p .of-hinted .hints u t (r .0) (omega (arith, turn-of .0)) inside (r .1) (r .2))
+
+        fits : u * w + w ≤ length (s .clocks)
+        fits = omega (arith, ap length (p .shows .clocks-are), length-append (flat w m (p .shows .shown)) rest, flat-length w m (p .shows .shown), mul-le-mul-right w (turn-of .1), suc-mul u w)
+
+    -- the chain chosen is the chain of the event action
+    pub chosen-is : chooseIn w u (s .clocks) (s .sizes) (s .chains) ≡ chainOf l u
+    unfolding chooseIn
+    chosen-is =
+        firstFrom-local _ _ 0 (s .chains) (λ c g k. let j : c < w = omega (arith, taken .chains-fit) in ap₂ eqb (merged-is c j) (taken .sizes-are c j))
+        ∙ (rw (taken .chains-are) (sym (chain-merged l fw u)))
+
+    -- a chain is left for it
+    pub passing-begin : w ≤ 1024 → chainOf l u < w → Passing (suc i) (beginRow w u s)
+    passing-begin narrow t = rw (chosen-is, enter-room w u s (chainOf l u) t) (record {
+      shows = record {
+        rows = addAt (p .shows .rows) u (chainOf l u);
+        along = filling-begin l fw op n (ops-ordered a) (links-made op n) i u h e (p .shows .rows) (p .shows .along);
+        shown = addAt (p .shows .shown) u (chainOf l u);
+        shown-is = λ v c k. ap (λ (x : ℕ). x + bit (eqb v u && eqb (chainOf l u) c)) (each v c k (decide-eq v u));
+        clocks-are = ap (tick w u (chainOf l u)) (p .shows .clocks-are) ∙ ticked-row w m rest (p .shows .shown) u (chainOf l u) (turn-of .1) t;
+      };
+      taken = rw b (taken-more l w u (s .sizes) (s .chains) taken t);
+      of-size = length-set (s .of) u (chainOf l u) ∙ p .of-size;
+      of-hinted = hinted-begin op (chainOf l) i u (s .of) e (turn-of .0) (omega (arith, p .of-size, few, turn-of .1)) (omega (arith, narrow)) (p .of-hinted);
+      of-past = λ v k g. getD-set-other (s .of) u v (chainOf l u) 0 (omega (arith, turn-of .1)) ∙ p .of-past v k g;
+    })
+      where
+        b : begins op (suc i) ≡ suc u
+        b = begins-suc op i (begin u) e ∙ ap suc (sym (turn-of .0))
+
+        before : (v : ℕ) → v ≢ u → (v < begins op (suc i)) ⊎ (getD (set (s .of) u (chainOf l u)) v 0 ≢ 0) → (v < begins op i) ⊎ (getD (s .of) v 0 ≢ 0)
+        before v x (inl k) = inl (omega (arith, b, turn-of .0))
+        before v x (inr k) = inr (λ z. k (getD-set-other (s .of) u v (chainOf l u) 0 x ∙ z))
+
+        each : (v c : ℕ) → (v < begins op (suc i)) ⊎ (getD (set (s .of) u (chainOf l u)) v 0 ≢ 0) → (v ≡ u) ⊎ (v ≢ u) → p .shows .shown v c ≡ p .shows .rows v c
+        each v c k (inl x) = rw x (q .own c)
+        each v c k (inr x) = p .shows .shown-is v c (before v x k)
+
+    -- none is left: it is the begin that needs one
+    pub short-is : w ≤ chainOf l u → shortRow tr w ≡ u
+    unfolding shortRow
+    short-is t = rw (← events-are) (needs-at (leq l) w m u (turn-of .1) (omega (arith, taken .chains-are, taken .chains-fit)) t)
 
   -- all records are passed
   pub record Completed (s : Rows) : Type 0 where
@@ -241,7 +310,7 @@ module _ {tr : List Record} (a : Acceptable tr) (w : ℕ) (rest : List ℕ) wher
   pub passing-end : (s : Rows) → Passing n s → Completed s
   unfolding traceClocks clocksOf chainTable chainsUsed shortRow
   passing-end s p = record {
-    clocks-are = rw (← events-are) (p .clocks-are ∙ ap (λ x. x ++ rest) (flat-same w m (p .rows) (entry l) (λ u c h k. p .along .done u c h)));
+    clocks-are = rw (← events-are) (p .shows .clocks-are ∙ ap (λ x. x ++ rest) (flat-same w m (p .shows .shown) (entry l) (λ u c h k. p .shows .shown-is u c (inl h) ∙ p .shows .along .done u c h)));
     of-are = rw (← events-are) (ext-getD 0 (s .of) (chains-of m) (p .of-size ∙ sym size) (λ u h. each u (omega (arith, p .of-size)) (lt-or-ge u m)));
     chains-are = rw (← events-are) (p .taken .chains-are);
     enough = rw (← events-are) (needs-none (leq l) w m .1 (omega (arith, p .taken .chains-are, p .taken .chains-fit)));
@@ -276,81 +345,92 @@ module _ (tr : List Record) (w : ℕ) (ranks clocks₀ : List ℕ) where
     within = omega arith;
     row-is = sym (begins-zero (opAt tr));
     at-begin = first-begins (r .acceptable);
-    passing = rw (r .sizes-clear, r .of-clear) (subst (λ (c : List ℕ). Passing (r .acceptable) w rest 0 (record { clocks = c; sizes = noChains; of = noChains; chains = 0 })) (sym same) (passing-start (r .acceptable) w rest (r .narrow)));
+    passing = rw (r .sizes-clear, r .of-clear) (passing-start (r .acceptable) w rest clocks₀ (r .narrow) same);
   }
     where
       rest : List ℕ
       rest = drop (eventsIn tr * w) clocks₀
 
-      same : clocks₀ ≡ replicate (m (r .acceptable) w rest * w) 0 ++ rest
-      same = rw (events-are (r .acceptable) w rest) (r .clear)
+      same : clocks₀ ≡ flat w (m (r .acceptable) w rest) (λ u c. getD clocks₀ (u * w + c) 0) ++ rest
+      same = rw (events-are (r .acceptable) w rest) (flat-any w (eventsIn tr) clocks₀ (r .room))
 
   module _ {clocks sizes of : List ℕ} {chains u i : ℕ} (g : Going clocks sizes of chains u i) where
     rest-stays : drop (eventsIn tr * w) clocks ≡ drop (eventsIn tr * w) clocks₀
     rest-stays = subst (λ (k : ℕ). drop (k * w) clocks ≡ drop (eventsIn tr * w) clocks₀) (events-are (g .acceptable) w []) (passing-rest (g .acceptable) w _ i _ (g .passing))
 
+    pub going-size : length of ≡ 1024
+    going-size = g .passing .of-size
+
     module _ (h : i < length tr) where
       pub going-row : u < 1024
       going-row = let b = begun-below (g .acceptable) w [] i u h (g .at-begin h) in omega (arith, few (g .acceptable) w [])
 
-      pub going-room : RoomToBegin w u (record { clocks = clocks; sizes = sizes; of = of; chains = chains })
-      going-room = passing-room (g .acceptable) w _ i _ (g .passing) u h (g .at-begin h) (g .narrow)
+      -- once its row is cleared where no link came to it
+      module _ (fresh : List ℕ) (ef : fresh ≡ rowsIf (eqb (getD of u 0) 0) (clearRow w u clocks) clocks) where
+        standing : Standing (g .acceptable) w (drop (eventsIn tr * w) clocks₀) i (record { clocks = fresh; sizes = sizes; of = of; chains = chains }) u
+        standing = rw ef (passing-fresh (g .acceptable) w _ i _ (g .passing) (g .narrow) u h (g .at-begin h))
 
-      module _ (clocks′ sizes′ of′ : List ℕ) (next : ℕ) (t : Are (beginRow w u (record { clocks = clocks; sizes = sizes; of = of; chains = chains })) clocks′ sizes′ of′ next) where
-        abbrev chosen : ℕ
-        chosen = chainOf (traceLinks tr) u
+        rest-fresh : drop (eventsIn tr * w) fresh ≡ drop (eventsIn tr * w) clocks₀
+        rest-fresh = subst (λ (k : ℕ). drop (k * w) fresh ≡ drop (eventsIn tr * w) clocks₀) (events-are (g .acceptable) w []) (passing-rest (g .acceptable) w _ i _ (standing .passing))
 
-        begun : record { clocks = clocks′; sizes = sizes′; of = of′; chains = next } ≡ enterRow w u (record { clocks = clocks; sizes = sizes; of = of; chains = chains }) chosen
-        begun = are-rows _ clocks′ sizes′ of′ next t ∙ ap (enterRow w u (record { clocks = clocks; sizes = sizes; of = of; chains = chains })) (chosen-is (g .acceptable) w _ i _ (g .passing) u h (g .at-begin h))
+        pub going-room : RoomToBegin w u (record { clocks = fresh; sizes = sizes; of = of; chains = chains })
+        going-room = passing-room (g .acceptable) w _ i _ u standing h (g .at-begin h) (g .narrow)
 
-        -- a chain was left
-        left : next ≤ w → (chosen < w) ⊎ (w ≤ chosen) → chosen < w
-        left k (inl c) = c
-        left k (inr c) = absurd (omega (arith, ap (λ r. r .chains) (begun ∙ enter-full w u _ chosen c)))
+        module _ (clocks′ sizes′ of′ : List ℕ) (next : ℕ) (t : Are (beginRow w u (record { clocks = fresh; sizes = sizes; of = of; chains = chains })) clocks′ sizes′ of′ next) where
+          abbrev chosen : ℕ
+          chosen = chainOf (traceLinks tr) u
 
-        module _ (k : next ≤ w) (clocks″ of″ : List ℕ) (j : ℕ) (x : FillWalks tr ranks w next (i + 1) clocks′ of′ clocks″ of″ j) where
-          entered : Passing (g .acceptable) w (drop (eventsIn tr * w) clocks₀) (suc i) (record { clocks = clocks′; sizes = sizes′; of = of′; chains = next })
-          entered = rw (are-rows _ clocks′ sizes′ of′ next t) (passing-begin (g .acceptable) w _ i _ (g .passing) u h (g .at-begin h) (g .narrow) (left k (lt-or-ge chosen w)))
+          begun : record { clocks = clocks′; sizes = sizes′; of = of′; chains = next } ≡ enterRow w u (record { clocks = fresh; sizes = sizes; of = of; chains = chains }) chosen
+          begun = are-rows _ clocks′ sizes′ of′ next t ∙ ap (enterRow w u (record { clocks = fresh; sizes = sizes; of = of; chains = chains })) (chosen-is (g .acceptable) w _ i _ u standing h (g .at-begin h))
 
-          early : (q : ℕ) → q < begins (opAt tr) (suc i) → chainOf (traceLinks tr) q < 1024
-          early q y = omega (arith, chain-below (leq (traceLinks tr)) q _ y, entered .taken .chains-are, entered .taken .chains-fit, g .narrow)
+          -- a chain was left
+          left : next ≤ w → (chosen < w) ⊎ (w ≤ chosen) → chosen < w
+          left k (inl c) = c
+          left k (inr c) = absurd (omega (arith, ap (λ r. r .chains) (begun ∙ enter-full w u _ chosen c)))
 
-          arrived : FillArrives (opAt tr) (length tr) (ops-ordered (g .acceptable)) (link-target (g .acceptable)) (entry (traceLinks tr)) (chainOf (traceLinks tr)) w next (g .narrow) (drop (eventsIn tr * w) clocks₀) (suc i) of′ (record { position = j; clocks = clocks″; hints = of″ })
-          arrived =
-              arrives (g .acceptable) ranks (g .ranks-are) _ _ w next _ (suc i) (entered .rows) clocks′ of′ clocks″ of″ j (g .narrow) h (entered .clocks-are) (entered .along)
-              (zero-past (g .acceptable) w _ (suc i) _ entered) (entered .of-hinted) early (omega (arith, entered .of-size, few (g .acceptable) w [])) (rw (add-one i) at x)
+          module _ (k : next ≤ w) (clocks″ of″ : List ℕ) (j : ℕ) (x : FillWalks tr ranks w next (i + 1) clocks′ of′ clocks″ of″ j) where
+            entered : Passing (g .acceptable) w (drop (eventsIn tr * w) clocks₀) (suc i) (record { clocks = clocks′; sizes = sizes′; of = of′; chains = next })
+            entered = rw (are-rows _ clocks′ sizes′ of′ next t) (passing-begin (g .acceptable) w _ i _ u standing h (g .at-begin h) (g .narrow) (left k (lt-or-ge chosen w)))
 
-          pub going-on : i < j
-          going-on = arrived .arrives .later
+            early : (q : ℕ) → q < begins (opAt tr) (suc i) → chainOf (traceLinks tr) q < 1024
+            early q y = omega (arith, chain-below (leq (traceLinks tr)) q _ y, entered .taken .chains-are, entered .taken .chains-fit, g .narrow)
 
-          pub going-next : Going clocks″ sizes′ of″ next (u + 1) j
-          going-next =
-              let b : begins (opAt tr) (suc i) ≡ u + 1 = begins-suc (opAt tr) i (begin u) (g .at-begin h) ∙ omega (arith, g .row-is) in
-              record {
-                acceptable = g .acceptable;
-                narrow = g .narrow;
-                ranks-are = g .ranks-are;
-                within = arrived .arrives .inside;
-                row-is = sym (arrived .arrives .none-begun ∙ b);
-                at-begin = λ y. arrived .arrives .at-begin y ∙ ap begin b;
-                passing = passing-walk (g .acceptable) w _ (suc i) _ entered (g .narrow) _ arrived;
-              }
+            arrived : FillArrives (opAt tr) (length tr) (ops-ordered (g .acceptable)) (link-target (g .acceptable)) (entry (traceLinks tr)) (chainOf (traceLinks tr)) w next (g .narrow) (drop (eventsIn tr * w) clocks₀) (suc i) of′ (record { position = j; clocks = clocks″; hints = of″ })
+            arrived =
+                arrives (g .acceptable) ranks (g .ranks-are) _ _ w next _ (suc i) clocks′ of′ clocks″ of″ j (g .narrow) h (entered .shows)
+                (zero-past (g .acceptable) w _ (suc i) _ entered) (entered .of-hinted) early (omega (arith, entered .of-size, few (g .acceptable) w [])) (rw (add-one i) at x)
 
-        -- none was left
-        pub going-stop : w < next → Passes tr w clocks₀ clocks′ of′ chains i
-        going-stop k = stops (lt-or-ge chosen w)
-          where
-            stops : (chosen < w) ⊎ (w ≤ chosen) → Passes tr w clocks₀ clocks′ of′ chains i
-            stops (inl c) = absurd (omega (arith, ap (λ r. r .chains) (begun ∙ enter-room w u _ chosen c), g .passing .taken .chains-fit))
-            stops (inr c) =
-                let s = short-is (g .acceptable) w _ i _ (g .passing) u h (g .at-begin h) c in
-                let b = begun-below (g .acceptable) w [] i u h (g .at-begin h) in
-                let e = events-are (g .acceptable) w [] in
+            pub going-on : i < j
+            going-on = arrived .later
+
+            pub going-next : Going clocks″ sizes′ of″ next (u + 1) j
+            going-next =
+                let b : begins (opAt tr) (suc i) ≡ u + 1 = begins-suc (opAt tr) i (begin u) (g .at-begin h) ∙ omega (arith, g .row-is) in
                 record {
-                  whole = λ z. absurd (omega arith);
-                  short = λ z. record { place = sym (ap (beginPosition tr) s ∙ begin-position (g .acceptable) w [] i u h (g .at-begin h)); inside = h };
-                  rest = ap (λ r. drop (eventsIn tr * w) (r .clocks)) (begun ∙ enter-full w u _ chosen c) ∙ rest-stays;
+                  acceptable = g .acceptable;
+                  narrow = g .narrow;
+                  ranks-are = g .ranks-are;
+                  within = arrived .inside;
+                  row-is = sym (arrived .none-begun ∙ b);
+                  at-begin = λ y. arrived .at-begin y ∙ ap begin b;
+                  passing = passing-walk (g .acceptable) w _ (suc i) _ entered (g .narrow) _ arrived;
                 }
+
+          -- none was left
+          pub going-stop : w < next → Passes tr w clocks₀ clocks′ of′ chains i
+          going-stop k = stops (lt-or-ge chosen w)
+            where
+              stops : (chosen < w) ⊎ (w ≤ chosen) → Passes tr w clocks₀ clocks′ of′ chains i
+              stops (inl c) = absurd (omega (arith, ap (λ r. r .chains) (begun ∙ enter-room w u _ chosen c), g .passing .taken .chains-fit))
+              stops (inr c) =
+                  let s = short-is (g .acceptable) w _ i _ u standing h (g .at-begin h) c in
+                  let b = begun-below (g .acceptable) w [] i u h (g .at-begin h) in
+                  let e = events-are (g .acceptable) w [] in
+                  record {
+                    whole = λ z. absurd (omega arith);
+                    short = λ z. record { place = sym (ap (beginPosition tr) s ∙ begin-position (g .acceptable) w [] i u h (g .at-begin h)); inside = h };
+                    rest = ap (λ r. drop (eventsIn tr * w) (r .clocks)) (begun ∙ enter-full w u _ chosen c) ∙ rest-fresh;
+                  }
 
     pub going-end : length tr ≤ i → Passes tr w clocks₀ clocks of chains i
     going-end h =

@@ -99,8 +99,8 @@ pub record ThatRowAndNoOther : Type 0 where
       → clocks′ ≡ putRows (recordsIn bytes t) width (t .events) clocks
   pub put : (width u : ℕ) (row clocks : List ℕ) → length row ≡ width → u * width + width ≤ length clocks
       → OnlyRow width u clocks (putRow width u row clocks)
-  -- and so is each step by which a row is made: it is cleared, the row of a direct predecessor is copied over it, others are merged into it, and it
-  -- begins
+  -- and so is each step by which a row is made: it is cleared, or the row of a direct predecessor is copied over it and others are
+  -- merged into it, and it begins
   pub cleared : (width u : ℕ) (clocks : List ℕ) → OnlyRow width u clocks (clearRow width u clocks)
   pub copied : (width chains p u : ℕ) (clocks : List ℕ) → OnlyRow width u clocks (copyRow width chains p u clocks)
   pub merged : (width chains p u : ℕ) (clocks : List ℕ) → OnlyRow width u clocks (mergeRow width chains p u clocks)

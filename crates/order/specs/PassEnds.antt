@@ -3,7 +3,7 @@ use Prim.Native.Nat.{ℕ, _*_, _≤_, _<_}
 use mathlib.Core.Path.{_≡_}
 use mathlib.Core.Logic.{_≢_}
 use mathlib.Core.List.{List, _++_}
-use lib.ListN.{length, drop, replicate}
+use lib.ListN.{length, drop}
 use Rattle.records.specs.declared.Record.{Record}
 use Rattle.trace.specs.Reading.{Acceptable}
 use Rattle.ranks.specs.Ranks.{ranksOf}
@@ -14,7 +14,6 @@ pub record Ready (tr : List Record) (w : ℕ) (ranks clocks sizes of : List ℕ)
   pub ranks-are : ranks ≡ ranksOf tr
   pub narrow : w ≤ 1024
   pub room : eventsIn tr * w ≤ length clocks
-  pub clear : clocks ≡ replicate (eventsIn tr * w) 0 ++ drop (eventsIn tr * w) clocks
   pub sizes-clear : sizes ≡ noChains
   pub of-clear : of ≡ noChains
 

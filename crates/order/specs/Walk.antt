@@ -52,7 +52,7 @@ abbrev pub Walks : List Record → List ℕ → ℕ → ℕ → ℕ → List ℕ
 Walks tr ranks width chains from cs cs′ r = walkFrom tr ranks width chains from cs ≡ record { position = r; clocks = cs′ }
 
 -- The walk that fills. Its list holds the chain of each row that has begun, and for any other a hint: 1,024 less the lowest chain of the rows
--- from which a link came to it, 0 where none came. The first link to a row copies, since the row is 0.
+-- from which a link came to it, 0 where none came. The first link to a row copies, whatever the row held.
 abbrev pub linkedBy : ℕ → ℕ → Op → List ℕ → List ℕ → List ℕ
 linkedBy width chains (link p u) hs cs = rowsIf (eqb (getD hs u 0) 0) (copyRow width chains p u cs) (mergeRow width chains p u cs)
 linkedBy width chains (begin u) hs cs = cs

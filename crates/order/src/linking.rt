@@ -1,5 +1,5 @@
-// The walk along the links when rows are filled: the first link that comes to a row copies, since the row is 0, any further one merges, and each
-// leaves a hint from which chain on the chain of the row is looked for.
+// The walk along the links when rows are filled: the first link that comes to a row copies, whatever the row held, any further one merges, and
+// each leaves a hint from which chain on the chain of the row is looked for.
 use clocks::copy_row;
 use clocks::merge_row;
 use ranks::Ordering;

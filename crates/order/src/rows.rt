@@ -4,6 +4,7 @@ use crate::Prepared;
 use crate::linking::pass_links;
 use crate::merge;
 use clocks::add_one;
+use clocks::clear_row;
 use clocks::clear_rows;
 use records::Operation;
 use records::Trace;
@@ -13,11 +14,12 @@ use slices::zeros::numbers_1024;
 use trace::Refusal;
 ghost use mathlib.Core.Path.{_≡_};
 ghost use mathlib.Core.Bool.{true};
-ghost use Prim.Native.Nat.{_*_, _-_, _≤_, min};
-ghost use lib.ListN.{length};
+ghost use Prim.Native.Nat.{_*_, _-_, _≤_, _<_, min};
+ghost use lib.Dec.{eqb};
+ghost use lib.ListN.{length, getD};
 ghost use Rattle.records.specs.Bytes.{decode};
 ghost use Rattle.trace.specs.Reading.{Acceptable};
-ghost use Rattle.clocks.specs.Rows.{spaceFor};
+ghost use Rattle.clocks.specs.Rows.{spaceFor, rowsIf, clearRow};
 ghost use Rattle.order.specs.Fill.{eventsIn, noChains};
 ghost use Rattle.order.specs.Prepare.{noTrace};
 ghost use Rattle.order.specs.Paper.{FillsTrace};
@@ -72,6 +74,16 @@ fn begin_row(
     chains
 }
 
+// Zeros in row u before it begins, where no link came to it.
+fn clear_fresh(clocks: &mut [u16], width: usize, u: usize, of: &[u16])
+    requires { ⌜ (u < length (now of)) × (u < 65536) ⌝ }
+    ensures { λ r. ⌜ now (clocks .exit) ≡ rowsIf (eqb (getD (now (of .entry)) u 0) 0) (clearRow width u (now (clocks .entry))) (now (clocks .entry)) ⌝ }
+{
+    if of[u] == 0 {
+        clear_row(clocks, width, u as u16);
+    }
+}
+
 // How far the pass came: the chains taken, and the position of the begin that needs one more than the width has, or the number of records.
 pub(crate) struct Passed {
     pub chains: usize,
@@ -94,6 +106,7 @@ fn pass(
     let mut u = 0;
     let mut i = 0;
     while i < n {
+        clear_fresh(clocks, width, u, of);
         let next = begin_row(clocks, width, u, sizes, of, chains);
         if width < next {
             return Passed {
@@ -141,7 +154,6 @@ pub(crate) fn fill_rows(
     let rows = events as u16;
     ranks::fill_ranks(recs, all);
     let mut sizes = numbers_1024();
-    clear_rows(clocks, width, rows);
     let passed = pass(recs, all, clocks, width, &mut sizes, of);
     let position = passed.position;
     if position < access::count(recs) {

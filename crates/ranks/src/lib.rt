@@ -11,9 +11,9 @@ ghost use Rattle.records.specs.Bytes.{decode};
 ghost use Rattle.records.specs.Records.{at};
 ghost use Rattle.ranks.specs.Said.{linkOf, opOf, begin};
 ghost use mathlib.Core.Bool.{cond};
-ghost use Prim.Native.Nat.{_+_, _-_, _<_};
+ghost use Prim.Native.Nat.{_+_, _-_, _≤_, _<_};
 ghost use lib.Dec.{eqb};
-ghost use Rattle.ranks.specs.Ranks.{withRank, rankIf, ranksOf, says};
+ghost use Rattle.ranks.specs.Ranks.{withRank, rankIf, ranksUpto, ranksOf, RanksTo, says};
 
 // What a record says of links and begins, between rows.
 pub enum Ordering {
@@ -40,7 +40,41 @@ fn note_rank(ranks: &mut [u16], kind: u8, e: EventId, found: usize) -> usize
     found + 1
 }
 
-// The ranks of all events, by event number, in the lent table.
+// Record i, where the table has the ranks of those before it: the number of begins after it.
+fn note_record(recs: &[u8], all: &mut [u16], i: usize, found: usize) -> usize
+    requires { ⌜ (found < 9223372036854775807) × RanksTo (decode (now recs)) i (now all) found ⌝ }
+    ensures { λ r. ⌜ RanksTo (decode (now (recs .entry))) (i + 1) (now (all .exit)) r × (r ≤ found + 1) ⌝ }
+{
+    let kind = access::kind_at(recs, i);
+    let e = access::event_at(recs, i);
+    note_rank(all, kind, e, found)
+}
+
+// The same for four records.
+fn note_four(recs: &[u8], all: &mut [u16], i: usize, found: usize) -> usize
+    requires { ⌜ (found ≤ i) × (i < 9223372036854775800) × RanksTo (decode (now recs)) i (now all) found ⌝ }
+    ensures { λ r. ⌜ RanksTo (decode (now (recs .entry))) (i + 4) (now (all .exit)) r × (r ≤ i + 4) ⌝ }
+{
+    let one = note_record(recs, all, i, found);
+    let two = note_record(recs, all, i + 1, one);
+    let three = note_record(recs, all, i + 2, two);
+    note_record(recs, all, i + 3, three)
+}
+
+// The same for the records from i up to n.
+fn note_last(recs: &[u8], all: &mut [u16], from: usize, n: usize, before: usize)
+    requires { ⌜ (before ≤ from) × (from ≤ n) × (n < 9223372036854775800) × RanksTo (decode (now recs)) from (now all) before ⌝ }
+    ensures { λ u. ⌜ now (all .exit) ≡ ranksUpto (decode (now (recs .entry))) n ⌝ }
+{
+    let mut found = before;
+    let mut i = from;
+    while i < n {
+        found = note_record(recs, all, i, found);
+        i += 1;
+    }
+}
+
+// The ranks of all events, by event number, in the lent table; four records at a time.
 pub fn fill_ranks(recs: &[u8], all: &mut [u16; 1025])
     ensures { λ u. ⌜ now (all .exit) ≡ ranksOf (decode (now (recs .entry))) ⌝ }
 {
@@ -48,12 +82,11 @@ pub fn fill_ranks(recs: &[u8], all: &mut [u16; 1025])
     clear(all, 1025);
     let mut found = 0;
     let mut i = 0;
-    while i < n {
-        let kind = access::kind_at(recs, i);
-        let e = access::event_at(recs, i);
-        found = note_rank(all, kind, e, found);
-        i += 1;
+    while i + 4 <= n {
+        found = note_four(recs, all, i, found);
+        i += 4;
     }
+    note_last(recs, all, i, n, found);
 }
 
 // The ranks of all events, by event number.

@@ -6,14 +6,15 @@ use native.Mathlib.Omega.{arith}
 use borrow.Author.Needs.{needs}
 use borrow.Author.Tests.{not-true, not-false}
 use lib.ListN.{length, length-take, length-drop}
-use Rattle.clocks.specs.Rows.{reach, copyFrom, copyRow}
-use Rattle.clocks.proofs.RowLaws.{row-fits, rows-apart, reach-le, copied-at, copy-length, copy-next, copy-over, copy-row-none, copy-row-is}
+use Rattle.clocks.specs.Rows.{span, copyFrom}
+use Rattle.clocks.proofs.RowLaws.{row-fits, rows-apart, span-le, copied-at, copy-length, copy-next, copy-over, copy-row-none, copy-row-is, past-at, past-length}
 use Rattle.clocks.proofs.copy_row.Statement.{statement}
 use Rattle.clocks.proofs.copy_row.Tie as tie
 
 abbrev Inv-loop : tie.InvT-loop
 Inv-loop clocks₀ width chains p u a e b entries c₀ clocks c =
-    (c ≤ entries) × (entries ≤ width) × (length clocks ≡ length clocks₀) × (b + width ≤ a) × (a + width ≤ length clocks₀) × (copyFrom width p u c (entries - c) clocks ≡ copyRow width chains p u clocks₀)
+    (c ≤ entries) × (entries ≡ span width chains p) × (length clocks ≡ length clocks₀) × (b + width ≤ a) × (a + width ≤ length clocks₀) × (entries ≤ width)
+    × (copyFrom width p u c (entries - c) clocks ≡ copyFrom width p u 0 entries clocks₀)
 
 abbrev μ-loop : tie.MeasureT-loop
 μ-loop clocks₀ width chains p u a e b entries c₀ clocks c = entries - c
@@ -45,8 +46,8 @@ mul-b c =
     let g = row-fits (k .u) (k .width) (c .before .before .before .fits .u .fits) (f .stands .narrow) in
     omega arith
 
-reach-requires : tie.Need-reach-requires Inv-loop μ-loop
-reach-requires c κs = search needs
+span-requires : tie.Need-span-requires Inv-loop μ-loop
+span-requires c κs = search needs
 
 loop-holds : tie.Need-loop-holds Inv-loop μ-loop
 loop-holds c =
@@ -54,9 +55,9 @@ loop-holds c =
     let k = b .before .before .before .args in
     let t = sym (b .before .fits2 .ensures) ∙ not-false (b .before .fits2 .result) (b .if1 .left) in
     let f = rows-apart _ (k .width) (k .p) (k .u) t in
-    let r = c .reach .ensures in
-    let z : c .reach .result - 0 ≡ reach (k .width) (k .chains) (k .p) = omega arith in
-    (omega arith, omega (arith, reach-le (k .width) (k .chains) (k .p)), refl, f .before, f .stands .inside, rw z (sym (copy-row-is _ _ _ _ _ t)))
+    let r = c .span .ensures in
+    let z : c .span .result - 0 ≡ c .span .result = omega arith in
+    (omega arith, r, refl, f .before, f .stands .inside, omega (arith, span-le (k .width) (k .chains) (k .p)), rw z refl)
 
 add-value : tie.Need-add-value Inv-loop μ-loop
 add-value c = omega arith
@@ -94,13 +95,42 @@ loop-again c =
     let l = at-before .before in
     let a = l .before .before .before .before .before .args in
     let step = copied-at (a .width) (a .p) (a .u) (l .loop .c) (l .loop .clocks) (c .before .before .put .last .0) (omega arith) (omega arith) (c .before .before .put .ensures) in
-    (omega arith, l .loop .inv .1, ap length step ∙ (copy-length _ _ _ _ _ ∙ l .loop .inv .2), l .loop .inv .3, l .loop .inv .4, rw step (sym (copy-next _ _ _ _ _ _ (omega arith)) ∙ l .loop .inv .5))
+    (omega arith, l .loop .inv .1, ap length step ∙ (copy-length _ _ _ _ _ ∙ l .loop .inv .2), l .loop .inv .3, l .loop .inv .4, l .loop .inv .5, rw step (sym (copy-next _ _ _ _ _ _ (omega arith)) ∙ l .loop .inv .6))
+
+add-z : tie.Need-add-z Inv-loop μ-loop
+add-z c = omega arith
+
+mul-clear : tie.Need-mul-clear Inv-loop μ-loop
+mul-clear c = omega arith
+
+sub-clear : tie.Need-sub-clear Inv-loop μ-loop
+sub-clear c = omega arith
+
+part-clear-start : tie.Need-part-clear-start Inv-loop μ-loop
+part-clear-start c = omega arith
+
+part-clear-end : tie.Need-part-clear-end Inv-loop μ-loop
+part-clear-end c = omega arith
+
+clear-requires : tie.Need-clear-requires Inv-loop μ-loop
+clear-requires c κs = search needs
 
 same-length : tie.Need-same-length Inv-loop μ-loop
-same-length c = omega arith
+same-length c =
+    let l = c .before .before .before .before .before in
+    let k = l .before .before .before .before .before .args in
+    let step = past-at (k .width) (k .u) _ (l .loop .clocks) _ (omega arith) (l .loop .inv .5) (c .before .before .clear .ensures) in
+    ap length step ∙ (past-length (k .width) (k .u) _ (l .loop .clocks) (omega arith) (l .loop .inv .5) ∙ l .loop .inv .2)
 
 returns-2 : tie.Need-returns-2 Inv-loop μ-loop
-returns-2 c = sym (copy-over _ _ _ _ _ _ (omega arith)) ∙ c .before .loop .inv .5
+returns-2 c =
+    let l = c .before .before .before .before .before in
+    let b = l .before .before in
+    let k = b .before .before .before .args in
+    let t = sym (b .before .fits2 .ensures) ∙ not-false (b .before .fits2 .result) (b .if1 .left) in
+    let step = past-at (k .width) (k .u) _ (l .loop .clocks) _ (omega arith) (l .loop .inv .5) (c .before .before .clear .ensures) in
+    let copied = sym (copy-over _ _ _ _ _ _ (omega arith)) ∙ l .loop .inv .6 in
+    step ∙ (rw (copied, l .loop .inv .1) (sym (copy-row-is _ _ _ _ _ t)))
 
 pub copy-row-spec : {M : Type 1} → statement M
 copy-row-spec =
@@ -113,7 +143,7 @@ copy-row-spec =
     mul-a
     add-e
     mul-b
-    reach-requires
+    span-requires
     loop-holds
     add-value
     mul-value
@@ -126,5 +156,11 @@ copy-row-spec =
     add-c
     loop-less
     loop-again
+    add-z
+    mul-clear
+    sub-clear
+    part-clear-start
+    part-clear-end
+    clear-requires
     same-length
     returns-2)

@@ -22,31 +22,28 @@ fill-ranks-requires c κs = search needs
 numbers-1024-requires : tie.Need-numbers-1024-requires
 numbers-1024-requires c κs = search needs
 
-clear-rows-requires : tie.Need-clear-rows-requires
-clear-rows-requires c κs = search needs
-
 slice-aggregate-pass : tie.Need-slice-aggregate-pass
 slice-aggregate-pass c = search needs
 
 pass-requires : tie.Need-pass-requires
 pass-requires c κs =
-    let a = c .before .before .before .before .before .before .before .before .before .before .before .before .before .before .before in
-    ready _ (a .pre .0) _ _ (a .pre .1) (now (a .args .clocks)) _ (a .pre .2) (c .before .before .before .before .before .before .before .clear-rows .ensures) _ _ _ (c .before .before .before .before .before .before .before .before .before .before .fill-ranks .ensures) (c .before .before .before .before .before .before .before .before .before .numbers-1024 .ensures) (a .pre .3)
+    let a = c .before .before .before .before .before .before .before .before .before .before .before in
+    ready _ (a .pre .0) _ _ (a .pre .1) (now (a .args .clocks)) (a .pre .2) _ _ _ (c .before .before .before .before .before .before .fill-ranks .ensures) (c .before .before .before .before .before .numbers-1024 .ensures) (a .pre .3)
 
 count-requires : tie.Need-count-requires
 count-requires c κs = search needs
 
-clear-rows-requires-2 : tie.Need-clear-rows-requires-2
-clear-rows-requires-2 c κs = search needs
+clear-rows-requires : tie.Need-clear-rows-requires
+clear-rows-requires c κs = search needs
 
 clear-requires : tie.Need-clear-requires
-clear-requires c κs = omega (arith, c .before .before .before .before .before .before .before .before .before .before .before .before .pass .kept .1 .1 .1 .1 .1 .0, ap length (c .before .before .before .before .before .before .before .before .before .before .before .before .before .before .before .before .before .before .before .before .before .before .before .before .before .before .before .before .pre .3), zeros-length 1024)
+clear-requires c κs = omega (arith, c .before .before .before .before .before .before .before .before .before .before .before .before .pass .kept .1 .1 .1 .1 .1 .0, ap length (c .before .before .before .before .before .before .before .before .before .before .before .before .before .before .before .before .before .before .before .before .before .before .before .before .pre .3), zeros-length 1024)
 
-add-t31 : tie.Need-add-t31
-add-t31 c = search needs
+add-t29 : tie.Need-add-t29
+add-t29 c = search needs
 
-cast-t32 : tie.Need-cast-t32
-cast-t32 c = omega (arith, c .before .before .before .before .before .before .before .before .before .before .before .before .before .before .before .before .before .before .before .before .before .before .before .before .before .before .before .before .before .before .before .pre .0 .few, c .before .before .before .before .before .before .before .before .before .count .ensures, c .before .before .before .before .before .before .before .before .if1 .taken)
+cast-t30 : tie.Need-cast-t30
+cast-t30 c = omega (arith, c .before .before .before .before .before .before .before .before .before .before .before .before .before .before .before .before .before .before .before .before .before .before .before .before .before .before .before .pre .0 .few, c .before .before .before .before .before .before .before .before .before .count .ensures, c .before .before .before .before .before .before .before .before .if1 .taken)
 
 same-length : tie.Need-same-length
 same-length c = search needs
@@ -56,11 +53,12 @@ same-length-2 c = search needs
 
 returns : tie.Need-returns
 returns c =
-    let a = c .before .before .before .before .before .before .before .before .before .before .before .before .before .before .before .before .before .before .before .before .before .before .before .before .before .before .before .before .before .before .before in
+    let a = c .before .before .before .before .before .before .before .before .before .before .before .before .before .before .before .before .before .before .before .before .before .before .before .before .before .before .before in
     let p = c .before .before .before .before .before .before .before .before .before .before .before .before .before .before .before .pass in
     let h : p .result .position < length (decode (now (a .args .recs))) = omega (arith, c .before .before .before .before .before .before .before .before .before .count .ensures, c .before .before .before .before .before .before .before .before .if1 .taken) in
     let o = cleared-whole (p .last .1 .1 .1 .1 .1 .0) (sym (p .kept .1 .1 .1 .1 .1 .0 ∙ (ap length (a .pre .3) ∙ zeros-length 1024))) (c .before .before .clear .ensures) in
-    ends-short _ (a .pre .0) _ _ (a .pre .1) (now (a .args .clocks)) _ (a .pre .2) (c .before .before .before .before .before .before .before .before .before .before .before .before .before .before .before .before .before .before .before .before .before .before .before .clear-rows .ensures) _ _ _ _ (p .ensures) h _ _ _ (p .kept .1 .1 .0) (c .before .before .before .before .before .before .clear-rows2 .ensures) o (c .before .before .before .before .before .before .before .before .before .before .before .before .before .before .before .before .before .before .before .before .before .before .before .before .before .before .fill-ranks .ensures) _ refl
+    ends-short _ (a .pre .0) _ _ (a .pre .1) (now (a .args .clocks)) (a .pre .2) _ _ _ _ (p .ensures) h _ _ _ (p .kept .1 .1 .0) (c .before .before .before .before .before .before .clear-rows .ensures) o
+    (c .before .before .before .before .before .before .before .before .before .before .before .before .before .before .before .before .before .before .before .before .before .before .fill-ranks .ensures) _ refl
 
 same-length-3 : tie.Need-same-length-3
 same-length-3 c = search needs
@@ -70,10 +68,10 @@ same-length-4 c = search needs
 
 returns-2 : tie.Need-returns-2
 returns-2 c =
-    let a = c .before .before .before .before .before .before .before .before .before .before .before .before .before .before .before .before .before .before .before .before .before .before .before in
+    let a = c .before .before .before .before .before .before .before .before .before .before .before .before .before .before .before .before .before .before .before in
     let p = c .before .before .before .before .before .before .before .pass in
     let h : length (decode (now (a .args .recs))) ≤ p .result .position = omega (arith, c .before .count .ensures, c .if1 .left) in
-    ends-whole _ (a .pre .0) _ _ (a .pre .1) (now (a .args .clocks)) _ (a .pre .2) (c .before .before .before .before .before .before .before .before .before .before .before .before .before .before .before .clear-rows .ensures) _ _ _ _ (p .ensures) h _ (c .before .before .before .before .before .before .before .before .before .before .before .before .before .before .before .before .before .before .fill-ranks .ensures) _ refl
+    ends-whole _ (a .pre .0) _ _ (a .pre .1) (now (a .args .clocks)) (a .pre .2) _ _ _ _ (p .ensures) h _ (c .before .before .before .before .before .before .before .before .before .before .before .before .before .before .fill-ranks .ensures) _ refl
 
 pub fill-rows-spec : {M : Type 1} → statement M
 fill-rows-spec =
@@ -82,14 +80,13 @@ fill-rows-spec =
     cast-rows
     fill-ranks-requires
     numbers-1024-requires
-    clear-rows-requires
     slice-aggregate-pass
     pass-requires
     count-requires
-    clear-rows-requires-2
+    clear-rows-requires
     clear-requires
-    add-t31
-    cast-t32
+    add-t29
+    cast-t30
     same-length
     same-length-2
     returns

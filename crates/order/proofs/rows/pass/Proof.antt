@@ -1,6 +1,6 @@
 -- `order::rows::pass` meets its contract.
 -- Assumes nothing.
-use Rattle.order.proofs.PassLaws.{Going, going-start, going-row, going-room, going-on, going-next, going-stop, going-end}
+use Rattle.order.proofs.PassLaws.{Going, going-start, going-size, going-row, going-room, going-on, going-next, going-stop, going-end}
 use Rattle.records.specs.Bytes.{decode}
 use borrow.Author.Needs.{needs}
 use lib.ListN.{length}
@@ -24,24 +24,33 @@ count-requires c κs = search needs
 loop-holds : tie.Need-loop-holds Inv-loop μ-loop
 loop-holds c = (going-start _ _ _ _ _ _ (c .before .before .before .before .before .before .pre), refl, refl, refl)
 
+clear-fresh-requires : tie.Need-clear-fresh-requires Inv-loop μ-loop
+clear-fresh-requires c κs =
+    let l = c .before .before .before .loop in
+    let less : l .i < length (decode (now (c .before .before .before .before .before .before .before .before .before .before .args .recs))) = omega (arith, c .before .before .before .before .count .ensures) in
+    let u = going-row _ _ _ _ (l .inv .0) less in
+    (omega (arith, going-size _ _ _ _ (l .inv .0)), omega arith)
+
 begin-row-requires : tie.Need-begin-row-requires Inv-loop μ-loop
 begin-row-requires c κs =
-    let less : c .before .before .before .before .loop .i < length (decode (now (c .before .before .before .before .before .before .before .before .before .before .before .args .recs))) = omega (arith, c .before .before .before .before .before .count .ensures) in
-    going-room _ _ _ _ (c .before .before .before .before .loop .inv .0) less
+    let l = c .before .before .before .before .before .before .before .before .before .loop in
+    let less : l .i < length (decode (now (c .before .before .before .before .before .before .before .before .before .before .before .before .before .before .before .before .args .recs))) = omega (arith, c .before .before .before .before .before .before .before .before .before .before .count .ensures) in
+    going-room _ _ _ _ (l .inv .0) less _ (c .before .before .before .before .before .clear-fresh .ensures)
 
 same-length : tie.Need-same-length Inv-loop μ-loop
-same-length c = c .before .before .before .before .before .before .before .begin-row .kept .0 ∙ c .before .before .before .before .before .before .before .before .before .before .before .before .loop .inv .1
+same-length c = c .before .before .before .before .before .before .before .begin-row .kept .0 ∙ (c .before .before .before .before .before .before .before .before .before .before .before .before .before .clear-fresh .kept .0 ∙ c .before .before .before .before .before .before .before .before .before .before .before .before .before .before .before .before .before .loop .inv .1)
 
 same-length-2 : tie.Need-same-length-2 Inv-loop μ-loop
-same-length-2 c = c .before .before .before .before .before .before .before .begin-row .kept .1 .1 .1 .0 ∙ c .before .before .before .before .before .before .before .before .before .before .before .before .loop .inv .2
+same-length-2 c = c .before .before .before .before .before .before .before .begin-row .kept .1 .1 .1 .0 ∙ c .before .before .before .before .before .before .before .before .before .before .before .before .before .before .before .before .before .loop .inv .2
 
 same-length-3 : tie.Need-same-length-3 Inv-loop μ-loop
-same-length-3 c = c .before .before .before .before .before .before .before .begin-row .kept .1 .1 .1 .1 .0 ∙ c .before .before .before .before .before .before .before .before .before .before .before .before .loop .inv .3
+same-length-3 c = c .before .before .before .before .before .before .before .begin-row .kept .1 .1 .1 .1 .0 ∙ c .before .before .before .before .before .before .before .before .before .before .before .before .before .before .before .before .before .loop .inv .3
 
 returns : tie.Need-returns Inv-loop μ-loop
 returns c =
-    let less : c .before .before .before .before .before .before .before .before .before .before .before .before .loop .i < length (decode (now (c .before .before .before .before .before .before .before .before .before .before .before .before .before .before .before .before .before .before .before .args .recs))) = omega (arith, c .before .before .before .before .before .before .before .before .before .before .before .before .before .count .ensures) in
-    going-stop _ _ _ _ (c .before .before .before .before .before .before .before .before .before .before .before .before .loop .inv .0) less _ _ _ _ (c .before .before .before .before .before .before .before .begin-row .ensures) (c .if1 .taken)
+    let l = c .before .before .before .before .before .before .before .before .before .before .before .before .before .before .before .before .before .loop in
+    let less : l .i < length (decode (now (c .before .before .before .before .before .before .before .before .before .before .before .before .before .before .before .before .before .before .before .before .before .before .before .before .args .recs))) = omega (arith, c .before .before .before .before .before .before .before .before .before .before .before .before .before .before .before .before .before .before .count .ensures) in
+    going-stop _ _ _ _ (l .inv .0) less _ (c .before .before .before .before .before .before .before .before .before .before .before .before .before .clear-fresh .ensures) _ _ _ _ (c .before .before .before .before .before .before .before .begin-row .ensures) (c .if1 .taken)
 
 add-pass-links : tie.Need-add-pass-links Inv-loop μ-loop
 add-pass-links c = omega arith
@@ -51,21 +60,29 @@ pass-links-requires c κs = search needs
 
 add-u : tie.Need-add-u Inv-loop μ-loop
 add-u c =
-    let less : c .before .before .before .before .before .before .before .before .before .before .before .before .before .before .before .before .before .before .before .loop .i < length (decode (now (c .before .before .before .before .before .before .before .before .before .before .before .before .before .before .before .before .before .before .before .before .before .before .before .before .before .before .args .recs))) = omega (arith, c .before .before .before .before .before .before .before .before .before .before .before .before .before .before .before .before .before .before .before .before .count .ensures) in
-    omega (arith, going-row _ _ _ _ (c .before .before .before .before .before .before .before .before .before .before .before .before .before .before .before .before .before .before .before .loop .inv .0) less)
+    let l = c .before .before .before .before .before .before .before .before .before .before .before .before .before .before .before .before .before .before .before .before .before .before .before .before .loop in
+    let less : l .i < length (decode (now (c .before .before .before .before .before .before .before .before .before .before .before .before .before .before .before .before .before .before .before .before .before .before .before .before .before .before .before .before .before .before .before .args .recs))) = omega (arith, c .before .before .before .before .before .before .before .before .before .before .before .before .before .before .before .before .before .before .before .before .before .before .before .before .before .count .ensures) in
+    omega (arith, going-row _ _ _ _ (l .inv .0) less)
 
 loop-less : tie.Need-loop-less Inv-loop μ-loop
 loop-less c =
-    let less : c .before .before .before .before .before .before .before .before .before .before .before .before .before .before .before .before .before .before .before .loop .i < length (decode (now (c .before .before .before .before .before .before .before .before .before .before .before .before .before .before .before .before .before .before .before .before .before .before .before .before .before .before .args .recs))) = omega (arith, c .before .before .before .before .before .before .before .before .before .before .before .before .before .before .before .before .before .before .before .before .count .ensures) in
-    omega (arith, going-on _ _ _ _ (c .before .before .before .before .before .before .before .before .before .before .before .before .before .before .before .before .before .before .before .loop .inv .0) less _ _ _ _ (c .before .before .before .before .before .before .before .before .before .before .before .before .before .before .begin-row .ensures) (c .before .before .before .before .before .before .before .if1 .left) _ _ _ (c .before .before .before .before .pass-links .ensures), c .before .before .before .before .before .before .before .before .before .before .before .before .before .before .before .before .before .before .before .before .count .ensures)
+    let l = c .before .before .before .before .before .before .before .before .before .before .before .before .before .before .before .before .before .before .before .before .before .before .before .before .loop in
+    let less : l .i < length (decode (now (c .before .before .before .before .before .before .before .before .before .before .before .before .before .before .before .before .before .before .before .before .before .before .before .before .before .before .before .before .before .before .before .args .recs))) = omega (arith, c .before .before .before .before .before .before .before .before .before .before .before .before .before .before .before .before .before .before .before .before .before .before .before .before .before .count .ensures) in
+    let b = c .before .before .before .before .before .before .before .before .before .before .before .before .before .before in
+    let on = going-on _ _ _ _ (l .inv .0) less _ (c .before .before .before .before .before .before .before .before .before .before .before .before .before .before .before .before .before .before .before .before .clear-fresh .ensures) _ _ _ _ (b .begin-row .ensures) (c .before .before .before .before .before .before .before .if1 .left) _ _ _ (c .before .before .before .before .pass-links .ensures) in
+    omega (arith, on, c .before .before .before .before .before .before .before .before .before .before .before .before .before .before .before .before .before .before .before .before .before .before .before .before .before .count .ensures)
 
 loop-again : tie.Need-loop-again Inv-loop μ-loop
 loop-again c =
-    let less : c .before .before .before .before .before .before .before .before .before .before .before .before .before .before .before .before .before .before .before .loop .i < length (decode (now (c .before .before .before .before .before .before .before .before .before .before .before .before .before .before .before .before .before .before .before .before .before .before .before .before .before .before .args .recs))) = omega (arith, c .before .before .before .before .before .before .before .before .before .before .before .before .before .before .before .before .before .before .before .before .count .ensures) in (
-      going-next _ _ _ _ (c .before .before .before .before .before .before .before .before .before .before .before .before .before .before .before .before .before .before .before .loop .inv .0) less _ _ _ _ (c .before .before .before .before .before .before .before .before .before .before .before .before .before .before .begin-row .ensures) (c .before .before .before .before .before .before .before .if1 .left) _ _ _ (c .before .before .before .before .pass-links .ensures),
-      c .before .before .before .before .pass-links .kept .1 .1 .1 .1 .0 ∙ (c .before .before .before .before .before .before .before .before .before .before .before .before .before .before .begin-row .kept .0 ∙ c .before .before .before .before .before .before .before .before .before .before .before .before .before .before .before .before .before .before .before .loop .inv .1),
-      c .before .before .before .before .before .before .before .before .before .before .before .before .before .before .begin-row .kept .1 .1 .1 .0 ∙ c .before .before .before .before .before .before .before .before .before .before .before .before .before .before .before .before .before .before .before .loop .inv .2,
-      c .before .before .before .before .pass-links .kept .1 .1 .1 .1 .1 .0 ∙ (c .before .before .before .before .before .before .before .before .before .before .before .before .before .before .begin-row .kept .1 .1 .1 .1 .0 ∙ c .before .before .before .before .before .before .before .before .before .before .before .before .before .before .before .before .before .before .before .loop .inv .3),
+    let l = c .before .before .before .before .before .before .before .before .before .before .before .before .before .before .before .before .before .before .before .before .before .before .before .before .loop in
+    let less : l .i < length (decode (now (c .before .before .before .before .before .before .before .before .before .before .before .before .before .before .before .before .before .before .before .before .before .before .before .before .before .before .before .before .before .before .before .args .recs))) = omega (arith, c .before .before .before .before .before .before .before .before .before .before .before .before .before .before .before .before .before .before .before .before .before .before .before .before .before .count .ensures) in
+    let b = c .before .before .before .before .before .before .before .before .before .before .before .before .before .before in
+    let f = c .before .before .before .before .before .before .before .before .before .before .before .before .before .before .before .before .before .before .before .before .clear-fresh in
+    let x = c .before .before .before .before .pass-links in (
+      going-next _ _ _ _ (l .inv .0) less _ (f .ensures) _ _ _ _ (b .begin-row .ensures) (c .before .before .before .before .before .before .before .if1 .left) _ _ _ (x .ensures),
+      x .kept .1 .1 .1 .1 .0 ∙ (b .begin-row .kept .0 ∙ (f .kept .0 ∙ l .inv .1)),
+      b .begin-row .kept .1 .1 .1 .0 ∙ l .inv .2,
+      x .kept .1 .1 .1 .1 .1 .0 ∙ (b .begin-row .kept .1 .1 .1 .1 .0 ∙ l .inv .3),
     )
 
 same-length-4 : tie.Need-same-length-4 Inv-loop μ-loop
@@ -90,6 +107,7 @@ pass-spec =
     μ-loop
     count-requires
     loop-holds
+    clear-fresh-requires
     begin-row-requires
     same-length
     same-length-2
