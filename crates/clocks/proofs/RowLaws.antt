@@ -16,7 +16,7 @@ use lib.ListN.{length, getD, set, take, drop, replicate, length-append, length-t
 use lib.ListN.{getD-replicate, List·getD-append}
 use lib.Seq.{length-take-le, getD-append-add, getD-take, getD-drop, take-at, drop-append-add, drop-drop}
 use Rattle.slices.specs.Slices.{zeros, cleared}
-use Rattle.slices.proofs.Cleared.{cleared-whole}
+use Rattle.slices.proofs.Cleared.{cleared-whole, cleared-long}
 use Rattle.clocks.specs.Rows.{oneMore, hasRow, rowsIf, reach, mergeAt, mergeFrom, mergeRow, span, clearPast, copyAt, copyFrom, copyRow, clearRow, clearRows}
 
 -- row u stands in the clocks
@@ -206,11 +206,12 @@ module _ (w u c : ℕ) (cs : List ℕ) (fits : u * w + w ≤ length cs) (inside 
 -- clearing the end of a row's part
 pub past-at :
     (w u c : ℕ) (xs ys : List ℕ) → u * w + w ≤ length xs → c ≤ w →
-    ys ≡ replicate (length (take (u * w + w - (u * w + c)) (drop (u * w + c) xs))) 0 → putMid (u * w + c) (u * w + w - (u * w + c)) xs ys ≡ clearPast w u c xs
+    ys ≡ cleared w (take (u * w + w - (u * w + c)) (drop (u * w + c) xs)) → putMid (u * w + c) (u * w + w - (u * w + c)) xs ys ≡ clearPast w u c xs
 unfolding clearPast
 past-at w u c xs ys h i e =
-    let l : length (take (u * w + w - (u * w + c)) (drop (u * w + c) xs)) ≡ w - c = mid-len (u * w + c) (u * w + w) xs h ∙ omega arith in
-    rw (e, l, post-is (u * w + c) (u * w + w) xs (omega arith))
+    let part = take (u * w + w - (u * w + c)) (drop (u * w + c) xs) in
+    let l : length part ≡ w - c = mid-len (u * w + c) (u * w + w) xs h ∙ omega arith in
+    rw (cleared-long part (omega arith) e, l, post-is (u * w + c) (u * w + w) xs (omega arith))
 
 -- clearing the part of a row
 pub cleared-at : (w u : ℕ) (xs ys : List ℕ) → u * w + w ≤ length xs → ys ≡ cleared w (take (u * w + w - u * w) (drop (u * w) xs)) → putMid (u * w) (u * w + w - u * w) xs ys ≡ take (u * w) xs ++ (replicate w 0 ++ drop (u * w + w) xs)

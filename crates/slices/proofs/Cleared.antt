@@ -64,3 +64,10 @@ pub cleared-whole : {n : ℕ} (l : List ℕ) {l′ : List ℕ} → n ≡ length 
 unfolding zeros
 cleared-whole {n} l h e =
     cleared-within l (omega arith) e ∙ (ap (λ x. replicate n 0 ++ x) (drop-of-length-le l {i = n} (omega arith)) ∙ append-nil (replicate {A = ℕ} n 0))
+
+-- as many elements as there are, or more
+pub cleared-long : {n : ℕ} (l : List ℕ) {l′ : List ℕ} → length l ≤ n → l′ ≡ cleared n l → l′ ≡ replicate (length l) 0
+unfolding cleared
+cleared-long {n} l h e =
+    let m : min n (length l) ≡ length l = omega arith in
+    e ∙ rw (m, drop-of-length-le l {i = n} h) (append-nil (replicate (length l) 0))
