@@ -20,3 +20,5 @@ pub mod WholeSteps
 pub mod WholeApart
 pub mod Theorems
 pub mod Variants
+pub mod Indexed
+pub mod Embedded

@@ -8,3 +8,4 @@ pub mod Neighbours
 pub mod Lists
 pub mod Whole
 pub mod Demand
+pub mod Embedding
