@@ -1,4 +1,5 @@
 pub mod Table
+pub mod Places
 pub mod Upward
 pub mod Marked
 pub mod StatusLaws

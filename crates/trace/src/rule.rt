@@ -34,7 +34,7 @@ fn is_well_formed(r: Record) -> bool
     is_numbered(second)
 }
 
-// next is the table's entry for the record.
+// next is the reply of the place rule for the record.
 fn is_misplaced(next: u8, situation: u8, owner: EventId, r: Record) -> bool
     requires { ⌜ next ≡ place situation (r .kind) ⌝ }
     ensures { λ b. ⌜ b ≡ misplaced situation (owner .0) r ⌝ }
@@ -48,7 +48,7 @@ fn is_misplaced(next: u8, situation: u8, owner: EventId, r: Record) -> bool
     r.first != owner.0
 }
 
-// The first of refusals 4 to 6 that applies to record r, or 0, where next is the table's entry for it.
+// The first of refusals 4 to 6 that applies to record r, or 0, where next is the place rule's reply for it.
 pub(crate) fn place_fault(next: u8, situation: u8, owner: EventId, r: Record) -> u16
     requires { ⌜ next ≡ place situation (r .kind) ⌝ }
     ensures { λ n. ⌜ n ≡ cond (eqb (place situation (r .kind)) 3) 4 (cond (not (wellFormed r)) 5 (cond (misplaced situation (owner .0) r) 6 0)) ⌝ }
@@ -108,7 +108,7 @@ fn is_early(r: Record, second_ended: bool) -> bool
     !second_ended
 }
 
-// The number of the first of refusals 4 to 8 that applies to record r, or 0, where next is the table's entry for it. The three facts: its first has
+// The number of the first of refusals 4 to 8 that applies to record r, or 0, where next is the place rule's reply for it. The three facts: its first has
 // begun, its second has begun, its second has ended.
 fn fault(
     next: u8,
@@ -141,8 +141,7 @@ pub fn check(
 ) -> Checked
     ensures { λ c. ⌜ checkedPaper c ≡ verdict (judge situation (owner .0) r «first_begun» «second_begun» «second_ended») (op .0) (place situation (r .kind)) ⌝ }
 {
-    let places = place::table();
-    let next = place::next(&places, situation, r.kind);
+    let next = place::next(situation, r.kind);
     let number = fault(
         next,
         situation,
