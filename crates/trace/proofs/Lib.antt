@@ -1,5 +1,6 @@
 pub mod Table
 pub mod ReplyLaws
+pub mod Places
 pub mod Upward
 pub mod Marked
 pub mod StatusLaws

@@ -48,11 +48,35 @@ kind-of k = go (ℕ-discrete k 1) (ℕ-discrete k 2) (ℕ-discrete k 3) (ℕ-dis
     go (no a) (no b) (no c) (no d) (no f) (no g) (yes e) = none (inl e)
     go (no a) (no b) (no c) (no d) (no f) (no g) (no h) = none (inr (above 6 k (above 5 k (above 4 k (above 3 k (above 2 k (above 1 k (above 0 k zero-le h) a) b) c) d) f) g))
 
--- no kind is unknown to the table
-place-none : (s k : ℕ) → (k ≡ 0) ⊎ (6 < k) → place s k ≡ 3
+-- no kind is unknown
+pub place-none : (s k : ℕ) → (k ≡ 0) ⊎ (6 < k) → place s k ≡ 3
 unfolding place
 place-none s k (inl e) = simp e
 place-none s k (inr h) = simp (le-leb 1 k (omega arith), lt-leb k 6 h)
+
+-- a read or a write stays inside an event action
+pub inside-access : (k : ℕ) → 5 ≤ k → k ≤ 6 → place 2 k ≡ 2
+unfolding place
+inside-access k l h = simp (le-leb 1 k (omega arith), le-leb k 6 h, ne-eqb k 2 (λ e. omega arith), ne-eqb k 3 (λ e. omega arith), le-leb 5 k l)
+
+-- a begin or a join is out of place there
+pub inside-none : (k : ℕ) → 1 ≤ k → k < 5 → k ≢ 2 → k ≢ 3 → place 2 k ≡ 4
+unfolding place
+inside-none k l h n m = simp (le-leb 1 k l, le-leb k 6 (omega arith), ne-eqb k 2 n, ne-eqb k 3 m, lt-leb 5 k h)
+
+-- outside one all but a begin and a join are out of place
+pub outside-none : (k : ℕ) → 1 ≤ k → k ≤ 6 → k ≢ 1 → k ≢ 4 → place 0 k ≡ 4
+unfolding place
+outside-none k l h n m = simp (le-leb 1 k l, le-leb k 6 h, ne-eqb k 1 n, ne-eqb k 4 m)
+
+-- between event actions and after a join the replies are the same; a situation above 2 counts as 2
+pub as-between : (s k : ℕ) → s < 2 → place 0 k ≡ place s k
+unfolding place
+as-between s k h = simp (lt-ltb s 2 h)
+
+pub as-inside : (s k : ℕ) → 2 ≤ s → place 2 k ≡ place s k
+unfolding place
+as-inside s k h = simp (le-ltb s 2 h)
 
 module _ (s k : ℕ) (known : eqb (place s k) 3 ≡ false) (placed : eqb (place s k) 4 ≡ false) where
   not-unknown : place s k ≡ 3 → ⊥

@@ -1,9 +1,12 @@
 -- "Place is decided by a constant table of 3 situations (between event actions, after a join, inside one) times 256 kind bytes, 768 entries: the
 -- next situation, unknown kind, or out of place."
 -- Assumes nothing.
-use Prim.Native.Nat.{ℕ}
+use Prim.Native.Nat.{ℕ, _/_, _%_, _<_}
+use mathlib.Core.Path.{_≡_}
 use mathlib.Core.Bool.{cond, _&&_, _||_}
+use mathlib.Core.List.{List, _∷_, _++_}
 use lib.Dec.{leb, ltb, eqb}
+use lib.ListN.{getD, replicate}
 
 abbrev pub between : ℕ
 between = 0
@@ -29,3 +32,17 @@ place s k =
     (cond (eqb k 1) inside (cond (eqb k 4) afterJoin outOfPlace))
     (cond (eqb k 2) between (cond (eqb k 3 || leb 5 k) inside outOfPlace)))
     unknownKind
+
+-- The 768 entries, situation by situation: kinds 0 to 6, and 249 more that are unknown.
+unfoldable pub outsideEntries : List ℕ
+outsideEntries = unknownKind ∷ inside ∷ outOfPlace ∷ outOfPlace ∷ afterJoin ∷ outOfPlace ∷ outOfPlace ∷ replicate 249 unknownKind
+
+unfoldable pub insideEntries : List ℕ
+insideEntries = unknownKind ∷ outOfPlace ∷ between ∷ inside ∷ outOfPlace ∷ inside ∷ inside ∷ replicate 249 unknownKind
+
+unfoldable pub places : List ℕ
+places = outsideEntries ++ (outsideEntries ++ insideEntries)
+
+-- "decided by cases of the kind instead, with equal replies for all 256 kind bytes in all three situations"
+abbrev pub EqualReplies : Type 0
+EqualReplies = (i : ℕ) → i < 768 → place (i / 256) (i % 256) ≡ getD places i 0

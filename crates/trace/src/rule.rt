@@ -26,16 +26,19 @@ fn is_well_formed(r: Record) -> bool
     ensures { λ b. ⌜ b ≡ wellFormed r ⌝ }
 {
     let second = r.second;
-    if !is_numbered(r.first) {
+    if r.kind < 3 {
+        if second != 0 {
+            return false;
+        }
+        return is_numbered(r.first);
+    }
+    if !is_numbered(second) {
         return false;
     }
-    if r.kind < 3 {
-        return second == 0;
-    }
-    is_numbered(second)
+    is_numbered(r.first)
 }
 
-// next is the table's entry for the record.
+// next is the reply of the place rule for the record.
 fn is_misplaced(next: u8, situation: u8, owner: EventId, r: Record) -> bool
     requires { ⌜ next ≡ place situation (r .kind) ⌝ }
     ensures { λ b. ⌜ b ≡ misplaced situation (owner .0) r ⌝ }
@@ -49,7 +52,7 @@ fn is_misplaced(next: u8, situation: u8, owner: EventId, r: Record) -> bool
     r.first != owner.0
 }
 
-// The first of refusals 4 to 6 that applies to record r, or 0, where next is the table's entry for it.
+// The first of refusals 4 to 6 that applies to record r, or 0, where next is the place rule's reply for it.
 pub(crate) fn place_fault(next: u8, situation: u8, owner: EventId, r: Record) -> u16
     requires { ⌜ next ≡ place situation (r .kind) ⌝ }
     ensures { λ n. ⌜ n ≡ cond (eqb (place situation (r .kind)) 3) 4 (cond (not (wellFormed r)) 5 (cond (misplaced situation (owner .0) r) 6 0)) ⌝ }
@@ -109,7 +112,7 @@ fn is_early(r: Record, second_ended: bool) -> bool
     !second_ended
 }
 
-// The number of the first of refusals 4 to 8 that applies to record r, or 0, where next is the table's entry for it. The three facts: its first has
+// The number of the first of refusals 4 to 8 that applies to record r, or 0, where next is the place rule's reply for it. The three facts: its first has
 // begun, its second has begun, its second has ended.
 fn fault(
     next: u8,
@@ -143,8 +146,7 @@ pub fn check(
     ensures { λ c. ⌜ checkedPaper c
         ≡ orElse (judge situation (owner .0) r «first_begun» «second_begun» «second_ended») (op .0) (gives (place situation (r .kind))) ⌝ }
 {
-    let places = place::table();
-    let next = place::next(&places, situation, r.kind);
+    let next = place::next(situation, r.kind);
     let number = fault(
         next,
         situation,

@@ -13,11 +13,10 @@ use slices::zeros::bytes_1025;
 ghost use mathlib.Core.Path.{_≡_};
 ghost use mathlib.Core.Bool.{true, cond};
 ghost use mathlib.Core.List.{[]};
-ghost use Prim.Native.Nat.{ℕ, _+_, _/_, _%_, _≤_, _<_};
+ghost use Prim.Native.Nat.{_+_, _≤_};
 ghost use lib.Dec.{eqb};
-ghost use lib.ListN.{length, getD};
+ghost use lib.ListN.{length};
 ghost use Rattle.records.specs.Bytes.{decode};
-ghost use Rattle.trace.specs.Place.{place};
 ghost use Rattle.trace.specs.Rule.{again, early};
 ghost use Rattle.trace.specs.Inner.{Inner, Accesses};
 ghost use Rattle.trace.specs.Status.{hasBegun, hasEnded, noted};
@@ -67,8 +66,7 @@ fn admit(status: &mut [u8; 1025], r: Record) -> u16
 }
 
 // Is the record an access by the open event, of a cell's number? No refusal concerns such a record inside an event action.
-fn is_inner_access(places: &[u8; 768], owner: u16, r: Record) -> bool
-    requires { ⌜ ((k : ℕ) → k < 768 → getD (now places) k 0 ≡ place (k / 256) (k % 256)) ⌝ }
+fn is_inner_access(owner: u16, r: Record) -> bool
     ensures { λ b. ⌜ (b ≡ true → Inner owner r) ⌝ }
 {
     if r.kind < 5 {
@@ -77,15 +75,14 @@ fn is_inner_access(places: &[u8; 768], owner: u16, r: Record) -> bool
     if r.first != owner {
         return false;
     }
-    if place::next(places, 2, r.kind) != 2 {
+    if place::next(2, r.kind) != 2 {
         return false;
     }
     rule::is_numbered(r.second)
 }
 
 // From position `from` on, inside an event action, past the accesses by the open event.
-fn pass_accesses(recs: &[u8], places: &[u8; 768], now_in: u8, owner: u16, from: usize) -> usize
-    requires { ⌜ ((k : ℕ) → k < 768 → getD (now places) k 0 ≡ place (k / 256) (k % 256)) ⌝ }
+fn pass_accesses(recs: &[u8], now_in: u8, owner: u16, from: usize) -> usize
     ensures { λ r. ⌜ Accesses (decode (now (recs .entry))) «now_in» owner from r ⌝ }
 {
     if now_in != 2 {
@@ -94,7 +91,7 @@ fn pass_accesses(recs: &[u8], places: &[u8; 768], now_in: u8, owner: u16, from: 
     let n = count(recs);
     let mut i = from;
     while i < n {
-        if !is_inner_access(places, owner, record_at(recs, i)) {
+        if !is_inner_access(owner, record_at(recs, i)) {
             return i;
         }
         i += 1;
@@ -119,7 +116,6 @@ pub(crate) fn scan(recs: &[u8], start: usize, events: usize) -> Reading
     ensures { λ r. ⌜ paper r ≡ walk start events [] (decode (now (recs .entry))) ⌝ }
 {
     let records = count(recs);
-    let places = place::table();
     let mut status = bytes_1025();
     let mut now_in: u8 = 0;
     let mut owner: u16 = 0;
@@ -127,7 +123,7 @@ pub(crate) fn scan(recs: &[u8], start: usize, events: usize) -> Reading
     let mut i = 0;
     while i < records {
         let r = record_at(recs, i);
-        let next = place::next(&places, now_in, r.kind);
+        let next = place::next(now_in, r.kind);
         let misplaced = rule::place_fault(next, now_in, EventId(owner), r);
         if misplaced != 0 {
             return refuse(misplaced, i + 1);
@@ -139,7 +135,7 @@ pub(crate) fn scan(recs: &[u8], start: usize, events: usize) -> Reading
         found = one_more(r.kind, found);
         now_in = next;
         owner = r.first;
-        i = pass_accesses(recs, &places, now_in, owner, i + 1);
+        i = pass_accesses(recs, now_in, owner, i + 1);
     }
     finish(records, start, events, now_in, found)
 }

@@ -12,10 +12,10 @@ use Rattle.trace.proofs.scan.pass_accesses.Statement.{statement}
 use Rattle.trace.proofs.scan.pass_accesses.Tie as tie
 
 abbrev Inv-loop : tie.InvT-loop
-Inv-loop recs places now-in owner from n i₀ i = Accesses (decode recs) now-in owner from i
+Inv-loop recs now-in owner from n i₀ i = Accesses (decode recs) now-in owner from i
 
 abbrev μ-loop : tie.MeasureT-loop
-μ-loop recs places now-in owner from n i₀ i = n - i
+μ-loop recs now-in owner from n i₀ i = n - i
 
 returns : tie.Need-returns Inv-loop μ-loop
 returns c = none

@@ -13,25 +13,22 @@ use Rattle.trace.proofs.scan.scan.Statement.{statement}
 use Rattle.trace.proofs.scan.scan.Tie as tie
 
 abbrev Inv-loop : tie.InvT-loop
-Inv-loop recs start events records places status₀ now-in₀ owner₀ found₀ i₀ status now-in owner found i =
+Inv-loop recs start events records status₀ now-in₀ owner₀ found₀ i₀ status now-in owner found i =
     Going (decode recs) start events now-in owner found i status
 
 abbrev μ-loop : tie.MeasureT-loop
-μ-loop recs start events records places status₀ now-in₀ owner₀ found₀ i₀ status now-in owner found i =
+μ-loop recs start events records status₀ now-in₀ owner₀ found₀ i₀ status now-in owner found i =
     records - i
 
 count-requires : tie.Need-count-requires Inv-loop μ-loop
 count-requires c κs = search needs
-
-table-requires : tie.Need-table-requires Inv-loop μ-loop
-table-requires c κs = search needs
 
 bytes-1025-requires : tie.Need-bytes-1025-requires Inv-loop μ-loop
 bytes-1025-requires c κs = search needs
 
 loop-holds : tie.Need-loop-holds Inv-loop μ-loop
 loop-holds c =
-    let start = c .before .before .before .before in
+    let start = c .before .before .before in
     let a = start .args in
     rw (c .bytes-1025 .ensures) (going-start (decode (now (a .recs))) (a .start) (a .events))
 
@@ -39,9 +36,7 @@ record-at-requires : tie.Need-record-at-requires Inv-loop μ-loop
 record-at-requires c κs = search needs
 
 next-requires : tie.Need-next-requires Inv-loop μ-loop
-next-requires c κs =
-    let at-table = c .before .before .before .before .before in
-    at-table .table .ensures
+next-requires c κs = search needs
 
 place-fault-requires : tie.Need-place-fault-requires Inv-loop μ-loop
 place-fault-requires c κs = c .next .ensures
@@ -51,21 +46,21 @@ add-refuse c = omega arith
 
 refuse-requires : tie.Need-refuse-requires Inv-loop μ-loop
 refuse-requires c κs =
-    let at-before = c .before .before .before .before .before in
+    let at-before = c .before .before .before .before in
     let l = at-before .before in
-    let p = l .before .before .before .before .before .pre in
-    let n = l .before .before .before .count .ensures in
+    let p = l .before .before .before .before .pre in
+    let n = l .before .before .count .ensures in
     omega arith
 
 returns : tie.Need-returns Inv-loop μ-loop
 returns c =
-    let at-record-at = c .before .before .before .before .before in
+    let at-record-at = c .before .before .before .before in
     let at-before = at-record-at .before in
     let l = at-before .before in
     let r = at-record-at .record-at in
     let f = c .before .before .place-fault .ensures in
-    let n = l .before .before .before .count .ensures in
-    let less : l .loop .i < length (decode (now (l .before .before .before .before .before .args .recs))) = omega arith in
+    let n = l .before .before .count .ensures in
+    let less : l .loop .i < length (decode (now (l .before .before .before .before .args .recs))) = omega arith in
     c .refuse .ensures ∙ going-refused (l .loop .inv) less (r .result) (r .ensures) _ (by-place _ _ _ _ _ _ f (c .before .if1 .taken)) (c .before .if1 .taken)
 
 admit-requires : tie.Need-admit-requires Inv-loop μ-loop
@@ -76,31 +71,31 @@ add-refuse-2 c = omega arith
 
 refuse-requires-2 : tie.Need-refuse-requires-2 Inv-loop μ-loop
 refuse-requires-2 c κs =
-    let at-before = c .before .before .before .before .before .before .before .before in
+    let at-before = c .before .before .before .before .before .before .before in
     let l = at-before .before in
-    let p = l .before .before .before .before .before .pre in
-    let n = l .before .before .before .count .ensures in
+    let p = l .before .before .before .before .pre in
+    let n = l .before .before .count .ensures in
     omega arith
 
 returns-2 : tie.Need-returns-2 Inv-loop μ-loop
 returns-2 c =
     let at-if1 = c .before .before .before .before in
     let at-place-fault = at-if1 .before in
-    let at-record-at = at-place-fault .before .before .before in
+    let at-record-at = at-place-fault .before .before in
     let at-before = at-record-at .before in
     let l = at-before .before in
     let r = at-record-at .record-at in
     let f = at-place-fault .place-fault .ensures in
-    let n = l .before .before .before .count .ensures in
-    let less : l .loop .i < length (decode (now (l .before .before .before .before .before .args .recs))) = omega arith in
+    let n = l .before .before .count .ensures in
+    let less : l .loop .i < length (decode (now (l .before .before .before .before .args .recs))) = omega arith in
     c .refuse2 .ensures ∙ going-refused (l .loop .inv) less (r .result) (r .ensures) _ (by-order _ _ _ _ _ _ f (at-if1 .if1 .left) (c .before .before .admit .ensures .0)) (c .before .if2 .taken)
 
 one-more-requires : tie.Need-one-more-requires Inv-loop μ-loop
 one-more-requires c κs =
-    let at-before = c .before .before .before .before .before .before .before .before in
+    let at-before = c .before .before .before .before .before .before .before in
     let l = at-before .before in
-    let p = l .before .before .before .before .before .pre in
-    let n = l .before .before .before .count .ensures in
+    let p = l .before .before .before .before .pre in
+    let n = l .before .before .count .ensures in
     let f = l .loop .inv .few in
     omega arith
 
@@ -108,9 +103,7 @@ add-pass-accesses : tie.Need-add-pass-accesses Inv-loop μ-loop
 add-pass-accesses c = omega arith
 
 pass-accesses-requires : tie.Need-pass-accesses-requires Inv-loop μ-loop
-pass-accesses-requires c κs =
-    let at-table = c .before .before .before .before .before .before .before .before .before .before .before .before .before in
-    at-table .table .ensures
+pass-accesses-requires c κs = search needs
 
 loop-less : tie.Need-loop-less Inv-loop μ-loop
 loop-less c =
@@ -119,27 +112,27 @@ loop-less c =
 
 loop-again : tie.Need-loop-again Inv-loop μ-loop
 loop-again c =
-    let at-admit = c .before .before .before .before in
+    let at-admit = c .before .before .before in
     let at-if1 = at-admit .before .before in
     let at-place-fault = at-if1 .before in
     let at-next = at-place-fault .before in
-    let at-record-at = at-next .before .before in
+    let at-record-at = at-next .before in
     let at-before = at-record-at .before in
     let l = at-before .before in
     let r = at-record-at .record-at in
     let f = at-place-fault .place-fault .ensures in
     let a = at-admit .admit .ensures in
-    let z = c .before .before .before .if2 .left in
-    let n = l .before .before .before .count .ensures in
-    let less : l .loop .i < length (decode (now (l .before .before .before .before .before .args .recs))) = omega arith in
-    let o = c .before .before .one-more in
+    let z = c .before .before .if2 .left in
+    let n = l .before .before .count .ensures in
+    let less : l .loop .i < length (decode (now (l .before .before .before .before .args .recs))) = omega arith in
+    let o = c .before .one-more in
     let x = at-next .next in
     going-along (c .pass-accesses .ensures) (rw (a .1 z)
     (going-next (l .loop .inv) less (r .result) (r .ensures) _ (by-order _ _ _ _ _ _ f (at-if1 .if1 .left) (a .0)) z (x .result) (x .ensures) (o .result) (o .ensures)))
 
 finish-requires : tie.Need-finish-requires Inv-loop μ-loop
 finish-requires c κs =
-    let at-count = c .before .before .before .before in
+    let at-count = c .before .before .before in
     let start = at-count .before .before in
     let p = start .pre in
     let n = at-count .count .ensures in
@@ -147,7 +140,7 @@ finish-requires c κs =
 
 returns-3 : tie.Need-returns-3 Inv-loop μ-loop
 returns-3 c =
-    let at-count = c .before .before .before .before .before in
+    let at-count = c .before .before .before .before in
     c .finish .ensures ∙ sym (going-end (c .before .before .loop .inv) (at-count .count .ensures) (c .before .loop-test .left))
 
 pub scan-spec : {M : Type 1} → statement M
@@ -157,7 +150,6 @@ scan-spec =
     Inv-loop
     μ-loop
     count-requires
-    table-requires
     bytes-1025-requires
     loop-holds
     record-at-requires
