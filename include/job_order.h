@@ -43,7 +43,8 @@ enum {
     JCO_CLOCK_SPACE = 21, /* width not 1 to 1,024, or fewer clocks than event actions x width */
     JCO_WORK_SPACE = 22,  /* fewer work bytes than event actions */
     JCO_CHAINS = 23,      /* more chains needed than the width; place is the begin that needs one */
-    JCO_LIST_SPACE = 24,  /* list space for fewer entries than the list has, or, in the pair question, than there are event actions */
+    JCO_LIST_SPACE = 24,  /* list space for fewer entries than the list has, or, in the pair question, than there are event actions;
+                             or, in the compactor, output space for less than the slim trace */
     JCO_NO_SPACE = 25,    /* recorder: 4,096 records stored, or no space left for the record and a trailer */
     JCO_CLOSED = 26       /* recorder: closed already */
 };
@@ -87,6 +88,13 @@ uint16_t jco_short_list(const uint8_t *bytes, size_t bytes_length, size_t width,
  * left as by a list, after 12 as after 24. */
 uint16_t jco_ask_pair(const uint8_t *bytes, size_t bytes_length, size_t width, uint16_t *clocks, size_t clocks_length, uint8_t *work, size_t work_length,
                       uint16_t *list, size_t list_length, uint16_t a, uint16_t b, uint16_t *place, uint8_t *covered, size_t *count);
+
+/* Writes the slim trace of the trace that the bytes end with, from the first byte of out on, with nothing before its record 1: per event action and cell the
+ * first read and the first write, and every other record. length is that of the slim trace in bytes, dropped the number of records left out. The slim trace
+ * has the same cells with an open race, and the same combinations of first event action and second access among its open races; compacting it drops 0.
+ * Refuses with 1 to 10, 24. out is unchanged past the slim trace, and after a refusal all of it. As many bytes as the trace has from its record 1 on are
+ * always enough. */
+uint16_t jco_compact(const uint8_t *bytes, size_t bytes_length, uint8_t *out, size_t out_length, uint16_t *place, size_t *length, size_t *dropped);
 
 /* The recorder writes a trace into the space from its first byte on. Its state is four numbers, which the caller keeps and lends to each call; closed is 0 where
  * the recorder is open, anything else where it is closed. No state and no content of the space leads to a fault. If nobody else altered the space and the numbers

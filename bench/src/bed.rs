@@ -6,13 +6,14 @@ use crate::shapes::records;
 use crate::trace::job_file;
 
 /// What is measured. `open` and `covered` are the pair question, about the last short-list entry of that mark.
-pub const CALLS: [&str; 6] = ["read", "fill", "short", "all", "open", "covered"];
+pub const CALLS: [&str; 7] = ["read", "fill", "short", "all", "open", "covered", "compact"];
 
 pub struct Bed {
     bytes: Vec<u8>,
     clocks: Vec<u16>,
     work: Vec<u8>,
     list: Vec<u16>,
+    out: Vec<u8>,
     open: Option<(u16, u16)>,
     covered: Option<(u16, u16)>,
     pub events: usize,
@@ -37,6 +38,7 @@ impl Bed {
         let width = chains.next_multiple_of(32).max(32);
         clocks.truncate(read.events * width);
         Some(Bed {
+            out: vec![0; bytes.len()],
             bytes,
             clocks,
             work: vec![0; read.events],
@@ -87,6 +89,7 @@ impl Bed {
             "all" => side.all_races(bytes, width, lent).ok().map(|a| a.count),
             "open" => self.open.and_then(|(a, b)| side.ask_pair(bytes, width, lent, a, b).ok()).map(|a| a.count),
             "covered" => self.covered.and_then(|(a, b)| side.ask_pair(bytes, width, lent, a, b).ok()).map(|a| a.count),
+            "compact" => side.compact(bytes, &mut self.out).ok().map(|a| a.dropped),
             _ => None,
         }
     }

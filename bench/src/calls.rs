@@ -34,6 +34,13 @@ pub struct PairAnswer {
     pub count: usize,
 }
 
+/// The slim trace: its length in bytes, and how many records it leaves out.
+#[derive(Clone, Copy, Debug, PartialEq, Eq)]
+pub struct SlimAnswer {
+    pub length: usize,
+    pub dropped: usize,
+}
+
 /// The recorder's state, as the caller keeps it.
 #[derive(Clone, Copy, Debug, PartialEq, Eq, Default)]
 pub struct Recorder {
@@ -57,6 +64,7 @@ pub trait Calls {
     fn all_races(&self, bytes: &[u8], width: usize, lent: Lent) -> Answer<ListAnswer>;
     fn short_list(&self, bytes: &[u8], width: usize, lent: Lent) -> Answer<ListAnswer>;
     fn ask_pair(&self, bytes: &[u8], width: usize, lent: Lent, a: u16, b: u16) -> Answer<PairAnswer>;
+    fn compact(&self, bytes: &[u8], out: &mut [u8]) -> Answer<SlimAnswer>;
     fn recorder_open(&self, space: &[u8]) -> (Recorder, Answer<()>);
     fn recorder_step(&self, space: &mut [u8], recorder: &mut Recorder, record: crate::trace::Record) -> Answer<()>;
     fn recorder_close(&self, space: &mut [u8], recorder: &mut Recorder) -> Answer<usize>;

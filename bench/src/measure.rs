@@ -15,6 +15,7 @@ fn title(call: &str) -> &str {
         "short" => "the short list (reading and filling included)",
         "all" => "the list of all races (reading and filling included)",
         "open" => "the pair question, the last open pair of the short list",
+        "compact" => "compacting (reading included)",
         _ => "the pair question, the last covered pair of the short list",
     }
 }

@@ -92,6 +92,15 @@ mod linked {
             covered: &mut u8,
             count: &mut usize,
         ) -> u16;
+        fn jco_compact(
+            bytes: *const u8,
+            bytes_len: usize,
+            out: *mut u8,
+            out_len: usize,
+            place: &mut u16,
+            length: &mut usize,
+            dropped: &mut usize,
+        ) -> u16;
         fn jco_recorder_open(
             space: *const u8,
             space_len: usize,
@@ -240,6 +249,14 @@ mod linked {
                 )
             };
             answer(number, place, &[covered as usize, count], PairAnswer { covered: flag(covered), count })
+        }
+
+        fn compact(&self, bytes: &[u8], out: &mut [u8]) -> Answer<SlimAnswer> {
+            let (mut place, mut length, mut dropped) = (JUNK16, JUNK, JUNK);
+            let number = unsafe {
+                jco_compact(bytes.as_ptr(), bytes.len(), out.as_mut_ptr(), out.len(), &mut place, &mut length, &mut dropped)
+            };
+            answer(number, place, &[length, dropped], SlimAnswer { length, dropped })
         }
 
         fn recorder_open(&self, space: &[u8]) -> (Recorder, Answer<()>) {

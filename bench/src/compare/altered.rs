@@ -19,11 +19,14 @@ pub enum Alteration {
     OpenForCovered,
     StepNotStored,
     LengthOfTrace,
+    DroppedOneMore,
+    PastTheSlimTrace,
+    SlimTraceChanged,
 }
 
 use Alteration::*;
 
-pub const ALTERATIONS: [Alteration; 14] = [
+pub const ALTERATIONS: [Alteration; 17] = [
     MarkOfShortList,
     MarkOfAllRaces,
     EntryDropped,
@@ -38,6 +41,9 @@ pub const ALTERATIONS: [Alteration; 14] = [
     OpenForCovered,
     StepNotStored,
     LengthOfTrace,
+    DroppedOneMore,
+    PastTheSlimTrace,
+    SlimTraceChanged,
 ];
 
 pub struct Altered<'a> {
@@ -111,6 +117,18 @@ impl Calls for Altered<'_> {
         answer.count -= (answer.covered && self.is(CoverCutShort)) as usize;
         answer.count -= (!answer.covered && self.is(KeptEntryDropped)) as usize;
         answer.covered &= !self.is(OpenForCovered);
+        Ok(answer)
+    }
+
+    fn compact(&self, bytes: &[u8], out: &mut [u8]) -> Answer<SlimAnswer> {
+        let mut answer = self.inner.compact(bytes, out)?;
+        answer.dropped += self.is(DroppedOneMore) as usize;
+        if let (true, Some(past)) = (self.is(PastTheSlimTrace), out.get_mut(answer.length)) {
+            *past ^= 1;
+        }
+        if self.is(SlimTraceChanged) {
+            out[answer.length / 2] ^= 1;
+        }
         Ok(answer)
     }
 

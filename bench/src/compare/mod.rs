@@ -5,6 +5,7 @@ mod cover;
 mod lists;
 mod orders;
 mod recording;
+mod slim;
 mod tally;
 
 use crate::calls::*;
@@ -82,7 +83,8 @@ fn compare_trace(other: &dyn Calls, bytes: &[u8], chance: &mut Chance, tally: &m
     let chains = Plain.fill(bytes, 1024, &mut clocks).unwrap_or(1);
     let width = width(chance, chains);
     orders::compare(&case, width, events, chance, tally)?;
-    lists::compare(&case, width, events, chance, tally)
+    lists::compare(&case, width, events, chance, tally)?;
+    slim::compare(&case, chance, tally)
 }
 
 /// Records: of a random style, or of a measured shape with some of its accesses changed. Most are few, some as many as can be.

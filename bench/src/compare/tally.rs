@@ -17,6 +17,7 @@ pub struct Tally {
     pub kept: usize,
     pub cover_races: usize,
     pub longest_cover: usize,
+    pub dropped: usize,
 }
 
 impl Tally {
@@ -64,6 +65,7 @@ impl fmt::Display for Tally {
         }
         writeln!(f, "\nlist entries: open {}, covered {}", self.marks[1], self.marks[0])?;
         write!(f, "pairs: open {} ({} entries kept), covered {} ", self.pairs[0], self.kept, self.pairs[1])?;
-        write!(f, "({} races in covers, longest {})", self.cover_races, self.longest_cover)
+        writeln!(f, "({} races in covers, longest {})", self.cover_races, self.longest_cover)?;
+        write!(f, "records dropped {}", self.dropped)
     }
 }

@@ -2,6 +2,7 @@
 
 mod candidates;
 mod clocks;
+mod compactor;
 mod lists;
 mod pair;
 mod reading;
@@ -44,6 +45,10 @@ impl Calls for Plain {
 
     fn ask_pair(&self, bytes: &[u8], width: usize, lent: Lent, a: u16, b: u16) -> Answer<PairAnswer> {
         pair::ask_pair(bytes, width, lent, a, b)
+    }
+
+    fn compact(&self, bytes: &[u8], out: &mut [u8]) -> Answer<SlimAnswer> {
+        compactor::compact(bytes, out)
     }
 
     fn recorder_open(&self, space: &[u8]) -> (Recorder, Answer<()>) {

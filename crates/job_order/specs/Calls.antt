@@ -13,6 +13,8 @@ use Rattle.question.specs.Question.{orderReply}
 use Rattle.races.specs.declared.Summary.{Summary}
 use Rattle.races.specs.Lists.{pairsOf, listReady, listReply, listAfter}
 use Rattle.pair.specs.Pair.{PairMark, isOpen, isCovered, pairReady, pairReply, ListAfter}
+use Rattle.compactor.specs.declared.Slim.{Slim}
+use Rattle.compactor.specs.Compact.{compactReply, outAfter}
 
 -- result and place, then what is given, or zeros
 abbrev pub numbersOf : {A : Type 0} → List ℕ → (A → List ℕ) → Reply A → List ℕ
@@ -66,3 +68,11 @@ pub record AsksPair (b : List ℕ) (width : ℕ) (clocks clocks′ work work′ 
   pub clocks-after : clocks′ ≡ clocksAfter b (pairReady b width (length clocks) (length work) a c) width clocks
   pub work-after : work′ ≡ workAfter (pairReady b width (length clocks) (length work) a c) work
   pub list-after : ListAfter (recordsRead b) (a - 1) (c - 1) (pairReply b width (length clocks) (length work) (length list) a c) count list list′
+
+-- result, place, length, dropped
+abbrev pub slimNumbers : Reply Slim → List ℕ
+slimNumbers reply = numbersOf (0 ∷ 0 ∷ []) (λ s. s .length ∷ s .dropped ∷ []) reply
+
+pub record CompactsOut (b out out′ : List ℕ) (number place long dropped : ℕ) : Type 0 where
+  pub given : number ∷ place ∷ long ∷ dropped ∷ [] ≡ slimNumbers (compactReply b (length out))
+  pub out-after : out′ ≡ outAfter b out

@@ -15,6 +15,7 @@ use crate::known;
 use crate::known::Known;
 use crate::order_cases;
 use crate::paths;
+use crate::slim_cases;
 use crate::slots::pick;
 use crate::slots::plus;
 use crate::slots::wide;
@@ -110,7 +111,8 @@ fn note_links(recs: &[u8], before: Counts) -> Counts {
 fn compare_known(bytes: &[u8], recs: &[u8], table: &[usize], k: Known, before: Counts) -> Counts {
     let noted = note_links(recs, note_sizes(k, before));
     let order = order_cases::compare(bytes, table, k, noted);
-    compare_all(bytes, recs, table, k, order)
+    let calls = compare_all(bytes, recs, table, k, order);
+    slim_cases::compare(bytes, recs, table, k, calls)
 }
 
 // The reader's answer against the words of document 01; number 0 for an accepted trace.
@@ -178,7 +180,7 @@ fn check(bytes: &[u8], d: Draft, whole: bool, before: Counts) -> Counts {
     }
 }
 
-fn first_bytes(bytes: &[u8], n: usize) -> &[u8] {
+pub(crate) fn first_bytes(bytes: &[u8], n: usize) -> &[u8] {
     if n <= bytes.len() {
         return &bytes[..n];
     }

@@ -25,7 +25,7 @@ pub(crate) fn is_before(recs: &[u8], table: &[usize], a: usize, b: usize) -> boo
     reaches(table, t, u)
 }
 
-fn is_access(recs: &[u8], i: usize) -> bool {
+pub(crate) fn is_access(recs: &[u8], i: usize) -> bool {
     is_kind(recs, i, 5) | is_kind(recs, i, 6)
 }
 

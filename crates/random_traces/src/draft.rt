@@ -51,6 +51,21 @@ fn shape_of(seed: usize) -> Shape {
     }
 }
 
+// Few cells and many accesses in each event action, most of them reads.
+fn repeating_shape(seed: usize) -> Shape {
+    Shape {
+        seed: seed,
+        events: plus(2, roll(seed, 0, 31, 5)),
+        body: plus(4, roll(seed, 0, 32, 11)),
+        joins: roll(seed, 0, 33, 4),
+        forks: roll(seed, 0, 34, 4),
+        writes: plus(1, roll(seed, 0, 35, 6)),
+        cells: plus(1, roll(seed, 0, 36, 3)),
+        before: roll(seed, 0, 37, 12),
+        mask: roll(seed, 0, 38, 1024),
+    }
+}
+
 // The number, 1 to 1,024, of event action or cell j.
 fn number(s: Shape, j: usize) -> u16 {
     narrow(1 + (j ^ s.mask) % 1024)
@@ -178,13 +193,20 @@ fn put_actions(bytes: &mut [u8], s: Shape) -> usize {
     at
 }
 
-// The trace of a seed, without its trailer.
-pub(crate) fn put_trace(bytes: &mut [u8], seed: usize) -> Draft {
-    let s = shape_of(seed);
+// The trace of a shape, without its trailer.
+fn put_shape(bytes: &mut [u8], s: Shape) -> Draft {
     let end = put_actions(bytes, s);
     Draft {
         start: s.before,
         end: end,
         events: s.events,
     }
+}
+
+pub(crate) fn put_trace(bytes: &mut [u8], seed: usize) -> Draft {
+    put_shape(bytes, shape_of(seed))
+}
+
+pub(crate) fn put_repeating(bytes: &mut [u8], seed: usize) -> Draft {
+    put_shape(bytes, repeating_shape(seed))
 }

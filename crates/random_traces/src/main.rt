@@ -12,6 +12,8 @@ mod known;
 mod order_cases;
 mod pair_answers;
 mod paths;
+mod slim;
+mod slim_cases;
 mod slots;
 mod tally;
 
@@ -29,5 +31,5 @@ fn run(before: Counts) -> Counts {
 }
 
 fn main() {
-    tally::show(run(tally::nothing()));
+    tally::show(slim_cases::run(run(tally::nothing())));
 }

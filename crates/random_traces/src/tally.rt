@@ -34,6 +34,15 @@ pub(crate) const LIST_SPACE: usize = 13;
 
 pub(crate) const LENT: usize = 14;
 
+// Those of the compactor.
+pub(crate) const SLIM: usize = 27;
+
+pub(crate) const SLIM_RECORDS: usize = 28;
+
+pub(crate) const SLIM_ORDER: usize = 29;
+
+pub(crate) const SLIM_RACES: usize = 30;
+
 // Totals.
 pub(crate) const TRACES: usize = 30;
 
@@ -63,6 +72,8 @@ pub(crate) const SHORT_ENTRIES: usize = 50;
 pub(crate) const LONGER: usize = 51;
 
 pub(crate) const LONGEST: usize = 52;
+
+pub(crate) const DROPPED: usize = 62;
 
 pub(crate) fn nothing() -> Counts {
     Counts { at: [0; 64] }
@@ -128,5 +139,10 @@ pub(crate) fn show(tally: Counts) {
         tally,
         30,
         b"traces #\ndamaged #\ndamaged, accepted #\ndamaged, refusals 1 to 10 # # # # # # # # # #\nevent actions #\nrecords #\njoins #\nforks #\nordered pairs #\nmost chains #\nraces #\nshort list entries #\ncovers of several races #\nlongest cover #\n",
+    );
+    show_text(
+        tally,
+        54,
+        b"slim traces # #\nslim trace records # #\nslim trace order # #\nslim trace open races # #\nrecords dropped #\n",
     );
 }

@@ -18,4 +18,5 @@ pub(crate) fn each() {
     sample(b"t.trace");
     sample(b"setup-apart.trace");
     sample(b"setup-joined.trace");
+    sample(b"repeated-reads.trace");
 }

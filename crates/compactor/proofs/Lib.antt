@@ -1,0 +1,4 @@
+pub mod Thinned
+pub mod SlimLaws
+pub mod KeepLaws
+pub mod CompactLaws

@@ -1,0 +1,4 @@
+pub mod SlimTrace
+pub mod Compact
+pub mod Same
+pub mod Keeping
