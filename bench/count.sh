@@ -1,11 +1,11 @@
 #!/usr/bin/env bash
 # Counted instructions of each call, product and plain, on every measured trace. Needs valgrind (callgrind).
 # Only what runs inside the call is counted: the trace is built outside, and an empty call is subtracted.
-#   bench/count.sh [SIZES [CALLS [SHAPES]]]     default: "64 512 4096" "read fill short all open covered compact" and every shape
+#   bench/count.sh [SIZES [CALLS [SHAPES]]]     default: "64 512 4096" "read fill order short all open covered compact" and every shape
 set -euo pipefail
 cd "$(dirname "$0")"
 sizes=${1:-64 512 4096}
-calls=${2:-read fill short all open covered compact}
+calls=${2:-read fill order short all open covered compact}
 cargo build --release --offline --quiet
 bench=target/release/bench
 shapes=${3:-$($bench shapes | cut -d: -f1)}

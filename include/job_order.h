@@ -57,6 +57,9 @@ enum { JCO_LIST_ENTRY = 5, JCO_PAIR_ENTRY = 2 };
 enum { JCO_SHAPE_WW = 1, JCO_SHAPE_WR = 2, JCO_SHAPE_RW = 3 };
 enum { JCO_MARK_COVERED = 0, JCO_MARK_OPEN = 1 };
 
+/* What the order question gives. */
+enum { JCO_SAME = 1, JCO_BEFORE = 2, JCO_AFTER = 3, JCO_UNORDERED = 4 };
+
 /* The most that a trace holds. */
 enum { JCO_MOST_EVENTS = 1024, JCO_MOST_RECORDS = 4096 };
 
@@ -68,10 +71,11 @@ uint16_t jco_read(const uint8_t *bytes, size_t bytes_length, uint16_t *place, si
  * clocks are 0. Clocks past the rows are unchanged in every case. */
 uint16_t jco_fill(const uint8_t *bytes, size_t bytes_length, size_t width, uint16_t *clocks, size_t clocks_length, uint16_t *place, size_t *chains);
 
-/* Does the action of event t happen before that of event u? yes is 1 or 0: exactly that over clocks that were filled for these bytes and this width, and over
- * any others the comparison of their rows. Refuses with 1 to 10, 11, 21, 23. */
-uint16_t jco_happens_before(const uint8_t *bytes, size_t bytes_length, size_t width, const uint16_t *clocks, size_t clocks_length, uint16_t t, uint16_t u,
-                            uint16_t *place, uint8_t *yes);
+/* Which way round do the actions of events t and u stand? relation is JCO_SAME, JCO_BEFORE (t happens before u), JCO_AFTER (u happens before t) or
+ * JCO_UNORDERED (neither), and 0 after a refusal: exactly that over clocks that were filled for these bytes and this width, and over any others the comparison of
+ * their rows, where equal events are the same and JCO_BEFORE is told if both orders would be. Refuses with 1 to 10, 11, 21, 23. */
+uint16_t jco_order(const uint8_t *bytes, size_t bytes_length, size_t width, const uint16_t *clocks, size_t clocks_length, uint16_t t, uint16_t u, uint16_t *place,
+                   uint8_t *relation);
 
 /* The list of all races, and the short list: count entries of JCO_LIST_ENTRY numbers from the start of the list space, ordered by second record, then first.
  * list_length counts numbers. Refuse with 1 to 10, 21, 22, 23, 24. After success and after 24 the clocks are filled as by jco_fill, after 23 they are 0 over event

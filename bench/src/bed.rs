@@ -84,7 +84,7 @@ impl Bed {
             "none" => Some(0),
             "read" => side.read(bytes).ok().map(|a| a.events),
             "fill" => side.fill(bytes, width, lent.clocks).ok(),
-            "order" => side.happens_before(bytes, width, lent.clocks, 1, 2).ok().map(usize::from),
+            "order" => side.order(bytes, width, lent.clocks, 1, 2).ok().map(|r| r as usize),
             "short" => side.short_list(bytes, width, lent).ok().map(|a| a.count),
             "all" => side.all_races(bytes, width, lent).ok().map(|a| a.count),
             "open" => self.open.and_then(|(a, b)| side.ask_pair(bytes, width, lent, a, b).ok()).map(|a| a.count),

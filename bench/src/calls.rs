@@ -50,6 +50,15 @@ pub struct Recorder {
     pub closed: bool,
 }
 
+/// Which way round two event actions stand, by the numbers of the calls from C.
+#[derive(Clone, Copy, Debug, PartialEq, Eq)]
+pub enum Relation {
+    Same = 1,
+    Before = 2,
+    After = 3,
+    Unordered = 4,
+}
+
 /// Memory lent to a list or a pair question.
 pub struct Lent<'a> {
     pub clocks: &'a mut [u16],
@@ -60,7 +69,7 @@ pub struct Lent<'a> {
 pub trait Calls {
     fn read(&self, bytes: &[u8]) -> Answer<ReadAnswer>;
     fn fill(&self, bytes: &[u8], width: usize, clocks: &mut [u16]) -> Answer<usize>;
-    fn happens_before(&self, bytes: &[u8], width: usize, clocks: &[u16], t: u16, u: u16) -> Answer<bool>;
+    fn order(&self, bytes: &[u8], width: usize, clocks: &[u16], t: u16, u: u16) -> Answer<Relation>;
     fn all_races(&self, bytes: &[u8], width: usize, lent: Lent) -> Answer<ListAnswer>;
     fn short_list(&self, bytes: &[u8], width: usize, lent: Lent) -> Answer<ListAnswer>;
     fn ask_pair(&self, bytes: &[u8], width: usize, lent: Lent, a: u16, b: u16) -> Answer<PairAnswer>;

@@ -20,7 +20,7 @@ bench selftest                     altered answers, each of which comparing must
 bench measure                      times of both sides, ratio and growth
 bench stack                        how deep the stack goes in each call of the product
 bench count CALL SHAPE N WHO       one call alone, for counting instructions
-    CALL none read fill short all open covered compact; SHAPE as `bench shapes` says; WHO product or plain
+    CALL none read fill order short all open covered compact; SHAPE as `bench shapes` says; WHO product or plain
 bench shapes                       the traces that are measured";
 
 fn linked() -> Result<&'static dyn Calls, String> {

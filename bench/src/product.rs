@@ -33,7 +33,7 @@ mod linked {
             place: &mut u16,
             chains: &mut usize,
         ) -> u16;
-        fn jco_happens_before(
+        fn jco_order(
             bytes: *const u8,
             bytes_len: usize,
             width: usize,
@@ -42,7 +42,7 @@ mod linked {
             t: u16,
             u: u16,
             place: &mut u16,
-            yes: &mut u8,
+            relation: &mut u8,
         ) -> u16;
         fn jco_all_races(
             bytes: *const u8,
@@ -155,6 +155,19 @@ mod linked {
         x == 1
     }
 
+    fn way_round(number: u16, x: u8) -> Relation {
+        match x {
+            1 => Relation::Same,
+            2 => Relation::Before,
+            3 => Relation::After,
+            4 => Relation::Unordered,
+            _ => {
+                assert!(number != 0, "a relation of {x}");
+                Relation::Unordered
+            }
+        }
+    }
+
     type ListCall = unsafe extern "C" fn(
         *const u8,
         usize,
@@ -211,12 +224,12 @@ mod linked {
             answer(number, place, &[chains], chains)
         }
 
-        fn happens_before(&self, bytes: &[u8], width: usize, clocks: &[u16], t: u16, u: u16) -> Answer<bool> {
-            let (mut place, mut yes) = (JUNK16, JUNK8);
+        fn order(&self, bytes: &[u8], width: usize, clocks: &[u16], t: u16, u: u16) -> Answer<Relation> {
+            let (mut place, mut relation) = (JUNK16, JUNK8);
             let number = unsafe {
-                jco_happens_before(bytes.as_ptr(), bytes.len(), width, clocks.as_ptr(), clocks.len(), t, u, &mut place, &mut yes)
+                jco_order(bytes.as_ptr(), bytes.len(), width, clocks.as_ptr(), clocks.len(), t, u, &mut place, &mut relation)
             };
-            answer(number, place, &[yes as usize], flag(yes))
+            answer(number, place, &[relation as usize], way_round(number, relation))
         }
 
         fn all_races(&self, bytes: &[u8], width: usize, lent: Lent) -> Answer<ListAnswer> {

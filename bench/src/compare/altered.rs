@@ -95,9 +95,9 @@ impl Calls for Altered<'_> {
         answer
     }
 
-    fn happens_before(&self, bytes: &[u8], width: usize, clocks: &[u16], t: u16, u: u16) -> Answer<bool> {
+    fn order(&self, bytes: &[u8], width: usize, clocks: &[u16], t: u16, u: u16) -> Answer<Relation> {
         let (t, u) = if self.is(OrderReversed) { (u, t) } else { (t, u) };
-        self.inner.happens_before(bytes, width, clocks, t, u)
+        self.inner.order(bytes, width, clocks, t, u)
     }
 
     fn all_races(&self, bytes: &[u8], width: usize, lent: Lent) -> Answer<ListAnswer> {

@@ -28,9 +28,9 @@ pub fn compare(case: &Case, width: usize, events: usize, chance: &mut Chance, ta
     for k in 0..8 {
         let (t, u) = (some_event(case, chance), some_event(case, chance));
         let clocks = if k % 4 == 3 { &foreign } else { &plain };
-        let answer = Plain.happens_before(case.bytes, width, clocks, t, u);
+        let answer = Plain.order(case.bytes, width, clocks, t, u);
         tally.call("order", &answer);
-        let given = case.other.happens_before(case.bytes, width, clocks, t, u);
+        let given = case.other.order(case.bytes, width, clocks, t, u);
         same(&format!("order of {t} and {u}"), &answer, &given)?;
         if answer.is_err() {
             break;

@@ -26,13 +26,22 @@ impl Calls for Plain {
     }
 
     /// Chains are taken from the trace, and the lent clocks compared whatever they hold.
-    fn happens_before(&self, bytes: &[u8], width: usize, clocks: &[u16], t: u16, u: u16) -> Answer<bool> {
+    fn order(&self, bytes: &[u8], width: usize, clocks: &[u16], t: u16, u: u16) -> Answer<Relation> {
         let trace = reading::read(bytes)?;
         let row = |event: u16| trace.records().filter(|r| r.kind == BEGIN).position(|r| r.first == event);
         let (Some(t), Some(u)) = (row(t), row(u)) else { return refuse(11) };
         clocks::check_space(width, trace.events, clocks.len())?;
-        let chain = clocks::fill(&trace, width, &mut vec![0; trace.events * width])?.spots[t].chain as usize;
-        Ok(clocks[t * width + chain] <= clocks[u * width + chain])
+        let spots = clocks::fill(&trace, width, &mut vec![0; trace.events * width])?.spots;
+        let before = |t: usize, u: usize| {
+            let chain = spots[t].chain as usize;
+            clocks[t * width + chain] <= clocks[u * width + chain]
+        };
+        Ok(match () {
+            _ if t == u => Relation::Same,
+            _ if before(t, u) => Relation::Before,
+            _ if before(u, t) => Relation::After,
+            _ => Relation::Unordered,
+        })
     }
 
     fn all_races(&self, bytes: &[u8], width: usize, lent: Lent) -> Answer<ListAnswer> {

@@ -102,16 +102,23 @@ fn fill(width: usize, space: usize) {
     fill_in(&mut clocks, width, space);
 }
 
-fn order_in(clocks: &[u16], width: usize, space: usize, first: u16, second: u16) {
-    let t = T;
+fn order_in(
+    name: &[u8],
+    t: &[u8],
+    clocks: &[u16],
+    width: usize,
+    space: usize,
+    first: u16,
+    second: u16,
+) {
     if space <= clocks.len() {
-        word(b"order");
+        word(name);
         number(width);
         number(space);
         number(first as usize);
         number(second as usize);
-        show::answer(question::happens_before(
-            &t,
+        show::answer(question::ask_order(
+            t,
             width,
             &clocks[..space],
             records::EventId(first),
@@ -123,8 +130,32 @@ fn order_in(clocks: &[u16], width: usize, space: usize, first: u16, second: u16)
 
 // Over the rows that filling leaves at width 2.
 fn order(width: usize, space: usize, first: u16, second: u16) {
+    let t = T;
     let clocks = [1u16, 0, 2, 0, 1, 1];
-    order_in(&clocks, width, space, first, second);
+    order_in(b"order", &t, &clocks, width, space, first, second);
+}
+
+// Over clocks that are the same number throughout: both orders are allowed.
+fn order_even(all: u16, first: u16, second: u16) {
+    let t = T;
+    let clocks = [all; 6];
+    order_in(b"order, even", &t, &clocks, 2, 6, first, second);
+}
+
+// Over rows 5 0, 4 0, 1 1, which filling does not leave.
+fn order_foreign(first: u16, second: u16) {
+    let t = T;
+    let clocks = [5u16, 0, 4, 0, 1, 1];
+    order_in(b"order, foreign", &t, &clocks, 2, 6, first, second);
+}
+
+// T with fork 2 3 in place of record 7, over the rows that filling leaves at width 1.
+fn order_forked(first: u16, second: u16) {
+    let mut t = T;
+    t[30] = 3;
+    t[33] = 3;
+    let clocks = [1u16, 2, 3];
+    order_in(b"order, forked", &t, &clocks, 1, 3, first, second);
 }
 
 fn made(
@@ -269,13 +300,32 @@ fn orders() {
     order(2, 6, 1, 3);
     order(2, 6, 3, 1);
     order(2, 6, 2, 3);
+    order(2, 6, 3, 2);
     order(2, 6, 2, 2);
     order(2, 6, 4, 1);
     order(2, 6, 1, 0);
+    order(2, 6, 4, 4);
     order(0, 6, 4, 1);
     order(0, 6, 1, 2);
     order(2, 5, 1, 2);
     order(1, 6, 1, 2);
+}
+
+fn orders_over_other_clocks() {
+    order_even(0, 1, 3);
+    order_even(0, 3, 1);
+    order_even(0, 2, 2);
+    order_even(0, 4, 4);
+    order_even(65535, 2, 3);
+    order_even(65535, 3, 2);
+    order_even(65535, 3, 3);
+    order_foreign(1, 2);
+    order_foreign(2, 1);
+    order_foreign(1, 3);
+    order_foreign(1, 1);
+    order_forked(2, 3);
+    order_forked(3, 2);
+    order_forked(3, 3);
 }
 
 fn lists() {
@@ -303,6 +353,7 @@ fn pairs() {
 fn main() {
     fills();
     orders();
+    orders_over_other_clocks();
     lists();
     pairs();
 }

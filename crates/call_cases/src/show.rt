@@ -1,4 +1,5 @@
 // What a call answered and left, as numbers on the line.
+use clocks::Relation;
 use order::Filling;
 use pair::PairAnswer;
 use question::Answer;
@@ -30,10 +31,18 @@ pub(crate) fn filling(r: Filling) {
     }
 }
 
+fn relation(r: Relation) {
+    match r {
+        Relation::Same => word(b" same"),
+        Relation::Before => word(b" before"),
+        Relation::After => word(b" after"),
+        Relation::Unordered => word(b" unordered"),
+    }
+}
+
 pub(crate) fn answer(r: Answer) {
     match r {
-        Answer::Yes => word(b" yes"),
-        Answer::No => word(b" no"),
+        Answer::Related(way) => relation(way),
         Answer::Refused(f) => refusal(f),
     }
 }

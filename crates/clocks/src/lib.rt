@@ -1,4 +1,4 @@
-// The lent clocks: whether they have space for the rows, the comparison of two rows by which order is told, and merging and clearing rows.
+// The lent clocks: whether they have space for the rows, how two rows stand to each other, and merging and clearing rows.
 use slices::numbers::clear;
 use slices::numbers::get;
 use slices::numbers::larger;
@@ -8,6 +8,7 @@ ghost use Prim.Native.Nat.{_+_, _<_, min, max};
 ghost use lib.Dec.{ltb};
 ghost use lib.ListN.{getD, set};
 ghost use Rattle.clocks.specs.Rows.{spaceFor, compareIn, hasRow, reach, mergeRow, oneMore, span, copyRow, clearRow, clearRows};
+ghost use Rattle.clocks.specs.WayRound.{relationPaper, relateIn, saysUnordered, saysBefore};
 
 // Whether the width is in range and that many rows fit the clock space.
 pub fn has_space(width: usize, events: usize, space: usize) -> bool
@@ -23,12 +24,60 @@ pub fn has_space(width: usize, events: usize, space: usize) -> bool
 }
 
 // Whether row t's entry at chain c is at most row u's.
-pub fn compare(clocks: &[u16], width: u16, c: u16, t: u16, u: u16) -> bool
+fn compare(clocks: &[u16], width: u16, c: u16, t: u16, u: u16) -> bool
     ensures { λ r. ⌜ r ≡ compareIn (now (clocks .entry)) width c t u ⌝ }
 {
     let first = get(clocks, (t as usize) * (width as usize) + (c as usize));
     let second = get(clocks, (u as usize) * (width as usize) + (c as usize));
     first <= second
+}
+
+// Which way round two event actions stand.
+pub enum Relation {
+    Same,
+    Before,
+    After,
+    Unordered,
+}
+
+// How rows t and u stand to each other, by t's entry at its chain c and u's at its chain d.
+pub fn relate(clocks: &[u16], width: u16, t: u16, c: u16, u: u16, d: u16) -> Relation
+    ensures { λ r. ⌜ relationPaper r ≡ relateIn (now (clocks .entry)) width t c u d ⌝ }
+{
+    if t == u {
+        return Relation::Same;
+    }
+    if compare(clocks, width, c, t, u) {
+        return Relation::Before;
+    }
+    if compare(clocks, width, d, u, t) {
+        return Relation::After;
+    }
+    Relation::Unordered
+}
+
+// Does neither happen before the other?
+pub fn is_unordered(way: Relation) -> bool
+    ensures { λ r. ⌜ r ≡ saysUnordered (relationPaper way) ⌝ }
+{
+    match way {
+        Relation::Same => false,
+        Relation::Before => false,
+        Relation::After => false,
+        Relation::Unordered => true,
+    }
+}
+
+// Does the first happen before the second, or is it the same?
+pub fn is_before(way: Relation) -> bool
+    ensures { λ r. ⌜ r ≡ saysBefore (relationPaper way) ⌝ }
+{
+    match way {
+        Relation::Same => true,
+        Relation::Before => true,
+        Relation::After => false,
+        Relation::Unordered => false,
+    }
 }
 
 // One entry of a row becomes at least the value.

@@ -2,13 +2,14 @@
 -- is the refusal's number, or 0; the numbers that a refused call has nothing for are 0. Assumes nothing.
 use Prim.Native.Nat.{ℕ, _-_}
 use mathlib.Core.Path.{_≡_}
-use mathlib.Core.Bool.{Bool, cond}
+use mathlib.Core.Bool.{Bool}
 use mathlib.Core.List.{List, [], _∷_}
 use lib.ListN.{length}
 use Rattle.records.specs.declared.Trace.{Trace}
 use Rattle.trace.specs.Reply.{Reply, refused, gives}
 use Rattle.trace.specs.Reading.{readReply, recordsRead}
 use Rattle.order.specs.Lent.{clocksAfter, workAfter, fillReady, fillReply}
+use Rattle.clocks.specs.WayRound.{WayRound, sameAction, firstBefore, secondBefore, unordered}
 use Rattle.question.specs.Question.{orderReply}
 use Rattle.races.specs.declared.Summary.{Summary}
 use Rattle.races.specs.Lists.{pairsOf, listReady, listReply, listAfter}
@@ -36,12 +37,18 @@ pub record FillsOut (b : List ℕ) (width : ℕ) (clocks clocks′ : List ℕ) (
   pub given : number ∷ place ∷ chains ∷ [] ≡ fillNumbers (fillReply b width (length clocks))
   pub clocks-after : clocks′ ≡ clocksAfter b (fillReady b width (length clocks)) width clocks
 
--- result, place, yes (1 or 0)
-abbrev pub orderNumbers : Reply Bool → List ℕ
-orderNumbers reply = numbersOf (0 ∷ []) (λ says. cond says 1 0 ∷ []) reply
+-- result, place, the reply's number
+abbrev pub wayNumber : WayRound → ℕ
+wayNumber sameAction = 1
+wayNumber firstBefore = 2
+wayNumber secondBefore = 3
+wayNumber unordered = 4
 
-pub record Answers (b : List ℕ) (width : ℕ) (clocks : List ℕ) (t u number place yes : ℕ) : Type 0 where
-  pub given : number ∷ place ∷ yes ∷ [] ≡ orderNumbers (orderReply b width clocks t u)
+abbrev pub orderNumbers : Reply WayRound → List ℕ
+orderNumbers reply = numbersOf (0 ∷ []) (λ says. wayNumber says ∷ []) reply
+
+pub record Answers (b : List ℕ) (width : ℕ) (clocks : List ℕ) (t u number place relation : ℕ) : Type 0 where
+  pub given : number ∷ place ∷ relation ∷ [] ≡ orderNumbers (orderReply b width clocks t u)
 
 -- result, place, events, records, chains, count
 abbrev pub listNumbers : Reply Summary → List ℕ

@@ -1,4 +1,5 @@
 // What each answer holds, as the numbers that a call gives out: its result, then those it stores.
+use clocks::Relation;
 use order::Filling;
 use pair::PairAnswer;
 use question::Answer;
@@ -8,10 +9,11 @@ ghost use mathlib.Core.Path.{_≡_};
 ghost use mathlib.Core.List.{[], _∷_};
 ghost use Rattle.trace.specs.Paper.{paper};
 ghost use Rattle.order.specs.Paper.{fillPaper};
+ghost use Rattle.clocks.specs.WayRound.{relationPaper};
 ghost use Rattle.question.specs.Question.{orderPaper};
 ghost use Rattle.races.specs.Paper.{listPaper};
 ghost use Rattle.pair.specs.Pair.{pairPaper, entriesGiven};
-ghost use Rattle.job_order.specs.Calls.{readNumbers, fillNumbers, orderNumbers, listNumbers, pairNumbers};
+ghost use Rattle.job_order.specs.Calls.{readNumbers, fillNumbers, wayNumber, orderNumbers, listNumbers, pairNumbers};
 
 pub(crate) struct Read {
     pub(crate) number: u16,
@@ -66,30 +68,37 @@ pub(crate) fn filling(r: Filling) -> Filled
     }
 }
 
+// The number of a reply: 1 the same, 2 first before second, 3 second before first, 4 unordered.
+fn relation(r: Relation) -> u8
+    ensures { λ n. ⌜ n ≡ wayNumber (relationPaper r) ⌝ }
+{
+    match r {
+        Relation::Same => 1,
+        Relation::Before => 2,
+        Relation::After => 3,
+        Relation::Unordered => 4,
+    }
+}
+
 pub(crate) struct Told {
     pub(crate) number: u16,
     pub(crate) place: u16,
-    pub(crate) yes: u8,
+    pub(crate) relation: u8,
 }
 
 pub(crate) fn answer(r: Answer) -> Told
-    ensures { λ n. ⌜ n .number ∷ n .place ∷ n .yes ∷ [] ≡ orderNumbers (orderPaper r) ⌝ }
+    ensures { λ n. ⌜ n .number ∷ n .place ∷ n .relation ∷ [] ≡ orderNumbers (orderPaper r) ⌝ }
 {
     match r {
-        Answer::Yes => Told {
+        Answer::Related(way) => Told {
             number: 0,
             place: 0,
-            yes: 1,
-        },
-        Answer::No => Told {
-            number: 0,
-            place: 0,
-            yes: 0,
+            relation: relation(way),
         },
         Answer::Refused(f) => Told {
             number: f.number,
             place: f.place.0,
-            yes: 0,
+            relation: 0,
         },
     }
 }

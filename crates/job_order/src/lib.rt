@@ -45,23 +45,23 @@ pub extern "C" fn jco_fill(
     given.number
 }
 
-// The order question: does event t's action happen before u's?
+// The order question: which way round do the actions of events t and u stand?
 #[no_mangle]
-pub extern "C" fn jco_happens_before(
+pub extern "C" fn jco_order(
     bytes: &[u8],
     width: usize,
     clocks: &[u16],
     t: u16,
     u: u16,
     place: &mut u16,
-    yes: &mut u8,
+    relation: &mut u8,
 ) -> u16
-    ensures { λ r. ⌜ Answers (now (bytes .entry)) width (now (clocks .entry)) t u r (now (place .exit)) (now (yes .exit)) ⌝ }
+    ensures { λ r. ⌜ Answers (now (bytes .entry)) width (now (clocks .entry)) t u r (now (place .exit)) (now (relation .exit)) ⌝ }
 {
-    let answer = question::happens_before(bytes, width, clocks, EventId(t), EventId(u));
+    let answer = question::ask_order(bytes, width, clocks, EventId(t), EventId(u));
     let given = give::answer(answer);
     *place = given.place;
-    *yes = given.yes;
+    *relation = given.relation;
     given.number
 }
 

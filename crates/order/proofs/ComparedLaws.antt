@@ -1,11 +1,11 @@
 -- Over clocks that filling left, the comparison is happens-before.
 -- Assumes nothing.
 use Prim.Native.Nat.{ℕ, _-_, _≤_, _<_}
-use mathlib.Core.Path.{_≡_, sym, ap₂, subst}
+use mathlib.Core.Path.{_≡_, sym, ap, ap₂, subst}
 use mathlib.Core.List.{List, _++_}
 use mathlib.Core.Logic.{_≢_, _↔_}
 use native.Mathlib.Omega.{arith}
-use lib.Dec.{T, leb}
+use lib.Dec.{T, leb, eqb, eqb→eq}
 use lib.ListN.{List·getD-append}
 use Rattle.records.specs.declared.Record.{Record}
 use Rattle.trace.specs.Reading.{Acceptable}
@@ -16,12 +16,19 @@ use Rattle.order.specs.Clocks.{chainOf, clocksOf}
 use Rattle.order.specs.HappensBefore.{rank, traceLinks, happensBefore}
 use Rattle.order.specs.Compared.{compared}
 use Rattle.order.specs.Fill.{eventsIn, shortRow, traceClocks}
-use Rattle.slices.proofs.Tests.{same as equal-tests}
+use Rattle.slices.proofs.Tests.{eq→eqb, same as equal-tests}
 use Rattle.order.proofs.ChainLaws.{chain-below, needs-none}
 use Rattle.order.proofs.RowLaws.{clocks-length, place}
 use Rattle.order.proofs.Theorems.{order-question}
-use Rattle.order.proofs.TraceOrder.{forward-links, up, down, happens-before, before-happens}
+use Rattle.order.proofs.TraceOrder.{rank-one, forward-links, up, down, happens-before, before-happens}
 use Rattle.order.proofs.TableLaws.{rank-row}
+
+-- two events that begin are one exactly where their rows are
+pub same-rows : {tr : List Record} (a : Acceptable tr) (t u : ℕ) → rank tr t ≢ 0 → rank tr u ≢ 0 → eqb (rank tr t - 1) (rank tr u - 1) ≡ eqb t u
+same-rows {tr} a t u nt nu = equal-tests (eqb (rank tr t - 1) (rank tr u - 1)) (eqb t u) (λ h. eq→eqb t u (one (eqb→eq (rank tr t - 1) (rank tr u - 1) h))) (λ h. eq→eqb (rank tr t - 1) (rank tr u - 1) (ap (λ x. rank tr x - 1) (eqb→eq t u h)))
+  where
+    one : rank tr t - 1 ≡ rank tr u - 1 → t ≡ u
+    one e = rank-one a t u (rank tr t - 1) (omega (arith, nt)) (omega (arith, nt, nu, e))
 
 -- rows that filling left, with anything after them
 module _ {tr : List Record} (a : Acceptable tr) (w : ℕ) (enough : shortRow tr w ≡ eventsIn tr) (rest : List ℕ) where

@@ -33,7 +33,7 @@ use Rattle.races.proofs.Instance.{laws}
 use Rattle.pair.proofs.RecordRows.{starts-parted, rank-rises, rank-some, rank-few, row-low}
 use Rattle.pair.proofs.RowMarks.{marks-tell}
 use Rattle.trace.proofs.Events.{few-events}
-use Rattle.races.proofs.FilledLaws.{rank-is, of-length, rows-before}
+use Rattle.races.proofs.FilledLaws.{rank-is, of-length, before-told, unordered-told}
 use Rattle.races.proofs.CandidateLaws.{racing, past-quiet, kind-access, kind-no-access}
 use Rattle.races.proofs.ListLaws.{may-race, may-found}
 use Rattle.pair.proofs.PairEntries.{no-entries, entries-room, put-more}
@@ -158,8 +158,8 @@ module _ {tr : List Record} {ranks of : List ℕ} {width : ℕ} {clocks : List �
       told : (y : ℕ) → y < length tr → rowOf tr y ≡ t → racesFrom tr y c d ≡ goesOn of width clocks t s u
       unfolding racesFrom goesOn
       told y h q = ap₂ _&&_
-          (may-race tr acc c d l inside (kind-access acc d inside (n .access)) (may-found tr c d (n .cell-is) (n .least-is) (n .may l)) ∙ ap not (sym (rows-before f c d s u inside-c inside row-c (row-of-d u (n .row-is)))))
-          (sym (rows-before f y c t s h inside-c (sym q) row-c))
+          (may-race tr acc c d l inside (kind-access acc d inside (n .access)) (may-found tr c d (n .cell-is) (n .least-is) (n .may l)) ∙ sym (unordered-told f c d s u inside-c inside row-c (row-of-d u (n .row-is)) l))
+          (sym (before-told f y c t s h inside-c (sym q) row-c))
 
       pub along-found : goesOn of width clocks t s u ≡ true → FirstFrom tr ranks work lo t d c
       along-found v b y m h q = record { found = λ k. (leading (leads (settingOf tr) b (eventOf (at tr d))) (marked work u (n .row-is) b m), subst T (sym (told y h q ∙ v)) tt); none = λ k. absurd (omega arith) }

@@ -2,13 +2,13 @@
 use Prim.Native.Nat.{ℕ, _+_, _*_, _≤_, _<_}
 use mathlib.Core.Path.{_≡_}
 use mathlib.Core.Logic.{_≢_}
-use mathlib.Core.Bool.{Bool, not, _&&_}
+use mathlib.Core.Bool.{Bool, _&&_}
 use mathlib.Core.List.{List, _++_, map}
-use lib.Dec.{T}
+use lib.Dec.{T, eqb}
 use lib.ListN.{length, getD, set}
 use Rattle.records.specs.declared.Record.{Record}
 use Rattle.records.specs.Records.{at, eventOf}
-use Rattle.clocks.specs.Rows.{compareIn}
+use Rattle.clocks.specs.WayRound.{WayRound, wayRound, relateIn, saysUnordered, saysBefore}
 use Rattle.order.specs.HappensBefore.{rank, happensBefore}
 use Rattle.coverage.specs.Below.{upto}
 use Rattle.coverage.specs.Race.{before, Race, raceb}
@@ -48,9 +48,15 @@ NoneFrom tr t lo d c = (x y : ℕ) → x < length tr → rowOf tr x ≡ t → lo
 abbrev pub FirstFrom : List Record → List ℕ → List ℕ → ℕ → ℕ → ℕ → ℕ → Type 0
 FirstFrom tr ranks work lo t d c = (b x : ℕ) → Marks tr ranks work b → x < length tr → rowOf tr x ≡ t → First tr b lo x d c
 
--- row c does not happen before row d, and row t happens before it
+-- which way round the event actions of records a and b stand
+abbrev pub wayOf : List Record → ℕ → ℕ → WayRound
+wayOf tr a b = wayRound (eqb (eventOf (at tr a)) (eventOf (at tr b))) (happensBefore tr (eventOf (at tr a)) (eventOf (at tr b)))
+    (happensBefore tr (eventOf (at tr b)) (eventOf (at tr a)))
+
+-- row c is unordered with row d, and row t happens before it or is it
 unfoldable pub goesOn : List ℕ → ℕ → List ℕ → ℕ → ℕ → ℕ → Bool
-goesOn of width clocks t c d = not (compareIn clocks width (getD of c 0) c d) && compareIn clocks width (getD of t 0) t c
+goesOn of width clocks t c d = saysUnordered (relateIn clocks width c (getD of c 0) d (getD of d 0))
+    && saysBefore (relateIn clocks width t (getD of t 0) c (getD of c 0))
 
 -- no record before d has such a race
 abbrev pub NoRace : List Record → ℕ → ℕ → ℕ → ℕ → Type 0

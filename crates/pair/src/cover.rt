@@ -2,7 +2,8 @@
 // to b.
 use crate::kept;
 use crate::racing;
-use clocks::compare;
+use clocks::is_before;
+use clocks::is_unordered;
 use ranks::row_at;
 use records::access;
 use records::search;
@@ -30,10 +31,10 @@ fn leads_on(of: &[u16], width: usize, clocks: &[u16], t: usize, c: usize, d: usi
     requires { ⌜ (width ≤ 1024) × (t < 1024) × (c < 1024) × (d < 1024) × (length (now of) ≡ 1024) ⌝ }
     ensures { λ r. ⌜ r ≡ goesOn (now (of .entry)) width (now (clocks .entry)) t c d ⌝ }
 {
-    if compare(clocks, width as u16, of[c], c as u16, d as u16) {
+    if !is_unordered(racing::relate_rows(of, width, clocks, c, d)) {
         return false;
     }
-    compare(clocks, width as u16, of[t], t as u16, c as u16)
+    is_before(racing::relate_rows(of, width, clocks, t, c))
 }
 
 // The first record from lo on, before d, that races with d and that the event action of row t happens before, where the event action of d is marked; d where

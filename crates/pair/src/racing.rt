@@ -1,18 +1,21 @@
 // Which accesses race, by the clocks.
-use clocks::compare;
-use ranks::rank_of;
+use clocks::Relation;
+use clocks::is_unordered;
+use clocks::relate;
+use ranks::row_at;
 use records::Record;
 use records::access;
 ghost use mathlib.Core.Path.{_≡_};
-ghost use Prim.Native.Nat.{_-_, _<_};
+ghost use Prim.Native.Nat.{_≤_, _<_};
 ghost use lib.ListN.{length, getD};
 ghost use Rattle.records.specs.Bytes.{decode};
 ghost use Rattle.records.specs.Records.{at, eventOf};
 ghost use Rattle.order.specs.HappensBefore.{happensBefore};
 ghost use Rattle.coverage.specs.Race.{raceb};
 ghost use Rattle.races.specs.Traces.{isAccess, settingOf, conflict, clash};
-ghost use Rattle.clocks.specs.Rows.{compareIn};
-ghost use Rattle.races.specs.Filled.{Filled, RowsIn};
+ghost use Rattle.clocks.specs.WayRound.{relationPaper, relateIn};
+ghost use Rattle.races.specs.Filled.{Filled};
+ghost use Rattle.pair.specs.PairSearch.{wayOf};
 
 pub(crate) fn is_access(r: Record) -> bool
     ensures { λ x. ⌜ x ≡ isAccess r ⌝ }
@@ -52,6 +55,32 @@ pub(crate) fn is_clash(recs: &[u8], a: usize, b: usize) -> bool
     access::event_at(recs, a).0 != access::event_at(recs, b).0
 }
 
+// Which way round rows t and u stand.
+pub(crate) fn relate_rows(of: &[u16], width: usize, clocks: &[u16], t: usize, u: usize) -> Relation
+    requires { ⌜ (width ≤ 1024) × (t < 1024) × (u < 1024) × (length (now of) ≡ 1024) ⌝ }
+    ensures { λ r. ⌜ relationPaper r ≡ relateIn (now (clocks .entry)) width t (getD (now (of .entry)) t 0) u (getD (now (of .entry)) u 0) ⌝ }
+{
+    relate(clocks, width as u16, t as u16, of[t], u as u16, of[u])
+}
+
+// Which way round the event actions of records a and b stand.
+fn relation(
+    recs: &[u8],
+    ranks: &[u16],
+    of: &[u16],
+    width: usize,
+    clocks: &[u16],
+    a: usize,
+    b: usize,
+) -> Relation
+    requires { ⌜ Filled (decode (now recs)) (now ranks) (now of) width (now clocks) × (a < length (decode (now recs))) × (b < length (decode (now recs))) ⌝ }
+    ensures { λ r. ⌜ relationPaper r ≡ wayOf (decode (now (recs .entry))) a b ⌝ }
+{
+    let t = row_at(recs, ranks, a);
+    let u = row_at(recs, ranks, b);
+    relate_rows(of, width, clocks, t, u)
+}
+
 // Whether the event action of record a happens before that of record b.
 pub(crate) fn is_before(
     recs: &[u8],
@@ -66,10 +95,7 @@ pub(crate) fn is_before(
     ensures { λ r. ⌜ r ≡ happensBefore (decode (now (recs .entry))) (eventOf (at (decode (now (recs .entry))) a))
         (eventOf (at (decode (now (recs .entry))) b)) ⌝ }
 {
-    let first = rank_of(ranks, access::event_at(recs, a));
-    let second = rank_of(ranks, access::event_at(recs, b));
-    let row = (first - 1) as usize;
-    compare(clocks, width as u16, of[row], first - 1, second - 1)
+    clocks::is_before(relation(recs, ranks, of, width, clocks, a, b))
 }
 
 // Whether records a and b are a race, where a stands before b.
@@ -88,5 +114,5 @@ pub(crate) fn is_race(
     if !is_clash(recs, a, b) {
         return false;
     }
-    !is_before(recs, ranks, of, width, clocks, a, b)
+    is_unordered(relation(recs, ranks, of, width, clocks, a, b))
 }

@@ -1,4 +1,4 @@
--- The pass that finds the chains from the trace alone keeps the last member of each chain and the chain of the row asked for, and stops at the begin for which the width has no chain left.
+-- The pass that finds the chains from the trace alone keeps the last member of each chain and the chains of the rows asked for, and stops at the begin for which the width has no chain left.
 -- Assumes nothing.
 use Prim.Native.Nat.{ℕ, zero, suc, _+_, _-_, _<_, _≤_, max}
 use mathlib.Core.Path.{_≡_, refl, sym, ap, _∙_}
@@ -44,13 +44,13 @@ unfolding marksDownIn
 down-same f g h zero ms = refl
 down-same f g h (suc i) ms = rw (h i) (down-same f g h i (markIn (g i) ms))
 
-enter-room : (asked w u : ℕ) (s : Members) (c : ℕ) → c < w → enterChain asked w u s c ≡ record { lasts = set (s .lasts) c u; chains = max (s .chains) (suc c); own = ownChain asked u c (s .own) }
+enter-room : (x y w u : ℕ) (s : Members) (c : ℕ) → c < w → enterChain x y w u s c ≡ record { lasts = set (s .lasts) c u; chains = max (s .chains) (suc c); first = ownChain x u c (s .first); second = ownChain y u c (s .second) }
 unfolding enterChain
-enter-room asked w u s c h = rw (lt-leb w c h)
+enter-room x y w u s c h = rw (lt-leb w c h)
 
-enter-full : (asked w u : ℕ) (s : Members) (c : ℕ) → w ≤ c → enterChain asked w u s c ≡ record { lasts = s .lasts; chains = suc w; own = s .own }
+enter-full : (x y w u : ℕ) (s : Members) (c : ℕ) → w ≤ c → enterChain x y w u s c ≡ record { lasts = s .lasts; chains = suc w; first = s .first; second = s .second }
 unfolding enterChain
-enter-full asked w u s c h = rw (le-leb w c h)
+enter-full x y w u s c h = rw (le-leb w c h)
 
 -- the chain of the row asked for is its entry in the list of chains by row
 own-entry : (asked u c : ℕ) (of : List ℕ) → u < length of → ownChain asked u c (getD of asked 0) ≡ getD (set of u c) asked 0
@@ -61,7 +61,7 @@ own-entry asked u c of h = go (ℕ-discrete u asked)
     go (yes e) = rw (← e, eq-eqb u u refl) (sym (getD-set-same of u c 0 h))
     go (no n) = rw (ne-eqb u asked n) (sym (getD-set-other of u asked c 0 (λ e. n (sym e))))
 
-module _ {tr : List Record} (a : Acceptable tr) (asked w : ℕ) (narrow : w ≤ 1024) where
+module _ {tr : List Record} (a : Acceptable tr) (x y w : ℕ) (narrow : w ≤ 1024) where
   abbrev op : ℕ → Op
   op = opAt tr
 
@@ -77,16 +77,18 @@ module _ {tr : List Record} (a : Acceptable tr) (asked w : ℕ) (narrow : w ≤ 
     pub lasts-size : length (s .lasts) ≡ 1024
     pub chains-are : s .chains ≡ used le (begins op i)
     pub chains-fit : s .chains ≤ w
-    pub own-is : s .own ≡ getD (chains-of a w [] (begins op i)) asked 0
+    pub first-is : s .first ≡ getD (chains-of a w [] (begins op i)) x 0
+    pub second-is : s .second ≡ getD (chains-of a w [] (begins op i)) y 0
 
-  pub keeping-start : (ls : List ℕ) → length ls ≡ 1024 → Keeping 0 (record { lasts = ls; chains = 0; own = 0 })
+  pub keeping-start : (ls : List ℕ) → length ls ≡ 1024 → Keeping 0 (record { lasts = ls; chains = 0; first = 0; second = 0 })
   unfolding zeros table
   keeping-start ls h = record {
     lasts-are = λ c l. absurd (omega (arith, l, none));
     lasts-size = h;
     chains-are = sym none;
     chains-fit = omega arith;
-    own-is = rw (begins-zero op) (sym (zeros-at 1024 asked));
+    first-is = rw (begins-zero op) (sym (zeros-at 1024 x));
+    second-is = rw (begins-zero op) (sym (zeros-at 1024 y));
   }
     where
       none : used le (begins op 0) ≡ 0
@@ -119,7 +121,7 @@ module _ {tr : List Record} (a : Acceptable tr) (asked w : ℕ) (narrow : w ≤ 
         go other e = tt
 
     -- row u enters its chain
-    entered : (u : ℕ) → op i ≡ begin u → chain le u < w → Keeping (suc i) (record { lasts = set (s .lasts) (chain le u) u; chains = max (s .chains) (suc (chain le u)); own = ownChain asked u (chain le u) (s .own) })
+    entered : (u : ℕ) → op i ≡ begin u → chain le u < w → Keeping (suc i) (record { lasts = set (s .lasts) (chain le u) u; chains = max (s .chains) (suc (chain le u)); first = ownChain x u (chain le u) (s .first); second = ownChain y u (chain le u) (s .second) })
     entered u e t =
         let b = begun-below a w [] i u h e in
         let next = begins-suc op i (begin u) e in
@@ -128,11 +130,18 @@ module _ {tr : List Record} (a : Acceptable tr) (asked w : ℕ) (narrow : w ≤ 
           lasts-size = length-set (s .lasts) (chain le u) u ∙ k .lasts-size;
           chains-are = rw (next, k .chains-are) (ap (λ v. max (used le (begins op i)) (suc (chain le v))) (b .0) ∙ sym (used-suc le (begins op i)));
           chains-fit = omega (arith, k .chains-fit);
-          own-is = rw (next, k .own-is, b .0) (own-entry asked (begins op i) (chain le (begins op i)) (chains-of a w [] (begins op i)) (omega (arith, size, few a w [], b .0, b .1)) ∙ ap (λ of. getD of asked 0) (chains-more a w [] (begins op i) (omega (arith, few a w [], b .0, b .1))));
+          first-is = rw (next, k .first-is, b .0) (own x);
+          second-is = rw (next, k .second-is, b .0) (own y);
         }
       where
         size : length (chains-of a w [] (begins op i)) ≡ 1024
         size = omega (arith, length-append (table (begins op i) (chainOf (traceLinks tr))) (replicate (1024 - begins op i) 0), table-length (begins op i) (chainOf (traceLinks tr)), length-replicate {A = ℕ} (1024 - begins op i) 0, few a w [], begins-mono op i n (omega arith))
+
+        own : (z : ℕ) → ownChain z (begins op i) (chain le (begins op i)) (getD (chains-of a w [] (begins op i)) z 0) ≡ getD (chains-of a w [] (suc (begins op i))) z 0
+        own z =
+            let b = begun-below a w [] i u h e in
+            own-entry z (begins op i) (chain le (begins op i)) (chains-of a w [] (begins op i)) (omega (arith, size, few a w [], b .0, b .1))
+            ∙ ap (λ of. getD of z 0) (chains-more a w [] (begins op i) (omega (arith, few a w [], b .0, b .1)))
 
         after : begins op (suc i) ≡ suc u
         after = begins-suc op i (begin u) e ∙ ap suc (sym (begun-below a w [] i u h e .0))
@@ -152,15 +161,15 @@ module _ {tr : List Record} (a : Acceptable tr) (asked w : ℕ) (narrow : w ≤ 
       turned u e = ap (λ m. markedChain m (s .lasts) (s .chains)) (down-same (saidBy ranks tr) op said i _) ∙ found u e
 
       abbrev turnedBy : Members
-      turnedBy = turnMembers ranks tr asked w i (saidBy ranks tr i) s
+      turnedBy = turnMembers ranks tr x y w i (saidBy ranks tr i) s
 
       pub keeping-next : turnedBy .chains ≤ w → Keeping (suc i) turnedBy
       unfolding turnMembers
       keeping-next l = rw (said i) (go (op i) refl (rw (said i) at l))
         where
-          begun : (u : ℕ) → op i ≡ begin u → (chain le u < w) ⊎ (w ≤ chain le u) → enterChain asked w u s (chain le u) .chains ≤ w → Keeping (suc i) (enterChain asked w u s (chain le u))
-          begun u e (inl t) l = rw (enter-room asked w u s (chain le u) t) (entered u e t)
-          begun u e (inr t) l = absurd (omega (arith, l, ap (λ m. m .chains) (enter-full asked w u s (chain le u) t)))
+          begun : (u : ℕ) → op i ≡ begin u → (chain le u < w) ⊎ (w ≤ chain le u) → enterChain x y w u s (chain le u) .chains ≤ w → Keeping (suc i) (enterChain x y w u s (chain le u))
+          begun u e (inl t) l = rw (enter-room x y w u s (chain le u) t) (entered u e t)
+          begun u e (inr t) l = absurd (omega (arith, l, ap (λ m. m .chains) (enter-full x y w u s (chain le u) t)))
 
           stays : (o : Op) → op i ≡ o → begins op (suc i) ≡ begins op i → Keeping (suc i) s
           stays o e q = record {
@@ -168,10 +177,11 @@ module _ {tr : List Record} (a : Acceptable tr) (asked w : ℕ) (narrow : w ≤ 
             lasts-size = k .lasts-size;
             chains-are = rw q (k .chains-are);
             chains-fit = k .chains-fit;
-            own-is = rw q (k .own-is);
+            first-is = rw q (k .first-is);
+            second-is = rw q (k .second-is);
           }
 
-          go : (o : Op) → op i ≡ o → turnMembers ranks tr asked w i o s .chains ≤ w → Keeping (suc i) (turnMembers ranks tr asked w i o s)
+          go : (o : Op) → op i ≡ o → turnMembers ranks tr x y w i o s .chains ≤ w → Keeping (suc i) (turnMembers ranks tr x y w i o s)
           go (link p u) e l = stays (link p u) e (begins-suc op i (link p u) e)
           go (begin u) e l = rw (turned u e) (begun u e (lt-or-ge (chain le u) w) (rw (turned u e) at l))
           go other e l = stays other e (begins-suc op i other e)
@@ -180,69 +190,69 @@ module _ {tr : List Record} (a : Acceptable tr) (asked w : ℕ) (narrow : w ≤ 
       unfolding turnMembers shortRow
       keeping-stop l = go (op i) refl (rw (said i) at l)
         where
-          stops : (u : ℕ) → op i ≡ begin u → (chain le u < w) ⊎ (w ≤ chain le u) → w < enterChain asked w u s (chain le u) .chains → (needs le w (eventsIn tr) ≢ eventsIn tr) × Short tr w i
-          stops u e (inl t) l = absurd (omega (arith, l, ap (λ m. m .chains) (enter-room asked w u s (chain le u) t), k .chains-fit))
+          stops : (u : ℕ) → op i ≡ begin u → (chain le u < w) ⊎ (w ≤ chain le u) → w < enterChain x y w u s (chain le u) .chains → (needs le w (eventsIn tr) ≢ eventsIn tr) × Short tr w i
+          stops u e (inl t) l = absurd (omega (arith, l, ap (λ m. m .chains) (enter-room x y w u s (chain le u) t), k .chains-fit))
           stops u e (inr t) l =
               let b = begun-below a w [] i u h e in
               let v = events-are a w [] in
               let q : needs le w (eventsIn tr) ≡ u = needs-at le w (eventsIn tr) u (omega (arith, b .1, v)) (omega (arith, k .chains-are, k .chains-fit, ap (used le) (b .0))) t in
               (λ z. omega (arith, q, z, b .1, v), record { place = rw q (sym (begin-position a w [] i u h e)); inside = h })
 
-          go : (o : Op) → op i ≡ o → w < turnMembers ranks tr asked w i o s .chains → (needs le w (eventsIn tr) ≢ eventsIn tr) × Short tr w i
+          go : (o : Op) → op i ≡ o → w < turnMembers ranks tr x y w i o s .chains → (needs le w (eventsIn tr) ≢ eventsIn tr) × Short tr w i
           go (link p u) e l = absurd (omega (arith, l, k .chains-fit))
           go (begin u) e l = stops u e (lt-or-ge (chain le u) w) (rw (turned u e) at l)
           go other e l = absurd (omega (arith, l, k .chains-fit))
 
-  pub keeping-end : (s : Members) → Keeping n s → (shortRow tr w ≡ eventsIn tr) × (s .own ≡ getD (chainTable tr) asked 0)
+  pub keeping-end : (s : Members) → Keeping n s → (shortRow tr w ≡ eventsIn tr) × (s .first ≡ getD (chainTable tr) x 0) × (s .second ≡ getD (chainTable tr) y 0)
   unfolding shortRow chainTable
   keeping-end s k =
       let v = events-are a w [] in
-      (needs-none le w (eventsIn tr) .1 (omega (arith, k .chains-are, k .chains-fit, ap (used le) v)), rw (← v) (k .own-is))
+      (needs-none le w (eventsIn tr) .1 (omega (arith, k .chains-are, k .chains-fit, ap (used le) v)), rw (← v) (k .first-is), rw (← v) (k .second-is))
 
 -- The loop of the pass, turn by turn.
-are-members : (s : Members) (ls : List ℕ) (chains own : ℕ) → AreMembers s ls chains own → record { lasts = ls; chains = chains; own = own } ≡ s
-are-members s ls chains own e = rw (e .lasts-are, e .chains-are, e .own-is)
+are-members : (s : Members) (ls : List ℕ) (chains first second : ℕ) → AreMembers s ls chains first second → record { lasts = ls; chains = chains; first = first; second = second } ≡ s
+are-members s ls chains first second e = rw (e .lasts-are, e .chains-are, e .first-is, e .second-is)
 
-module _ (tr : List Record) (asked w : ℕ) (ranks : List ℕ) where
-  pub record Going (ls : List ℕ) (chains own i : ℕ) : Type 0 where
+module _ (tr : List Record) (x y w : ℕ) (ranks : List ℕ) where
+  pub record Going (ls : List ℕ) (chains first second i : ℕ) : Type 0 where
     pub within : i ≤ length tr
     pub acceptable : Acceptable tr
     pub narrow : w ≤ 1024
     pub ranks-are : ranks ≡ ranksOf tr
-    pub keeping : Keeping acceptable asked w narrow i (record { lasts = ls; chains = chains; own = own })
+    pub keeping : Keeping acceptable x y w narrow i (record { lasts = ls; chains = chains; first = first; second = second })
 
-  pub going-start : (ls : List ℕ) → length ls ≡ 1024 → ReadyChains tr w ranks → Going ls 0 0 0
+  pub going-start : (ls : List ℕ) → length ls ≡ 1024 → ReadyChains tr w ranks → Going ls 0 0 0 0
   going-start ls h r = record {
     within = omega arith;
     acceptable = r .acceptable;
     narrow = r .narrow;
     ranks-are = r .ranks-are;
-    keeping = keeping-start (r .acceptable) asked w (r .narrow) ls h;
+    keeping = keeping-start (r .acceptable) x y w (r .narrow) ls h;
   }
 
-  module _ {ls : List ℕ} {chains own i : ℕ} (g : Going ls chains own i) where
-    pub going-room : i < length tr → RoomFor (saidBy ranks tr i) (record { lasts = ls; chains = chains; own = own })
-    going-room h = rw (g .ranks-are, ops-are (g .acceptable) i) (keeping-room (g .acceptable) asked w (g .narrow) i _ h (g .keeping))
+  module _ {ls : List ℕ} {chains first second i : ℕ} (g : Going ls chains first second i) where
+    pub going-room : i < length tr → RoomFor (saidBy ranks tr i) (record { lasts = ls; chains = chains; first = first; second = second })
+    going-room h = rw (g .ranks-are, ops-are (g .acceptable) i) (keeping-room (g .acceptable) x y w (g .narrow) i _ h (g .keeping))
 
-    module _ (h : i < length tr) (ls′ : List ℕ) (next own′ : ℕ)
-        (t : AreMembers (turnMembers ranks tr asked w i (saidBy ranks tr i) (record { lasts = ls; chains = chains; own = own })) ls′ next own′) where
-      pub going-next : next ≤ w → Going ls′ next own′ (i + 1)
+    module _ (h : i < length tr) (ls′ : List ℕ) (next first′ second′ : ℕ)
+        (t : AreMembers (turnMembers ranks tr x y w i (saidBy ranks tr i) (record { lasts = ls; chains = chains; first = first; second = second })) ls′ next first′ second′) where
+      pub going-next : next ≤ w → Going ls′ next first′ second′ (i + 1)
       going-next l = record {
         within = omega arith;
         acceptable = g .acceptable;
         narrow = g .narrow;
         ranks-are = g .ranks-are;
-        keeping = rw (add-one i, are-members _ ls′ next own′ t) (keeping-next (g .acceptable) asked w (g .narrow) i _ h (g .keeping) ranks (g .ranks-are) (rw (← t .chains-are) l));
+        keeping = rw (add-one i, are-members _ ls′ next first′ second′ t) (keeping-next (g .acceptable) x y w (g .narrow) i _ h (g .keeping) ranks (g .ranks-are) (rw (← t .chains-are) l));
       }
 
-      pub going-stop : w < next → PassesChains tr asked w i own′
+      pub going-stop : w < next → PassesChains tr x y w i first′ second′
       going-stop l =
-          let s = keeping-stop (g .acceptable) asked w (g .narrow) i _ h (g .keeping) ranks (g .ranks-are) (rw (t .chains-are) at l) in
+          let s = keeping-stop (g .acceptable) x y w (g .narrow) i _ h (g .keeping) ranks (g .ranks-are) (rw (t .chains-are) at l) in
           record { whole = λ e. absurd (s .0 e); short = λ n. s .1 }
 
-    pub going-end : length tr ≤ i → PassesChains tr asked w i own
+    pub going-end : length tr ≤ i → PassesChains tr x y w i first second
     going-end h =
         let l = g .within in
         let e : i ≡ length tr = omega arith in
-        let k = keeping-end (g .acceptable) asked w (g .narrow) _ (rw e at (g .keeping)) in
-        record { whole = λ z. (k .1, e); short = λ n. absurd (n (k .0)) }
+        let k = keeping-end (g .acceptable) x y w (g .narrow) _ (rw e at (g .keeping)) in
+        record { whole = λ z. (k .1, k .2, e); short = λ n. absurd (n (k .0)) }

@@ -1,8 +1,8 @@
 // The order question on an accepted trace.
 use crate::Answer;
 use crate::chains::chain_pass;
-use clocks::compare;
 use clocks::has_space;
+use clocks::relate;
 use records::EventId;
 use records::Operation;
 use records::access;
@@ -11,17 +11,8 @@ ghost use mathlib.Core.Path.{_≡_};
 ghost use Rattle.records.specs.Bytes.{decode};
 ghost use Rattle.trace.specs.Reading.{Acceptable};
 ghost use Rattle.order.specs.Fill.{eventsIn};
-ghost use Rattle.trace.specs.Reply.{Reply, gives};
+ghost use Rattle.trace.specs.Reply.{Reply};
 ghost use Rattle.question.specs.Question.{orderPaper, orderTrace};
-
-fn answer(yes: bool) -> Answer
-    ensures { λ r. ⌜ orderPaper r ≡ gives yes ⌝ }
-{
-    if yes {
-        return Answer::Yes;
-    }
-    Answer::No
-}
 
 fn refused(number: u16, place: Operation) -> Answer
     ensures { λ r. ⌜ orderPaper r ≡ Reply.refused number (place .0) ⌝ }
@@ -56,10 +47,11 @@ pub(crate) fn ask(
     if !has_space(width, events, clocks.len()) {
         return refused(trace::CLOCK_SPACE, Operation(0));
     }
-    let row = (first - 1) as usize;
-    let passed = chain_pass(recs, &all, row, width);
+    let x = first - 1;
+    let y = second - 1;
+    let passed = chain_pass(recs, &all, x as usize, y as usize, width);
     if passed.position < access::count(recs) {
         return refused(trace::CHAINS, Operation((passed.position + 1) as u16));
     }
-    answer(compare(clocks, width as u16, passed.chain, first - 1, second - 1))
+    Answer::Related(relate(clocks, width as u16, x, passed.first, y, passed.second))
 }

@@ -64,13 +64,14 @@ fn marked_chain(marks: &[u8], lasts: &[u16], chains: usize) -> usize
     c
 }
 
-// The chains taken, more than the width where it has none left, and the chain of the row asked for: 0 before that row enters one.
+// The chains taken, more than the width where it has none left, and the chains of the two rows asked for: 0 before a row enters one.
 struct Taken {
     chains: usize,
-    own: u16,
+    first: u16,
+    second: u16,
 }
 
-// The chain of the row asked for, where row u enters chain c.
+// The chain of a row asked for, where row u enters chain c.
 fn own_chain(asked: usize, u: usize, c: usize, own: u16) -> u16
     requires { ⌜ c < 1024 ⌝ }
     ensures { λ r. ⌜ r ≡ ownChain asked u c own ⌝ }
@@ -81,36 +82,42 @@ fn own_chain(asked: usize, u: usize, c: usize, own: u16) -> u16
     own
 }
 
-// Row u enters chain c.
+// Row u enters chain c, where rows x and y are asked for.
 fn enter_chain(
     lasts: &mut [u16],
     taken: Taken,
-    asked: usize,
+    x: usize,
+    y: usize,
     width: usize,
     u: usize,
     c: usize,
 ) -> Taken
     requires { ⌜ (width ≤ 1024) × (u < 1024) × (length (now lasts) ≡ 1024) ⌝ }
-    ensures { λ r. ⌜ AreMembers (enterChain asked width u (record { lasts = now (lasts .entry); chains = taken .chains; own = taken .own }) c)
-        (now (lasts .exit)) (r .chains) (r .own) ⌝ }
+    ensures { λ r. ⌜ AreMembers
+        (enterChain x y width u (record { lasts = now (lasts .entry); chains = taken .chains; first = taken .first; second = taken .second }) c)
+        (now (lasts .exit)) (r .chains) (r .first) (r .second) ⌝ }
 {
     if width <= c {
         return Taken {
             chains: width + 1,
-            own: taken.own,
+            first: taken.first,
+            second: taken.second,
         };
     }
     lasts[c] = u as u16;
-    let own = own_chain(asked, u, c, taken.own);
+    let first = own_chain(x, u, c, taken.first);
+    let second = own_chain(y, u, c, taken.second);
     if taken.chains <= c {
         return Taken {
             chains: c + 1,
-            own: own,
+            first: first,
+            second: second,
         };
     }
     Taken {
         chains: taken.chains,
-        own: own,
+        first: first,
+        second: second,
     }
 }
 
@@ -122,14 +129,16 @@ fn turn(
     marks: &mut [u8],
     lasts: &mut [u16],
     taken: Taken,
-    asked: usize,
+    x: usize,
+    y: usize,
     width: usize,
 ) -> Taken
     requires { ⌜ (width ≤ 1024) × (length (now marks) ≡ 1024) × RoomFor (saidBy (now ranks) (decode (now recs)) i)
-        (record { lasts = now lasts; chains = taken .chains; own = taken .own }) ⌝ }
+        (record { lasts = now lasts; chains = taken .chains; first = taken .first; second = taken .second }) ⌝ }
     ensures { λ r. ⌜ AreMembers
-        (turnMembers (now (ranks .entry)) (decode (now (recs .entry))) asked width i (saidBy (now (ranks .entry)) (decode (now (recs .entry))) i)
-        (record { lasts = now (lasts .entry); chains = taken .chains; own = taken .own })) (now (lasts .exit)) (r .chains) (r .own) ⌝ }
+        (turnMembers (now (ranks .entry)) (decode (now (recs .entry))) x y width i (saidBy (now (ranks .entry)) (decode (now (recs .entry))) i)
+        (record { lasts = now (lasts .entry); chains = taken .chains; first = taken .first; second = taken .second }))
+        (now (lasts .exit)) (r .chains) (r .first) (r .second) ⌝ }
 {
     let said = ordering_at(recs, ranks, i);
     match said {
@@ -137,34 +146,41 @@ fn turn(
             let u = row as usize;
             mark_before(recs, ranks, i, u, marks);
             let c = marked_chain(marks, lasts, taken.chains);
-            enter_chain(lasts, taken, asked, width, u, c)
+            enter_chain(lasts, taken, x, y, width, u, c)
         }
         Ordering::Link(_, _) => taken,
         Ordering::Nothing => taken,
     }
 }
 
-// How far the pass came, the position of the begin that needs one chain more than the width has or the number of records; and the chain of the row asked for.
+// How far the pass came, the position of the begin that needs one chain more than the width has or the number of records; and the chains of the rows asked for.
 pub(crate) struct Passed {
     pub position: usize,
-    pub chain: u16,
+    pub first: u16,
+    pub second: u16,
 }
 
-pub(crate) fn chain_pass(recs: &[u8], ranks: &[u16], asked: usize, width: usize) -> Passed
+// One pass over the records, where rows x and y are asked for.
+pub(crate) fn chain_pass(recs: &[u8], ranks: &[u16], x: usize, y: usize, width: usize) -> Passed
     requires { ⌜ ReadyChains (decode (now recs)) width (now ranks) ⌝ }
-    ensures { λ r. ⌜ PassesChains (decode (now (recs .entry))) asked width (r .position) (r .chain) ⌝ }
+    ensures { λ r. ⌜ PassesChains (decode (now (recs .entry))) x y width (r .position) (r .first) (r .second) ⌝ }
 {
     let n = access::count(recs);
     let mut marks = bytes_1024();
     let mut lasts = numbers_1024();
-    let mut taken = Taken { chains: 0, own: 0 };
+    let mut taken = Taken {
+        chains: 0,
+        first: 0,
+        second: 0,
+    };
     let mut i = 0;
     while i < n {
-        let next = turn(recs, ranks, i, &mut marks, &mut lasts, taken, asked, width);
+        let next = turn(recs, ranks, i, &mut marks, &mut lasts, taken, x, y, width);
         if width < next.chains {
             return Passed {
                 position: i,
-                chain: next.own,
+                first: next.first,
+                second: next.second,
             };
         }
         taken = next;
@@ -172,6 +188,7 @@ pub(crate) fn chain_pass(recs: &[u8], ranks: &[u16], asked: usize, width: usize)
     }
     Passed {
         position: i,
-        chain: taken.own,
+        first: taken.first,
+        second: taken.second,
     }
 }

@@ -2,6 +2,7 @@
 mod ask;
 mod chains;
 
+use clocks::Relation;
 use records::EventId;
 use records::access;
 use trace::Reading;
@@ -9,15 +10,14 @@ use trace::Refusal;
 ghost use mathlib.Core.Path.{_≡_};
 ghost use Rattle.question.specs.Question.{orderPaper, orderReply};
 
-// What the order question finds: whether the first event's action happens before the second's, as the clocks have it.
+// What the order question finds: which way round the two event actions stand, as the clocks have it.
 pub enum Answer {
-    Yes,
-    No,
+    Related(Relation),
     Refused(Refusal),
 }
 
-// The order question: t happens before u, over clocks that filling left; over any others, the comparison of their rows.
-pub fn happens_before(bytes: &[u8], width: usize, clocks: &[u16], t: EventId, u: EventId) -> Answer
+// The order question: over clocks that filling left, which of the events' actions happens before the other; over any others, the comparison of their rows.
+pub fn ask_order(bytes: &[u8], width: usize, clocks: &[u16], t: EventId, u: EventId) -> Answer
     ensures { λ r. ⌜ orderPaper r ≡ orderReply (now (bytes .entry)) width (now (clocks .entry)) (t .0) (u .0) ⌝ }
 {
     let reading = trace::read(bytes);

@@ -28,11 +28,11 @@ use Rattle.slices.proofs.Tests.{decide, both, and, either, or-left, or-right, e
 use Rattle.races.specs.Traces.{isAccess, cellsOf, settingOf}
 use Rattle.races.specs.Candidates.{cell, accesses, writes, startOf, Upto, lastWrite, Seen, Tables, orderedIn, seenAfter, wayFrom}
 use Rattle.records.specs.Search.{leastKind, mayRace, Past, NextAccess}
-use Rattle.clocks.specs.Rows.{compareIn}
+use Rattle.clocks.specs.WayRound.{relateIn, saysBefore}
 use Rattle.order.specs.HappensBefore.{rank, happensBefore}
 use Rattle.order.proofs.TraceOrder.{counted, counted-zero, counted-begin, counted-other, ranked, record-begins, begins-rank}
-use Rattle.races.specs.Filled.{Filled, RowsIn}
-use Rattle.races.proofs.FilledLaws.{row-inside, rows-in, rows-before}
+use Rattle.races.specs.Filled.{Filled, Earlier}
+use Rattle.races.proofs.FilledLaws.{before-told, rows-earlier}
 use Rattle.races.proofs.Instance.{laws, access-kind}
 
 module _ (tr : List Record) where
@@ -206,7 +206,7 @@ module _ (tr : List Record) (short : Bool) where
   seen-still : {b c v : ℕ} → (T (accesses tr c b) → ⊥) → Seen tr short c b v → Seen tr short c (suc b) v
   seen-still {b} {c} n w = record {
     none = λ e x k t. other (near tr k) t (λ m. w .none e x m t);
-    upto = λ z h. let (y, l, e, u) = w .upto z h in (y, l, e, record { tells = λ x l k t. other (near tr k) t (λ m. u .tells x (start-rises tr short c b x l m) m t) });
+    upto = λ z h. let (y, l, e, u) = w .upto z h in (y, omega arith, e, record { tells = λ x l k t. other (near tr k) t (λ m. u .tells x (start-rises tr short c b x l m) m t) });
   }
     where
       other : {x : ℕ} {A : Type 0} → (x ≡ b) ⊎ (x < b) → T (accesses tr c x) → (x < b → A) → A
@@ -266,7 +266,7 @@ module _ {tr : List Record} (acc : Acceptable tr) (b u : ℕ) (inside : b < leng
       let e : u + 1 ≡ rank tr (eventOf (at tr b)) = omega arith in
       rw (add-one b) (record {
         none = λ z x k t. omega arith;
-        upto = λ z h. (b, inside, e, record { tells = λ x l k t. go x l (near tr k) t });
+        upto = λ z h. (b, omega arith, e, record { tells = λ x l k t. go x l (near tr k) t });
       })
     where
       go : (x : ℕ) → startOf tr short (cell tr b) (suc b) ≤ x → (x ≡ b) ⊎ (x < b) → T (accesses tr (cell tr b) x) → T (happensBefore tr (eventOf (at tr x)) (eventOf (at tr b)))
@@ -292,24 +292,20 @@ module _ {tr : List Record} (acc : Acceptable tr) (b u : ℕ) (inside : b < leng
 
 -- What the number of b's cell says over filled clocks.
 module _ {tr : List Record} {ranks of : List ℕ} {width : ℕ} {clocks : List ℕ} (f : Filled tr ranks of width clocks) (short : Bool) (b u v : ℕ) (inside : b < length tr) (row : u ≡ rank tr (eventOf (at tr b)) - 1) (w : Seen tr short (cell tr b) b v) where
-  pub seen-rows : v ≢ 0 → v ≤ 1024 → RowsIn of width clocks (v - 1) u
-  seen-rows n h =
-      let (y, l, e, _) = w .upto n h in
-      let x = row-inside f y l in
-      let z = row-inside f b inside in
-      rows-in f (v - 1) u (omega arith) (omega arith)
+  pub seen-rows : v ≢ 0 → v ≤ 1024 → Earlier of width clocks (v - 1) u
+  seen-rows n h = let (y, l, e, _) = w .upto n h in rows-earlier f y b (v - 1) u (omega arith) inside (ap (λ k. k - 1) e) row l
 
   pub ordered-upto : orderedIn of width clocks v u ≡ true → Upto tr short (cell tr b) b (eventOf (at tr b))
   unfolding orderedIn
   ordered-upto g = go (eqb v 0) refl (ltb 1024 v) refl g
     where
-      go : (p : Bool) → eqb v 0 ≡ p → (q : Bool) → ltb 1024 v ≡ q → cond p true (cond q false (compareIn clocks width (getD of (v - 1) 0) (v - 1) u)) ≡ true → Upto tr short (cell tr b) b (eventOf (at tr b))
+      go : (p : Bool) → eqb v 0 ≡ p → (q : Bool) → ltb 1024 v ≡ q → cond p true (cond q false (saysBefore (relateIn clocks width (v - 1) (getD of (v - 1) 0) u (getD of u 0)))) ≡ true → Upto tr short (cell tr b) b (eventOf (at tr b))
       go true d q e g = record { tells = λ x l k t. absurd (w .none (eqb→eq v 0 (subst T (sym d) tt)) x k t) }
       go false d true e g = absurd (subst T (sym g) tt)
       go false d false e g =
           let n : v ≢ 0 = λ z. subst T d (eq→eqb v 0 z) in
           let (y, l, r, t) = w .upto n (ltb-false 1024 v e) in
-          let h = subst T (sym (sym (rows-before f y b (v - 1) u l inside (ap (λ k. k - 1) r) row) ∙ g)) tt in
+          let h = subst T (sym (sym (before-told f y b (v - 1) u (omega arith) inside (ap (λ k. k - 1) r) row) ∙ g)) tt in
           record { tells = λ x m k s. laws (f .acceptable) .le-trans _ _ _ (t .tells x m k s) h }
 
 -- From i on past records that may not race with an access of cell c.

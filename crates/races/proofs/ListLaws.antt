@@ -28,12 +28,12 @@ use Rattle.races.specs.Lists.{pairsOf}
 use Rattle.races.specs.Candidates.{cell, accesses, writes, Upto, lastWrite, wayFrom, wayTo}
 use Rattle.records.specs.Search.{leastKind, mayRace}
 use Rattle.races.specs.ListPass.{fromOf, firsts, withSecond, pairsBelow, Ranges, OneRoom}
-use Rattle.races.specs.Filled.{RowsIn}
+use Rattle.races.specs.Filled.{Earlier}
 use Rattle.coverage.proofs.Order.{race-of, race-not-le}
-use Rattle.clocks.specs.Rows.{compareIn}
+use Rattle.clocks.specs.WayRound.{relateIn, saysUnordered}
 use Rattle.order.specs.HappensBefore.{rank, happensBefore}
 use Rattle.races.proofs.Instance.{laws, access-kind}
-use Rattle.races.proofs.FilledLaws.{same-event, other-event, rank-is, row-inside, rows-in, rows-before}
+use Rattle.races.proofs.FilledLaws.{same-event, other-event, rank-is, rows-earlier, unordered-told}
 use Rattle.races.proofs.CandidateLaws.{start, racing, race-accesses, last-high, last-after, from-start-is, kind-access}
 
 module _ (tr : List Record) where
@@ -287,13 +287,13 @@ module _ {writing : Bool} {tr : List Record} {ranks of : List ℕ} {width : ℕ}
   row-is : t ≡ rank tr (eventOf (at tr a)) - 1
   row-is = e ∙ ap (λ x. x - 1) (rank-is (r .second .filled) a first-inside)
 
-  pub race-rows : RowsIn of width clocks t u
-  race-rows = rows-in (r .second .filled) t u (omega (arith, row-is, row-inside (r .second .filled) a first-inside)) (omega (arith, r .second .row, row-inside (r .second .filled) b (r .second .inside)))
+  pub race-rows : Earlier of width clocks t u
+  race-rows = rows-earlier (r .second .filled) a b t u first-inside (r .second .inside) row-is (r .second .row) (r .earlier)
 
-  pub race-told : (v : Bool) → v ≡ compareIn clocks width (getD of t 0) t u → raceb (settingOf tr) a b ≡ not v
+  pub race-told : (v : Bool) → v ≡ saysUnordered (relateIn clocks width t (getD of t 0) u (getD of u 0)) → raceb (settingOf tr) a b ≡ v
   race-told v q =
       may-race tr (r .second .filled .acceptable) a b (r .earlier) (r .second .inside) (r .second .access) (r .may)
-      ∙ ap not (sym (q ∙ rows-before (r .second .filled) a b t u first-inside (r .second .inside) row-is (r .second .row)))
+      ∙ sym (q ∙ unordered-told (r .second .filled) a b t u first-inside (r .second .inside) row-is (r .second .row) (r .earlier))
 
 -- what was found on the way to b may race with it
 pub may-found : (tr : List Record) {least c : ℕ} (a b : ℕ) → c ≡ cell tr b → least ≡ leastKind (at tr b .kind) → T (mayRace tr least c a) → T (mayRace tr (leastKind (at tr b .kind)) (cell tr b) a)

@@ -9,14 +9,15 @@ use lib.Dec.{T, leb, ltb, eqb}
 use lib.ListN.{length, getD}
 use Rattle.records.specs.declared.Record.{Record}
 use Rattle.records.specs.Records.{at, isWrite, eventOf}
-use Rattle.clocks.specs.Rows.{compareIn}
+use Rattle.clocks.specs.WayRound.{relateIn, saysBefore}
 use Rattle.order.specs.HappensBefore.{rank, happensBefore}
 use Rattle.coverage.specs.Race.{raceb}
 use Rattle.races.specs.Traces.{isAccess, settingOf}
 
 -- by the number of a cell: do all its accesses from the start on happen before row u, or belong to it?
 unfoldable pub orderedIn : List ℕ → ℕ → List ℕ → ℕ → ℕ → Bool
-orderedIn of width clocks seen u = cond (eqb seen 0) true (cond (ltb 1024 seen) false (compareIn clocks width (getD of (seen - 1) 0) (seen - 1) u))
+orderedIn of width clocks seen u = cond (eqb seen 0) true (cond (ltb 1024 seen) false
+    (saysBefore (relateIn clocks width (seen - 1) (getD of (seen - 1) 0) u (getD of u 0))))
 
 -- the number of a cell after an access of row u; in the short list a write is its start
 unfoldable pub seenAfter : Bool → Bool → ℕ → ℕ → ℕ
@@ -54,10 +55,10 @@ module _ (tr : List Record) where
   lastWrite c (suc i) = cond (writes c i) (suc i) (lastWrite c i)
 
   -- What the number v of a cell tells before record i: 0, it is not accessed; up to 1,024 it is the rank of an event action which all its accesses from the
-  -- start on happen before or belong to.
+  -- start on happen before or belong to, and that has one of these records.
   pub record Seen (short : Bool) (c i v : ℕ) : Type 0 where
     pub none : v ≡ 0 → (x : ℕ) → x < i → T (accesses c x) → ⊥
-    pub upto : v ≢ 0 → v ≤ 1024 → (y : ℕ) × (y < length tr) × (v ≡ rank tr (eventOf (at tr y))) × Upto short c i (eventOf (at tr y))
+    pub upto : v ≢ 0 → v ≤ 1024 → (y : ℕ) × (y < i) × (v ≡ rank tr (eventOf (at tr y))) × Upto short c i (eventOf (at tr y))
 
   -- both numbers of each cell
   pub record Tables (short : Bool) (i : ℕ) (seen written : List ℕ) : Type 0 where

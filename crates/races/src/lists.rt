@@ -6,8 +6,9 @@ use crate::candidates::is_ordered;
 use crate::candidates::note_access;
 use crate::candidates::way_from;
 use crate::candidates::way_to;
-use crate::racing::comes_before;
+use crate::racing::relation;
 use crate::raising;
+use clocks::is_unordered;
 use order::Filling;
 use ranks::row_at;
 use records::Operation;
@@ -75,7 +76,7 @@ fn list_race(
     requires { ⌜ OneRoom writing (decode (now recs)) (now ranks) (now of) width (now clocks) a b u k (now list) ⌝ }
     ensures { λ r. ⌜ OneWrites writing (decode (now (recs .entry))) a b k (now (list .entry)) (now (list .exit)) r ⌝ }
 {
-    if comes_before(of, width, clocks, row_at(recs, ranks, a), u) {
+    if !is_unordered(relation(of, width, clocks, row_at(recs, ranks, a), u)) {
         return k;
     }
     if writing {

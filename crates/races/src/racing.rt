@@ -1,14 +1,30 @@
-// Which row comes before which, by the clocks.
+// How two rows stand to each other, by the clocks.
+use clocks::Relation;
 ghost use mathlib.Core.Path.{_≡_};
 ghost use lib.ListN.{getD};
 ghost use Rattle.clocks.specs.Rows.{compareIn};
-ghost use Rattle.races.specs.Filled.{RowsIn};
+ghost use Rattle.clocks.specs.WayRound.{relationPaper, relateIn};
+ghost use Rattle.races.specs.Filled.{RowsIn, Earlier};
 
-// Whether row t's own entry, at its chain, is at most row u's.
+// Whether row t's own entry, at its chain, is at most row u's, as the rows stand.
 pub(crate) fn comes_before(of: &[u16], width: usize, clocks: &[u16], t: usize, u: usize) -> bool
     requires { ⌜ RowsIn (now of) width (now clocks) t u ⌝ }
     ensures { λ r. ⌜ r ≡ compareIn (now (clocks .entry)) width (getD (now (of .entry)) t 0) t u ⌝ }
 {
     let c = of[t] as usize;
     clocks[t * width + c] <= clocks[u * width + c]
+}
+
+// Which way round rows t and u stand, where t began earlier or is u: then u does not come before it, and is not compared.
+pub(crate) fn relation(of: &[u16], width: usize, clocks: &[u16], t: usize, u: usize) -> Relation
+    requires { ⌜ Earlier (now of) width (now clocks) t u ⌝ }
+    ensures { λ r. ⌜ relationPaper r ≡ relateIn (now (clocks .entry)) width t (getD (now (of .entry)) t 0) u (getD (now (of .entry)) u 0) ⌝ }
+{
+    if !comes_before(of, width, clocks, t, u) {
+        return Relation::Unordered;
+    }
+    if t == u {
+        return Relation::Same;
+    }
+    Relation::Before
 }

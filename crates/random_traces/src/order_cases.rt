@@ -8,21 +8,32 @@ use crate::slots::plus;
 use crate::slots::wide;
 use crate::tally;
 use crate::tally::Counts;
+use clocks::Relation;
 use question::Answer;
 use records::EventId;
 
-// 1 yes, 0 no, 11 where one has no begin in the trace: refusal 11, place 0.
+fn number(way: Relation) -> usize {
+    match way {
+        Relation::Same => 1,
+        Relation::Before => 2,
+        Relation::After => 3,
+        Relation::Unordered => 4,
+    }
+}
+
+// 1 the same, 2 first before second, 3 second before first, 4 unordered; 11 where one has no begin in the trace: refusal 11, place 0.
 fn code(r: Answer) -> usize {
     match r {
-        Answer::Yes => 1,
-        Answer::No => 0,
+        Answer::Related(way) => number(way),
         Answer::Refused(f) => plus(wide(f.number), wide(f.place.0)),
     }
 }
 
 fn expected(table: &[usize], k: Known, t: usize, u: usize) -> usize {
-    let yes = pick(paths::reaches(table, t, u), 1, 0);
-    pick((k.events < t) | (k.events < u), 11, yes)
+    let back = pick(paths::reaches(table, u, t), 3, 4);
+    let forth = pick(paths::reaches(table, t, u), 2, back);
+    let way = pick(t == u, 1, forth);
+    pick((k.events < t) | (k.events < u), 11, way)
 }
 
 // The number of event action t; past the last, one that no event has.
@@ -42,10 +53,10 @@ fn compare_question(
 ) -> Counts {
     let x = event(table, k, t);
     let y = event(table, k, u);
-    let answer = code(question::happens_before(bytes, k.width, clocks, x, y));
-    let yes = expected(table, k, t, u);
-    let tally = tally::note(before, tally::ORDER, answer == yes);
-    tally::add(tally, tally::ORDERED, pick(yes == 1, 1, 0))
+    let answer = code(question::ask_order(bytes, k.width, clocks, x, y));
+    let way = expected(table, k, t, u);
+    let tally = tally::note(before, tally::ORDER, answer == way);
+    tally::add(tally, tally::ORDERED, pick(way < 3, 1, 0))
 }
 
 // Each of the event actions, and one that has no begin, with each.

@@ -51,11 +51,11 @@ returns c =
 
 returns-2 : tie.Need-returns-2
 unfolding turnMembers
-returns-2 c = rw (sym (c .before .before .ordering-at .ensures) ∙ link-said (c .before .before .ordering-at .result) (c .before .match .keys2) .2) (record { lasts-are = refl; chains-are = refl; own-is = refl })
+returns-2 c = rw (sym (c .before .before .ordering-at .ensures) ∙ link-said (c .before .before .ordering-at .result) (c .before .match .keys2) .2) (record { lasts-are = refl; chains-are = refl; first-is = refl; second-is = refl })
 
 returns-3 : tie.Need-returns-3
 unfolding turnMembers
-returns-3 c = rw (sym (c .before .before .ordering-at .ensures) ∙ nothing-said (c .before .before .ordering-at .result) (c .before .match .keys3)) (record { lasts-are = refl; chains-are = refl; own-is = refl })
+returns-3 c = rw (sym (c .before .before .ordering-at .ensures) ∙ nothing-said (c .before .before .ordering-at .result) (c .before .match .keys3)) (record { lasts-are = refl; chains-are = refl; first-is = refl; second-is = refl })
 
 pub turn-spec : {M : Type 1} → statement M
 turn-spec =

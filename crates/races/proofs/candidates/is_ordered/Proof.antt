@@ -12,20 +12,23 @@ returns-2 : tie.Need-returns-2
 unfolding orderedIn
 returns-2 c = simp (ne-eqb _ _ (c .before .if1 .left), lt-ltb _ _ (c .if2 .taken))
 
-sub-comes-before : tie.Need-sub-comes-before
-sub-comes-before c = search needs
+sub-relation : tie.Need-sub-relation
+sub-relation c = search needs
 
-cast-comes-before : tie.Need-cast-comes-before
-cast-comes-before c = search needs
+cast-relation : tie.Need-cast-relation
+cast-relation c = search needs
 
-comes-before-requires : tie.Need-comes-before-requires
-comes-before-requires c κs = c .before .before .before .before .pre (c .before .if1 .left) (c .if2 .left)
+relation-requires : tie.Need-relation-requires
+relation-requires c κs = c .before .before .before .before .pre (c .before .if1 .left) (c .if2 .left)
+
+is-before-requires : tie.Need-is-before-requires
+is-before-requires c κs = search needs
 
 returns-3 : tie.Need-returns-3
 unfolding orderedIn
-returns-3 c = simp (ne-eqb _ _ (c .before .before .if1 .left), le-ltb _ _ (c .before .if2 .left), ← c .comes-before .ensures)
+returns-3 c = simp (ne-eqb _ _ (c .before .before .before .if1 .left), le-ltb _ _ (c .before .before .if2 .left), ← c .before .relation .ensures, c .is-before .ensures)
 
 pub is-ordered-spec : {M : Type 1} → statement M
 is-ordered-spec =
     tie.close
-    (tie.spec returns returns-2 sub-comes-before cast-comes-before comes-before-requires returns-3)
+    (tie.spec returns returns-2 sub-relation cast-relation relation-requires is-before-requires returns-3)

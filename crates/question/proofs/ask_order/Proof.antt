@@ -1,4 +1,4 @@
--- `question::happens_before` meets its contract.
+-- `question::ask_order` meets its contract.
 -- Assumes nothing.
 use Rattle.order.proofs.EntryLaws.{refused-reading, records-are, read-acceptable, read-events}
 use Rattle.trace.specs.Reply.{then}
@@ -7,8 +7,8 @@ use Rattle.trace.specs.Paper.{paper}
 use mathlib.Core.Path.{sym, ap, _∙_}
 use denote.Ref.{now}
 use borrow.Author.Needs.{needs}
-use Rattle.question.proofs.happens_before.Statement.{statement}
-use Rattle.question.proofs.happens_before.Tie as tie
+use Rattle.question.proofs.ask_order.Statement.{statement}
+use Rattle.question.proofs.ask_order.Tie as tie
 
 read-requires : tie.Need-read-requires
 read-requires c κs = search needs
@@ -42,8 +42,8 @@ returns-2 c =
     let e = sym (ap paper (c .before .before .before .reading .given .1)) ∙ c .before .before .before .before .before .read .ensures in
     rw (← e, ← records-are (now (c .before .before .before .before .before .before .before .before .args .bytes)) t e _ (c .before .records .ensures)) (c .ask .ensures)
 
-pub happens-before-spec : {M : Type 1} → statement M
-happens-before-spec =
+pub ask-order-spec : {M : Type 1} → statement M
+ask-order-spec =
     tie.close
     (tie.spec
     read-requires
