@@ -1,8 +1,13 @@
 -- What a reply says, by the tests that it is made of: x, both are the same; y, first before second; z, second before first. Assumes nothing.
-use mathlib.Core.Path.{_≡_, refl}
-use mathlib.Core.Bool.{Bool, true, false, not}
-use lib.Dec.{T}
-use Rattle.clocks.specs.WayRound.{wayRound, saysUnordered, saysBefore}
+use Prim.Native.Nat.{ℕ, _+_, _*_}
+use mathlib.Core.Path.{_≡_, refl, ap}
+use mathlib.Core.Bool.{Bool, true, false, not, _&&_}
+use mathlib.Core.List.{List}
+use lib.Dec.{T, eqb, leb, eqb→eq, le→leb}
+use lib.ListN.{getD}
+use native.Mathlib.Omega.{arith}
+use Rattle.clocks.specs.Rows.{compareIn}
+use Rattle.clocks.specs.WayRound.{wayRound, relateEntries, relateIn, saysUnordered, saysBefore}
 
 pub says-before : (x y z : Bool) → (T x → T y) → saysBefore (wayRound x y z) ≡ y
 says-before true true z h = refl
@@ -18,3 +23,24 @@ says-unordered true false z h k = absurd (h tt)
 says-unordered false true z h k = refl
 says-unordered false false true h k = absurd (k tt)
 says-unordered false false false h k = refl
+
+-- the reply by entries is that of their rows
+implied : (x y : Bool) → (T x → T y) → (y && x) ≡ x
+implied true true h = refl
+implied true false h = absurd (h tt)
+implied false true h = refl
+implied false false h = refl
+
+pub by-entries : (clocks : List ℕ) (width t c u d : ℕ)
+    → relateEntries (eqb t u) (getD clocks (t * width + c) 0) (getD clocks (u * width + c) 0) (getD clocks (u * width + d) 0) (getD clocks (t * width + d) 0) ≡ relateIn clocks width t c u d
+unfolding relateEntries relateIn compareIn
+by-entries clocks width t c u d = rw (implied (eqb t u) (leb own there) equal) refl
+  where
+    own : ℕ
+    own = getD clocks (t * width + c) 0
+
+    there : ℕ
+    there = getD clocks (u * width + c) 0
+
+    equal : T (eqb t u) → T (leb own there)
+    equal s = le→leb own there (omega (arith, ap (λ v. getD clocks (v * width + c) 0) (eqb→eq t u s)))

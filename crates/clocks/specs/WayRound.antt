@@ -1,8 +1,8 @@
 -- "The order question is to say one of four: same event action, first happens before second, second before first, unordered." Assumes nothing.
 use Prim.Native.Nat.{ℕ}
-use mathlib.Core.Bool.{Bool, true, false}
+use mathlib.Core.Bool.{Bool, true, false, _&&_}
 use mathlib.Core.List.{List}
-use lib.Dec.{eqb}
+use lib.Dec.{eqb, leb}
 use Rattle.clocks.specs.declared.Relation.{Relation}
 use Rattle.clocks.specs.declared.Relation.the-variants.{Same, Before, After, Unordered}
 use Rattle.clocks.specs.Rows.{compareIn}
@@ -30,6 +30,10 @@ wayRound false false false = unordered
 -- rows t and u in any clocks, where c is t's chain and d is u's
 unfoldable pub relateIn : List ℕ → ℕ → ℕ → ℕ → ℕ → ℕ → WayRound
 relateIn clocks width t c u d = wayRound (eqb t u) (compareIn clocks width c t u) (compareIn clocks width d u t)
+
+-- the same by entries: t's own and u's at t's chain, u's own and t's at u's chain; rows that are the same have equal entries
+unfoldable pub relateEntries : Bool → ℕ → ℕ → ℕ → ℕ → WayRound
+relateEntries same own there second back = wayRound (leb own there && same) (leb own there) (leb second back)
 
 -- what a reply says of the first and the second: neither happens before the other; "t happens before u (t ≼ u)", where "t = u" counts
 abbrev pub saysUnordered : WayRound → Bool

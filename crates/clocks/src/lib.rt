@@ -4,11 +4,11 @@ use slices::numbers::get;
 use slices::numbers::larger;
 ghost use mathlib.Core.Path.{_≡_};
 ghost use mathlib.Core.Bool.{_&&_};
-ghost use Prim.Native.Nat.{_+_, _<_, min, max};
+ghost use Prim.Native.Nat.{_+_, _*_, _<_, min, max};
 ghost use lib.Dec.{ltb};
 ghost use lib.ListN.{getD, set};
-ghost use Rattle.clocks.specs.Rows.{spaceFor, compareIn, hasRow, reach, mergeRow, oneMore, span, copyRow, clearRow, clearRows};
-ghost use Rattle.clocks.specs.WayRound.{relationPaper, relateIn, saysUnordered, saysBefore};
+ghost use Rattle.clocks.specs.Rows.{spaceFor, hasRow, reach, mergeRow, oneMore, span, copyRow, clearRow, clearRows};
+ghost use Rattle.clocks.specs.WayRound.{relationPaper, relateEntries, relateIn, saysUnordered, saysBefore};
 
 // Whether the width is in range and that many rows fit the clock space.
 pub fn has_space(width: usize, events: usize, space: usize) -> bool
@@ -23,13 +23,11 @@ pub fn has_space(width: usize, events: usize, space: usize) -> bool
     events <= space / width
 }
 
-// Whether row t's entry at chain c is at most row u's.
-fn compare(clocks: &[u16], width: u16, c: u16, t: u16, u: u16) -> bool
-    ensures { λ r. ⌜ r ≡ compareIn (now (clocks .entry)) width c t u ⌝ }
+// Row u's entry at chain c.
+fn entry(clocks: &[u16], width: u16, u: u16, c: u16) -> u16
+    ensures { λ r. ⌜ r ≡ getD (now (clocks .entry)) (u * width + c) 0 ⌝ }
 {
-    let first = get(clocks, (t as usize) * (width as usize) + (c as usize));
-    let second = get(clocks, (u as usize) * (width as usize) + (c as usize));
-    first <= second
+    get(clocks, (u as usize) * (width as usize) + (c as usize))
 }
 
 // Which way round two event actions stand.
@@ -40,20 +38,32 @@ pub enum Relation {
     Unordered,
 }
 
+// Which way round, by entries of two rows: the first's own one and the second's at that chain, the second's own one and the first's at that chain. Rows that
+// are the same have equal entries, so whether they are is asked only where the first two allow it.
+pub fn relate_entries(same: bool, own: u16, there: u16, second: u16, back: u16) -> Relation
+    ensures { λ r. ⌜ relationPaper r ≡ relateEntries same own there second back ⌝ }
+{
+    if own <= there {
+        if same {
+            return Relation::Same;
+        }
+        return Relation::Before;
+    }
+    if second <= back {
+        return Relation::After;
+    }
+    Relation::Unordered
+}
+
 // How rows t and u stand to each other, by t's entry at its chain c and u's at its chain d.
 pub fn relate(clocks: &[u16], width: u16, t: u16, c: u16, u: u16, d: u16) -> Relation
     ensures { λ r. ⌜ relationPaper r ≡ relateIn (now (clocks .entry)) width t c u d ⌝ }
 {
-    if t == u {
-        return Relation::Same;
-    }
-    if compare(clocks, width, c, t, u) {
-        return Relation::Before;
-    }
-    if compare(clocks, width, d, u, t) {
-        return Relation::After;
-    }
-    Relation::Unordered
+    let own = entry(clocks, width, t, c);
+    let there = entry(clocks, width, u, c);
+    let second = entry(clocks, width, u, d);
+    let back = entry(clocks, width, t, d);
+    relate_entries(t == u, own, there, second, back)
 }
 
 // Does neither happen before the other?

@@ -31,8 +31,8 @@ use Rattle.records.specs.Search.{leastKind, mayRace, Past, NextAccess}
 use Rattle.clocks.specs.WayRound.{relateIn, saysBefore}
 use Rattle.order.specs.HappensBefore.{rank, happensBefore}
 use Rattle.order.proofs.TraceOrder.{counted, counted-zero, counted-begin, counted-other, ranked, record-begins, begins-rank}
-use Rattle.races.specs.Filled.{Filled, Earlier}
-use Rattle.races.proofs.FilledLaws.{before-told, rows-earlier}
+use Rattle.races.specs.Filled.{Filled, BothIn}
+use Rattle.races.proofs.FilledLaws.{before-told, rows-both}
 use Rattle.races.proofs.Instance.{laws, access-kind}
 
 module _ (tr : List Record) where
@@ -292,8 +292,8 @@ module _ {tr : List Record} (acc : Acceptable tr) (b u : ℕ) (inside : b < leng
 
 -- What the number of b's cell says over filled clocks.
 module _ {tr : List Record} {ranks of : List ℕ} {width : ℕ} {clocks : List ℕ} (f : Filled tr ranks of width clocks) (short : Bool) (b u v : ℕ) (inside : b < length tr) (row : u ≡ rank tr (eventOf (at tr b)) - 1) (w : Seen tr short (cell tr b) b v) where
-  pub seen-rows : v ≢ 0 → v ≤ 1024 → Earlier of width clocks (v - 1) u
-  seen-rows n h = let (y, l, e, _) = w .upto n h in rows-earlier f y b (v - 1) u (omega arith) inside (ap (λ k. k - 1) e) row l
+  pub seen-rows : v ≢ 0 → v ≤ 1024 → BothIn of width clocks (v - 1) u
+  seen-rows n h = let (y, l, e, _) = w .upto n h in rows-both f y b (v - 1) u (omega arith) inside (ap (λ k. k - 1) e) row
 
   pub ordered-upto : orderedIn of width clocks v u ≡ true → Upto tr short (cell tr b) b (eventOf (at tr b))
   unfolding orderedIn

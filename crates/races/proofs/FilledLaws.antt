@@ -7,14 +7,14 @@ use mathlib.Core.List.{List, _++_}
 use mathlib.Core.Logic.{_≢_}
 use native.Mathlib.Omega.{arith}
 use native.Mathlib.Decide.{ℕ-discrete}
-use borrow.Author.Tests.{eq-eqb, ne-eqb, lt-ltb, le-leb}
+use borrow.Author.Tests.{eq-eqb, ne-eqb, lt-ltb}
 use lib.Dec.{T, ltb, eqb, eqb→eq}
 use lib.ListN.{length, getD, replicate, length-append, length-replicate}
 use Rattle.records.specs.declared.Record.{Record}
 use Rattle.records.specs.Records.{at, eventOf}
 use Rattle.ranks.proofs.RankLaws.{ranks-many}
 use Rattle.clocks.specs.Rows.{compareIn}
-use Rattle.clocks.specs.WayRound.{wayRound, relateIn, saysBefore, saysUnordered, sameAction, firstBefore, unordered}
+use Rattle.clocks.specs.WayRound.{wayRound, relateIn, saysBefore, saysUnordered}
 use Rattle.clocks.proofs.WayLaws.{says-before, says-unordered}
 use Rattle.order.specs.Clocks.{table, chainOf}
 use Rattle.order.specs.HappensBefore.{rank, traceLinks, happensBefore}
@@ -32,7 +32,7 @@ use Rattle.coverage.specs.Race.{before, raceb}
 use Rattle.coverage.specs.Neighbours.{conflicts}
 use Rattle.races.specs.Traces.{cellsOf, settingOf, conflict, clash}
 use Rattle.slices.proofs.Tests.{eq→eqb}
-use Rattle.races.specs.Filled.{Filled, RowsIn, Earlier}
+use Rattle.races.specs.Filled.{Filled, RowsIn, BothIn}
 
 module _ {tr : List Record} {ranks of : List ℕ} {width : ℕ} {clocks : List ℕ} (f : Filled tr ranks of width clocks) where
   abbrev ev : ℕ → ℕ
@@ -108,6 +108,12 @@ module _ {tr : List Record} {ranks of : List ℕ} {width : ℕ} {clocks : List �
     pub before-told : saysBefore (relateIn clocks width t (getD of t 0) u (getD of u 0)) ≡ happensBefore tr (ev a) (ev b)
     before-told = rw (rows-told a b t u h k d e) (says-before (eqb (ev a) (ev b)) (happensBefore tr (ev a) (ev b)) (happensBefore tr (ev b) (ev a)) same-before)
 
+    pub rows-both : BothIn of width clocks t u
+    rows-both =
+        let i : t < eventsIn tr = omega (arith, row-inside a h) in
+        let j : u < eventsIn tr = omega (arith, row-inside b k) in
+        record { first = rows-in t u i j; second = rows-in u t j i }
+
     -- where a stands before b, the event action of b does not come before another
     module _ (l : a < b) where
       not-after : T (happensBefore tr (ev b) (ev a)) → ev a ≡ ev b
@@ -119,38 +125,6 @@ module _ {tr : List Record} {ranks of : List ℕ} {width : ℕ} {clocks : List �
 
       pub unordered-told : saysUnordered (relateIn clocks width t (getD of t 0) u (getD of u 0)) ≡ not (happensBefore tr (ev a) (ev b))
       unordered-told = rw (rows-told a b t u h k d e) (says-unordered (eqb (ev a) (ev b)) (happensBefore tr (ev a) (ev b)) (happensBefore tr (ev b) (ev a)) same-before (λ s. eq→eqb (ev a) (ev b) (not-after s)))
-
-      pub rows-earlier : Earlier of width clocks t u
-      rows-earlier = record {
-        stand = rows-in t u (omega (arith, row-inside a h)) (omega (arith, row-inside b k));
-        ahead = λ n. rows-before b a u t k h e d ∙ never (happensBefore tr (ev b) (ev a)) (λ s. n (d ∙ ap (λ x. rank tr x - 1) (not-after s) ∙ sym e));
-      }
-        where
-          never : (p : Bool) → (T p → ⊥) → p ≡ false
-          never true q = absurd (q tt)
-          never false q = refl
-
--- a row is compared with itself
-pub compare-self : (clocks : List ℕ) (width c t : ℕ) → compareIn clocks width c t t ≡ true
-unfolding compareIn
-compare-self clocks width c t = let n = getD clocks (t * width + c) 0 in le-leb n n (omega arith)
-
--- a reply by its tests, where row t is earlier or the same
-module _ {of : List ℕ} {width : ℕ} {clocks : List ℕ} {t u : ℕ} (r : Earlier of width clocks t u) where
-  pub told-unordered : compareIn clocks width (getD of t 0) t u ≡ false → unordered ≡ relateIn clocks width t (getD of t 0) u (getD of u 0)
-  unfolding relateIn
-  told-unordered c = rw (ne-eqb t u other, c, r .ahead other) refl
-    where
-      other : t ≢ u
-      other e = subst T (sym (compare-self clocks width (getD of t 0) t) ∙ ap (compareIn clocks width (getD of t 0) t) e ∙ c) tt
-
-  pub told-same : t ≡ u → sameAction ≡ relateIn clocks width t (getD of t 0) u (getD of u 0)
-  unfolding relateIn
-  told-same e = rw (eq-eqb t u e) refl
-
-  pub told-before : t ≢ u → compareIn clocks width (getD of t 0) t u ≡ true → firstBefore ≡ relateIn clocks width t (getD of t 0) u (getD of u 0)
-  unfolding relateIn
-  told-before n c = rw (ne-eqb t u n, c) refl
 
 -- a race, by its parts
 pub conflict-is : (tr : List Record) (a b : ℕ) → conflict (at tr a) (at tr b) ≡ conflicts (cellsOf tr) a b

@@ -28,12 +28,12 @@ use Rattle.races.specs.Lists.{pairsOf}
 use Rattle.races.specs.Candidates.{cell, accesses, writes, Upto, lastWrite, wayFrom, wayTo}
 use Rattle.records.specs.Search.{leastKind, mayRace}
 use Rattle.races.specs.ListPass.{fromOf, firsts, withSecond, pairsBelow, Ranges, OneRoom}
-use Rattle.races.specs.Filled.{Earlier}
+use Rattle.races.specs.Filled.{BothIn}
 use Rattle.coverage.proofs.Order.{race-of, race-not-le}
 use Rattle.clocks.specs.WayRound.{relateIn, saysUnordered}
 use Rattle.order.specs.HappensBefore.{rank, happensBefore}
 use Rattle.races.proofs.Instance.{laws, access-kind}
-use Rattle.races.proofs.FilledLaws.{same-event, other-event, rank-is, rows-earlier, unordered-told}
+use Rattle.races.proofs.FilledLaws.{same-event, other-event, rank-is, rows-both, unordered-told}
 use Rattle.races.proofs.CandidateLaws.{start, racing, race-accesses, last-high, last-after, from-start-is, kind-access}
 
 module _ (tr : List Record) where
@@ -287,8 +287,8 @@ module _ {writing : Bool} {tr : List Record} {ranks of : List ℕ} {width : ℕ}
   row-is : t ≡ rank tr (eventOf (at tr a)) - 1
   row-is = e ∙ ap (λ x. x - 1) (rank-is (r .second .filled) a first-inside)
 
-  pub race-rows : Earlier of width clocks t u
-  race-rows = rows-earlier (r .second .filled) a b t u first-inside (r .second .inside) row-is (r .second .row) (r .earlier)
+  pub race-rows : BothIn of width clocks t u
+  race-rows = rows-both (r .second .filled) a b t u first-inside (r .second .inside) row-is (r .second .row)
 
   pub race-told : (v : Bool) → v ≡ saysUnordered (relateIn clocks width t (getD of t 0) u (getD of u 0)) → raceb (settingOf tr) a b ≡ v
   race-told v q =

@@ -1,13 +1,10 @@
 -- What is at hand once the clocks of an accepted trace are filled. Assumes nothing.
 use Prim.Native.Nat.{ℕ, _+_, _*_, _≤_, _<_}
 use mathlib.Core.Path.{_≡_}
-use mathlib.Core.Logic.{_≢_}
-use mathlib.Core.Bool.{false}
 use mathlib.Core.List.{List, _++_}
 use lib.ListN.{length, getD, drop, replicate}
 use Rattle.records.specs.declared.Record.{Record}
 use Rattle.records.specs.Records.{past, begins}
-use Rattle.clocks.specs.Rows.{compareIn}
 use Rattle.trace.specs.Reading.{Acceptable}
 use Rattle.ranks.specs.Ranks.{ranksOf}
 use Rattle.order.specs.Fill.{eventsIn, shortRow, chainTable, traceClocks}
@@ -28,10 +25,10 @@ pub record RowsIn (of : List ℕ) (width : ℕ) (clocks : List ℕ) (t u : ℕ) 
   pub own : t * width + getD of t 0 < length clocks
   pub other : u * width + getD of t 0 < length clocks
 
--- and row u, where it is another, does not come before row t: t began earlier
-pub record Earlier (of : List ℕ) (width : ℕ) (clocks : List ℕ) (t u : ℕ) : Type 0 where
-  pub stand : RowsIn of width clocks t u
-  pub ahead : t ≢ u → compareIn clocks width (getD of u 0) u t ≡ false
+-- and the chain of row u is known too
+pub record BothIn (of : List ℕ) (width : ℕ) (clocks : List ℕ) (t u : ℕ) : Type 0 where
+  pub first : RowsIn of width clocks t u
+  pub second : RowsIn of width clocks u t
 
 -- one row for each event action
 abbrev pub rows : List Record → ℕ

@@ -8,14 +8,14 @@ ghost use Prim.Native.Nat.{_+_, _-_, _≤_, _<_};
 ghost use lib.Dec.{eqb};
 ghost use lib.ListN.{length, set};
 ghost use Rattle.records.specs.Bytes.{decode};
-ghost use Rattle.races.specs.Filled.{Earlier};
+ghost use Rattle.races.specs.Filled.{BothIn};
 ghost use Rattle.races.specs.Candidates.{orderedIn, seenAfter, wayFrom, wayTo};
 ghost use Rattle.records.specs.Search.{leastKind, mayRace, NextAccess};
 
 // By the number of a cell: do all its accesses from the start on happen before row u, or belong to it? It is 0 where there are none, and above 1,024
 // where no such row is known.
 pub(crate) fn is_ordered(of: &[u16], width: usize, clocks: &[u16], seen: u16, u: usize) -> bool
-    requires { ⌜ (seen ≢ 0 → seen ≤ 1024 → Earlier (now of) width (now clocks) (seen - 1) u) ⌝ }
+    requires { ⌜ (seen ≢ 0 → seen ≤ 1024 → BothIn (now of) width (now clocks) (seen - 1) u) ⌝ }
     ensures { λ r. ⌜ r ≡ orderedIn (now (of .entry)) width (now (clocks .entry)) seen u ⌝ }
 {
     if seen == 0 {

@@ -1,10 +1,11 @@
 // How two rows stand to each other, by the clocks.
 use clocks::Relation;
+use clocks::relate_entries;
 ghost use mathlib.Core.Path.{_≡_};
 ghost use lib.ListN.{getD};
 ghost use Rattle.clocks.specs.Rows.{compareIn};
 ghost use Rattle.clocks.specs.WayRound.{relationPaper, relateIn};
-ghost use Rattle.races.specs.Filled.{RowsIn, Earlier};
+ghost use Rattle.races.specs.Filled.{RowsIn, BothIn};
 
 // Whether row t's own entry, at its chain, is at most row u's, as the rows stand.
 pub(crate) fn comes_before(of: &[u16], width: usize, clocks: &[u16], t: usize, u: usize) -> bool
@@ -15,16 +16,16 @@ pub(crate) fn comes_before(of: &[u16], width: usize, clocks: &[u16], t: usize, u
     clocks[t * width + c] <= clocks[u * width + c]
 }
 
-// Which way round rows t and u stand, where t began earlier or is u: then u does not come before it, and is not compared.
+// Which way round rows t and u stand.
 pub(crate) fn relation(of: &[u16], width: usize, clocks: &[u16], t: usize, u: usize) -> Relation
-    requires { ⌜ Earlier (now of) width (now clocks) t u ⌝ }
+    requires { ⌜ BothIn (now of) width (now clocks) t u ⌝ }
     ensures { λ r. ⌜ relationPaper r ≡ relateIn (now (clocks .entry)) width t (getD (now (of .entry)) t 0) u (getD (now (of .entry)) u 0) ⌝ }
 {
-    if !comes_before(of, width, clocks, t, u) {
-        return Relation::Unordered;
-    }
-    if t == u {
-        return Relation::Same;
-    }
-    Relation::Before
+    let c = of[t] as usize;
+    let d = of[u] as usize;
+    let own = clocks[t * width + c];
+    let there = clocks[u * width + c];
+    let second = clocks[u * width + d];
+    let back = clocks[t * width + d];
+    relate_entries(t == u, own, there, second, back)
 }

@@ -1,34 +1,32 @@
 -- `clocks::relate` meets its contract.
 -- Assumes nothing.
-use mathlib.Core.Path.{refl, sym, _∙_}
-use borrow.Author.Tests.{eq-eqb, ne-eqb}
+use mathlib.Core.Path.{_∙_}
+use denote.Ref.{now}
 use borrow.Author.Needs.{needs}
-use Rattle.clocks.specs.WayRound.{relateIn}
+use Rattle.clocks.proofs.WayLaws.{by-entries}
 use Rattle.clocks.proofs.relate.Statement.{statement}
 use Rattle.clocks.proofs.relate.Tie as tie
 
+entry-requires : tie.Need-entry-requires
+entry-requires c κs = search needs
+
+entry-requires-2 : tie.Need-entry-requires-2
+entry-requires-2 c κs = search needs
+
+entry-requires-3 : tie.Need-entry-requires-3
+entry-requires-3 c κs = search needs
+
+entry-requires-4 : tie.Need-entry-requires-4
+entry-requires-4 c κs = search needs
+
+relate-entries-requires : tie.Need-relate-entries-requires
+relate-entries-requires c κs = search needs
+
 returns : tie.Need-returns
-unfolding relateIn
-returns c = rw (eq-eqb _ _ (c .if1 .taken)) refl
-
-compare-requires : tie.Need-compare-requires
-compare-requires c κs = search needs
-
-returns-2 : tie.Need-returns-2
-unfolding relateIn
-returns-2 c = rw (ne-eqb _ _ (c .before .before .if1 .left), sym (c .before .compare .ensures) ∙ c .if2 .taken) refl
-
-compare-requires-2 : tie.Need-compare-requires-2
-compare-requires-2 c κs = search needs
-
-returns-3 : tie.Need-returns-3
-unfolding relateIn
-returns-3 c = rw (ne-eqb _ _ (c .before .before .before .before .if1 .left), sym (c .before .before .before .compare .ensures) ∙ c .before .before .if2 .left, sym (c .before .compare2 .ensures) ∙ c .if3 .taken) refl
-
-returns-4 : tie.Need-returns-4
-unfolding relateIn
-returns-4 c = rw (ne-eqb _ _ (c .before .before .before .before .if1 .left), sym (c .before .before .before .compare .ensures) ∙ c .before .before .if2 .left, sym (c .before .compare2 .ensures) ∙ c .if3 .left) refl
+returns c =
+    let a = c .before .before .before .before .before .before .args in
+    let b = c .before in
+    c .relate-entries .ensures ∙ (rw (b .before .before .before .entry .ensures, b .before .before .entry2 .ensures, b .before .entry3 .ensures, b .entry4 .ensures) (by-entries (now (a .clocks)) (a .width) (a .t) (a .c) (a .u) (a .d)))
 
 pub relate-spec : {M : Type 1} → statement M
-relate-spec =
-    tie.close (tie.spec returns compare-requires returns-2 compare-requires-2 returns-3 returns-4)
+relate-spec = tie.close (tie.spec entry-requires entry-requires-2 entry-requires-3 entry-requires-4 relate-entries-requires returns)
