@@ -13,11 +13,14 @@ use lib.Seq.{sets, length-sets}
 use Rattle.records.specs.declared.Record.{Record}
 use Rattle.records.specs.Records.{at, eventOf}
 use Rattle.coverage.specs.Race.{raceb}
+use Rattle.ranks.specs.Ranks.{ranksOf}
+use Rattle.order.proofs.TraceOrder.{counted}
 use Rattle.races.specs.Traces.{isAccess, settingOf}
+use Rattle.races.specs.Filled.{Filled}
 use Rattle.races.specs.Lists.{shapeOf}
 use Rattle.races.specs.Candidates.{cell, Upto, Seen, Tables, orderedIn, seenAfter, wayFrom, wayTo, Range}
 use Rattle.races.specs.ListPass.{fromOf, firsts, withSecond, pairsBelow, raw, raws, entryIf, Second, OneWrites, RoomIf, Writes, WritesAll, Ranges}
-use Rattle.races.proofs.CandidateLaws.{racing, cell-low, tables-next, seen-after, ordered-upto}
+use Rattle.races.proofs.CandidateLaws.{racing, cell-low, access-rank, tables-next, seen-after, ordered-upto}
 use Rattle.races.proofs.ListLaws.{firsts-start, firsts-yes, firsts-no, firsts-grow, firsts-skip, firsts-empty, firsts-length, below-none, below-more, below-length, quiet, way-found}
 
 pub five-stores : (l : List ℕ) (i a b c d e : ℕ) → set (set (set (set (set l i a) (i + 1) b) (i + 2) c) (i + 3) d) (i + 4) e ≡ sets l i (a ∷ b ∷ c ∷ d ∷ e ∷ [])
@@ -188,9 +191,9 @@ module _ {tr : List Record} {short : Bool} {b from to : ℕ} (w : Ranges tr shor
   pub way-room : {writing : Bool} {k : ℕ} {list : List ℕ} → RoomIf writing tr b (fromOf tr short b) k list → RoomIf writing tr b from k list
   way-room r = record { few = r .few; space = λ t. omega (arith, r .space t, ap length (w .firsts-are)) }
 
-  -- nothing is left to look through
-  pub way-over : to ≤ from → (writing : Bool) (k : ℕ) (list : List ℕ) → Writes writing tr b (fromOf tr short b) k list list k
-  way-over l writing k list = way-writes (no-entries writing k list (λ x m h. w .range .none x (omega arith) h))
+-- a way with nothing on it
+pub way-over : {tr : List Record} {b from to : ℕ} → Range tr b from to → to ≤ from → (writing : Bool) (k : ℕ) (list : List ℕ) → Writes writing tr b from k list list k
+way-over g l writing k list = no-entries writing k list (λ x m h. g .none x (omega arith) h)
 
 -- the loop over the second accesses, turn by turn
 pub record Listing (writing : Bool) (tr : List Record) (short : Bool) (list₀ list : List ℕ) (k b : ℕ) : Type 0 where
@@ -245,6 +248,14 @@ module _ {writing : Bool} {tr : List Record} {short : Bool} {list₀ list : List
       let e : b ≡ length tr = omega arith in
       record { count = w .next-is ∙ ap (λ i. length (pairsBelow tr short i)) e; list-is = w .list-is ∙ ap (λ i. cond writing (sets list₀ 0 (raws tr (pairsBelow tr short i))) list₀) e }
 
+-- a second access, by the begins before it
+module _ {tr : List Record} {ranks of : List ℕ} {width : ℕ} {clocks : List ℕ} (f : Filled tr ranks of width clocks) where
+  pub second-at : {b begun : ℕ} → b < length tr → T (isAccess (at tr b)) → begun ≡ counted tr b → Second tr ranks of width clocks b (begun - 1)
+  second-at {b} h t e = record { filled = f; inside = h; access = t; row = ap (λ x. x - 1) (e ∙ sym (access-rank (f .acceptable) b h t)) }
+
+  pub own-ranks : Filled tr (ranksOf tr) of width clocks
+  own-ranks = subst (λ r. Filled tr r of width clocks) (f .ranks-are) f
+
 -- One access: what its cell's numbers say, and what becomes of them.
 module _ {tr : List Record} {ranks of : List ℕ} {width : ℕ} {clocks : List ℕ} {b u : ℕ} (s : Second tr ranks of width clocks b u) {short : Bool} {seen written : List ℕ} (w : Tables tr short b seen written)
     {kind c : ℕ} {ordered : Bool} (ek : kind ≡ at tr b .kind) (ec : c ≡ cell tr b) (eo : ordered ≡ orderedIn of width clocks (getD seen c 0) u) where
@@ -262,8 +273,11 @@ module _ {tr : List Record} {ranks of : List ℕ} {width : ℕ} {clocks : List �
       tables-next tr short b (seenAfter ordered short kind u) seen written low w (seen-after (s .filled .acceptable) b u (s .inside) (s .row) kind ek short ordered all-before) kind ek seen′ written′
       (p ∙ ap (λ x. set seen x (seenAfter ordered short kind u)) ec) (q ∙ ap (λ x. cond (eqb kind 6) (set written x (b + 1)) written) ec)
 
-  pub access-quiet : ordered ≡ true → (writing : Bool) (k : ℕ) (list : List ℕ) → Writes writing tr b (fromOf tr short b) k list list k
-  access-quiet h writing k list = no-entries writing k list (quiet tr (s .filled .acceptable) short (all-before h))
+  pub access-quiet : ordered ≡ true → Ranges tr short b b b
+  access-quiet h = record {
+    range = record { low = omega arith; high = omega arith; none = λ x l k t. omega arith };
+    firsts-are = firsts-empty tr (fromOf tr short b) b b (quiet tr (s .filled .acceptable) short (all-before h)) ∙ sym (firsts-empty tr b b b (λ x l k t. omega arith));
+  }
 
   pub access-way : (from to : ℕ) → from ≡ wayFrom short (getD written c 0) → to ≡ wayTo kind (getD written c 0) b → Ranges tr short b from to
   access-way from to p q = let e = ap (λ x. getD written x 0) ec ∙ w .last (cell tr b) low in way-found tr b kind ek short from to (p ∙ ap (wayFrom short) e) (q ∙ ap (λ x. wayTo kind x b) e)

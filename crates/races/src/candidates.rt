@@ -1,6 +1,7 @@
 // Where the first accesses that may race with a second access are looked for: along the accesses of its cell.
 use crate::racing::relation;
 use clocks::is_before;
+use records::access;
 ghost use mathlib.Core.Path.{_≡_};
 ghost use mathlib.Core.Logic.{_≢_};
 ghost use mathlib.Core.Bool.{cond};
@@ -9,12 +10,14 @@ ghost use lib.Dec.{eqb};
 ghost use lib.ListN.{length, set};
 ghost use Rattle.records.specs.Bytes.{decode};
 ghost use Rattle.races.specs.Filled.{BothIn};
-ghost use Rattle.races.specs.Candidates.{orderedIn, seenAfter, wayFrom, wayTo};
+ghost use Rattle.ranks.specs.Ranks.{ranksOf};
+ghost use Rattle.races.specs.Candidates.{orderedIn, seenAfter, wayFrom, wayTo, Tables};
+ghost use Rattle.races.specs.ListPass.{Second, Ranges};
 ghost use Rattle.records.specs.Search.{leastKind, mayRace, NextAccess};
 
 // By the number of a cell: do all its accesses from the start on happen before row u, or belong to it? It is 0 where there are none, and above 1,024
 // where no such row is known.
-pub(crate) fn is_ordered(of: &[u16], width: usize, clocks: &[u16], seen: u16, u: usize) -> bool
+fn is_ordered(of: &[u16], width: usize, clocks: &[u16], seen: u16, u: usize) -> bool
     requires { ⌜ (seen ≢ 0 → seen ≤ 1024 → BothIn (now of) width (now clocks) (seen - 1) u) ⌝ }
     ensures { λ r. ⌜ r ≡ orderedIn (now (of .entry)) width (now (clocks .entry)) seen u ⌝ }
 {
@@ -45,9 +48,9 @@ fn seen_after(ordered: bool, short: bool, kind: u8, u: usize) -> u16
 }
 
 // The access b of row u, of cell c, is taken into account.
-pub(crate) fn note_access(
+fn note_access(
     seen: &mut [u16],
-    written: &mut [u16],
+    writes: &mut [u16],
     c: usize,
     kind: u8,
     ordered: bool,
@@ -55,18 +58,18 @@ pub(crate) fn note_access(
     b: usize,
     u: usize,
 )
-    requires { ⌜ (c < length (now seen)) × (c < length (now written)) × (b < 4096) × (u < 1024) ⌝ }
+    requires { ⌜ (c < length (now seen)) × (c < length (now writes)) × (b < 4096) × (u < 1024) ⌝ }
     ensures { λ r. ⌜ now (seen .exit) ≡ set (now (seen .entry)) c (seenAfter ordered short kind u) ⌝ }
-    ensures { λ r. ⌜ now (written .exit) ≡ cond (eqb kind 6) (set (now (written .entry)) c (b + 1)) (now (written .entry)) ⌝ }
+    ensures { λ r. ⌜ now (writes .exit) ≡ cond (eqb kind 6) (set (now (writes .entry)) c (b + 1)) (now (writes .entry)) ⌝ }
 {
     seen[c] = seen_after(ordered, short, kind, u);
     if kind == 6 {
-        written[c] = (b + 1) as u16;
+        writes[c] = (b + 1) as u16;
     }
 }
 
 // From where on first accesses are looked for, where the last write of the cell has the number `last`: in the short list from there.
-pub(crate) fn way_from(short: bool, last: usize) -> usize
+fn way_from(short: bool, last: usize) -> usize
     ensures { λ r. ⌜ r ≡ wayFrom short last ⌝ }
 {
     if !short {
@@ -79,11 +82,48 @@ pub(crate) fn way_from(short: bool, last: usize) -> usize
 }
 
 // Up to where those of an access b of that kind are looked for: a read races with none past the last write.
-pub(crate) fn way_to(kind: u8, last: usize, b: usize) -> usize
+fn way_to(kind: u8, last: usize, b: usize) -> usize
     ensures { λ r. ⌜ r ≡ wayTo kind last b ⌝ }
 {
     if kind == 5 {
         return last;
     }
     b
+}
+
+// The way to a second access: first accesses that may race with it are looked for from one record on, before another.
+pub(crate) struct Way {
+    pub from: usize,
+    pub to: usize,
+}
+
+// The way to the access b of row u, with nothing on it where all accesses of its cell are ordered before it. Takes the access into account.
+pub(crate) fn take_access(
+    recs: &[u8],
+    of: &[u16],
+    width: usize,
+    clocks: &[u16],
+    seen: &mut [u16],
+    writes: &mut [u16],
+    b: usize,
+    u: usize,
+    short: bool,
+) -> Way
+    requires { ⌜ Second (decode (now recs)) (ranksOf (decode (now recs))) (now of) width (now clocks) b u ⌝ }
+    requires { ⌜ Tables (decode (now recs)) short b (now seen) (now writes) ⌝ }
+    ensures { λ r. ⌜ Ranges (decode (now (recs .entry))) short b (r .from) (r .to) ⌝ }
+    ensures { λ r. ⌜ Tables (decode (now (recs .entry))) short (b + 1) (now (seen .exit)) (now (writes .exit)) ⌝ }
+{
+    let kind = access::kind_at(recs, b);
+    let c = access::cell_at(recs, b).0 as usize;
+    let last = writes[c] as usize;
+    let ordered = is_ordered(of, width, clocks, seen[c], u);
+    note_access(seen, writes, c, kind, ordered, short, b, u);
+    if ordered {
+        return Way { from: b, to: b };
+    }
+    Way {
+        from: way_from(short, last),
+        to: way_to(kind, last, b),
+    }
 }

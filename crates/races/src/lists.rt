@@ -2,10 +2,8 @@
 use crate::ENTRY_NUMBERS;
 use crate::Listing;
 use crate::Summary;
-use crate::candidates::is_ordered;
-use crate::candidates::note_access;
-use crate::candidates::way_from;
-use crate::candidates::way_to;
+use crate::candidates::Way;
+use crate::candidates::take_access;
 use crate::racing::relation;
 use crate::raising;
 use clocks::is_unordered;
@@ -29,8 +27,8 @@ ghost use Rattle.order.specs.Fill.{eventsIn, chainsUsed};
 ghost use Rattle.trace.specs.Reply.{Reply};
 ghost use Rattle.races.specs.Lists.{entryNumbers, shapeOf};
 ghost use Rattle.races.specs.Paper.{listPaper, ListsFilled, Lists};
-ghost use Rattle.races.specs.ListPass.{fromOf, pairsBelow, raw, Second, OneRoom, OneWrites, RoomIf, Writes, WritesAll, Ample, Counts, ListsAll};
-ghost use Rattle.races.specs.Candidates.{Range, Tables};
+ghost use Rattle.races.specs.ListPass.{pairsBelow, raw, Second, OneRoom, OneWrites, RoomIf, Writes, WritesAll, Ample, Counts, ListsAll};
+ghost use Rattle.races.specs.Candidates.{Range};
 ghost use Rattle.races.specs.Filled.{Filled};
 
 // 1 for ww, 2 for wr, 3 for rw.
@@ -93,75 +91,29 @@ fn list_way(
     of: &[u16],
     width: usize,
     clocks: &[u16],
-    from: usize,
-    to: usize,
+    way: Way,
     b: usize,
     u: usize,
     list: &mut [u16],
     k: usize,
     writing: bool,
 ) -> usize
-    requires { ⌜ Second (decode (now recs)) (now ranks) (now of) width (now clocks) b u × Range (decode (now recs)) b from to ⌝ }
-    requires { ⌜ RoomIf writing (decode (now recs)) b from k (now list) ⌝ }
-    ensures { λ r. ⌜ Writes writing (decode (now (recs .entry))) b from k (now (list .entry)) (now (list .exit)) r ⌝ }
+    requires { ⌜ Second (decode (now recs)) (now ranks) (now of) width (now clocks) b u × Range (decode (now recs)) b (way .from) (way .to) ⌝ }
+    requires { ⌜ RoomIf writing (decode (now recs)) b (way .from) k (now list) ⌝ }
+    ensures { λ r. ⌜ Writes writing (decode (now (recs .entry))) b (way .from) k (now (list .entry)) (now (list .exit)) r ⌝ }
 {
+    if way.to <= way.from {
+        return k;
+    }
     let c = access::cell_at(recs, b);
     let least = search::least_kind(access::kind_at(recs, b));
     let mut next = k;
-    let mut a = search::next_access(recs, from, to, c, least);
-    while a < to {
+    let mut a = search::next_access(recs, way.from, way.to, c, least);
+    while a < way.to {
         next = list_race(recs, ranks, of, width, clocks, a, b, u, list, next, writing);
-        a = search::next_access(recs, a + 1, to, c, least);
+        a = search::next_access(recs, a + 1, way.to, c, least);
     }
     next
-}
-
-// The entries of the access b of row u, from entry k on, written or only counted; the next entry. Takes the access into account.
-fn list_access(
-    recs: &[u8],
-    ranks: &[u16],
-    of: &[u16],
-    width: usize,
-    clocks: &[u16],
-    seen: &mut [u16],
-    written: &mut [u16],
-    b: usize,
-    u: usize,
-    list: &mut [u16],
-    k: usize,
-    short: bool,
-    writing: bool,
-) -> usize
-    requires { ⌜ Second (decode (now recs)) (now ranks) (now of) width (now clocks) b u ⌝ }
-    requires { ⌜ RoomIf writing (decode (now recs)) b (fromOf (decode (now recs)) short b) k (now list) ⌝ }
-    requires { ⌜ Tables (decode (now recs)) short b (now seen) (now written) ⌝ }
-    ensures { λ r. ⌜ Writes writing (decode (now (recs .entry))) b (fromOf (decode (now (recs .entry))) short b) k (now (list .entry)) (now (list .exit)) r ⌝ }
-    ensures { λ r. ⌜ Tables (decode (now (recs .entry))) short (b + 1) (now (seen .exit)) (now (written .exit)) ⌝ }
-{
-    let kind = access::kind_at(recs, b);
-    let c = access::cell_at(recs, b).0 as usize;
-    let last = written[c] as usize;
-    let ordered = is_ordered(of, width, clocks, seen[c], u);
-    note_access(seen, written, c, kind, ordered, short, b, u);
-    if ordered {
-        return k;
-    }
-    let from = way_from(short, last);
-    let to = way_to(kind, last, b);
-    list_way(
-        recs,
-        ranks,
-        of,
-        width,
-        clocks,
-        from,
-        to,
-        b,
-        u,
-        list,
-        k,
-        writing,
-    )
 }
 
 // How many event actions have begun after a record of that kind.
@@ -192,7 +144,7 @@ fn list_all(
 {
     let n = access::count(recs);
     let mut seen = numbers_1025();
-    let mut written = numbers_1025();
+    let mut writes = numbers_1025();
     let mut k = 0;
     let mut begun = 0;
     let mut b = 0;
@@ -203,21 +155,9 @@ fn list_all(
             b += 1;
             continue;
         }
-        k = list_access(
-            recs,
-            ranks,
-            of,
-            width,
-            clocks,
-            &mut seen,
-            &mut written,
-            b,
-            begun - 1,
-            list,
-            k,
-            short,
-            writing,
-        );
+        let u = begun - 1;
+        let way = take_access(recs, of, width, clocks, &mut seen, &mut writes, b, u, short);
+        k = list_way(recs, ranks, of, width, clocks, way, b, u, list, k, writing);
         b += 1;
     }
     k
@@ -359,15 +299,6 @@ pub(crate) fn list_races(
     let Filling::Filled(chains) = answer else {
         return Listing::Refused(order::refusal_of(answer));
     };
-    list_filled(
-        access::records(bytes, t),
-        events,
-        width,
-        clocks,
-        &of,
-        &all,
-        chains,
-        list,
-        short,
-    )
+    let recs = access::records(bytes, t);
+    list_filled(recs, events, width, clocks, &of, &all, chains, list, short)
 }

@@ -13,17 +13,17 @@ mul-seen c = search needs
 slice-write-seen : tie.Need-slice-write-seen
 slice-write-seen c = search needs
 
-add-written : tie.Need-add-written
-add-written c = search needs
+add-writes : tie.Need-add-writes
+add-writes c = search needs
 
-cast-written : tie.Need-cast-written
-cast-written c = search needs
+cast-writes : tie.Need-cast-writes
+cast-writes c = search needs
 
-mul-written : tie.Need-mul-written
-mul-written c = search needs
+mul-writes : tie.Need-mul-writes
+mul-writes c = search needs
 
-slice-write-written : tie.Need-slice-write-written
-slice-write-written c = search needs
+slice-write-writes : tie.Need-slice-write-writes
+slice-write-writes c = search needs
 
 same-length : tie.Need-same-length
 same-length c = search needs
@@ -47,10 +47,10 @@ note-access-spec =
     seen-after-requires
     mul-seen
     slice-write-seen
-    add-written
-    cast-written
-    mul-written
-    slice-write-written
+    add-writes
+    cast-writes
+    mul-writes
+    slice-write-writes
     same-length
     same-length-2
     returns

@@ -1,13 +1,14 @@
 use borrow.Author.Needs.{needs}
 use Rattle.order.proofs.TraceOrder.{counted, counted-zero}
-use Rattle.races.proofs.EntryStores.{Listing, listing-start, listing-size, listing-room, listing-next, listing-end, no-second}
+use Rattle.races.proofs.EntryStores.{Listing, listing-start, listing-size, listing-room, listing-next, listing-end, no-second, second-at, own-ranks, way-room, way-writes}
 use Rattle.races.proofs.CandidateLaws.{tables-none, tables-pass, kind-access, kind-no-access, access-rank, access-ranked, access-begun, begun-next, counted-le}
 use Rattle.races.specs.Candidates.{Tables}
 use Rattle.records.specs.Bytes.{decode}
 use Rattle.records.specs.Records.{at}
-use Prim.Native.Nat.{_-_}
+use Prim.Native.Nat.{_-_, _<_}
+use lib.ListN.{length}
 use native.Mathlib.Omega.{arith}
-use mathlib.Core.Path.{_≡_, sym, ap, _∙_}
+use mathlib.Core.Path.{_≡_, sym, _∙_}
 use denote.Ref.{now}
 use Rattle.races.proofs.lists.list_all.Statement.{statement}
 use Rattle.races.proofs.lists.list_all.Tie as tie
@@ -28,49 +29,99 @@ numbers-1025-requires-2 : tie.Need-numbers-1025-requires-2 Inv-loop μ-loop
 numbers-1025-requires-2 c κs = search needs
 
 loop-holds : tie.Need-loop-holds Inv-loop μ-loop
-loop-holds c = (listing-start _ _ _ _, rw (c .before .numbers-1025 .ensures, c .numbers-10252 .ensures) (tables-none (decode (now (c .before .before .before .before .before .before .before .before .args .recs))) (c .before .before .before .before .before .before .before .before .args .short)), sym (counted-zero (decode (now (c .before .before .before .before .before .before .before .before .args .recs)))))
+loop-holds c =
+    let a = c .before .before .before .before .before .before .before .before .args in
+    (listing-start _ _ _ _, rw (c .before .numbers-1025 .ensures, c .numbers-10252 .ensures) (tables-none (decode (now (a .recs))) (a .short)), sym (counted-zero (decode (now (a .recs)))))
 
 kind-at-requires : tie.Need-kind-at-requires Inv-loop μ-loop
 kind-at-requires c κs = search needs
 
 begun-after-requires : tie.Need-begun-after-requires Inv-loop μ-loop
-begun-after-requires c κs = omega (arith, c .before .before .before .loop .inv .2, counted-le (decode (now (c .before .before .before .before .before .before .before .before .before .before .before .before .args .recs))) (c .before .before .before .loop .b), c .before .before .before .before .before .before .count .ensures, c .before .before .loop-test .taken, c .before .before .before .before .before .before .before .before .before .before .before .before .pre .0 .acceptable .few)
+begun-after-requires c κs =
+    let l = c .before .before .before in
+    let n = l .before .before .before in
+    let s = n .before .before .before .before .before .before in
+    omega (arith, l .loop .inv .2, counted-le (decode (now (s .args .recs))) (l .loop .b), n .count .ensures, c .before .before .loop-test .taken, s .pre .0 .acceptable .few)
 
 add-b : tie.Need-add-b Inv-loop μ-loop
-add-b c = omega (arith, c .before .before .before .loop-test .taken, c .before .before .before .before .before .before .before .count .ensures, c .before .before .before .before .before .before .before .before .before .before .before .before .before .pre .0 .acceptable .few)
+add-b c =
+    let n = c .before .before .before .before .before .before .before in
+    let s = n .before .before .before .before .before .before in
+    omega (arith, c .before .before .before .loop-test .taken, n .count .ensures, s .pre .0 .acceptable .few)
 
 loop-less : tie.Need-loop-less Inv-loop μ-loop
 loop-less c = omega (arith, c .before .before .before .loop-test .taken)
 
 loop-again : tie.Need-loop-again Inv-loop μ-loop
-loop-again c = let f = kind-no-access (at (decode (now (c .before .before .before .before .before .before .before .before .before .before .before .before .before .args .recs))) (c .before .before .before .before .loop .b)) (omega (arith, c .before .before .kind-at .ensures, c .before .if1 .taken)) in (listing-next (c .before .before .before .before .loop .inv .0) (omega (arith, c .before .before .before .before .before .before .before .count .ensures, c .before .before .before .loop-test .taken)) _ _ (no-second f _ _ _ _), tables-pass (decode (now (c .before .before .before .before .before .before .before .before .before .before .before .before .before .args .recs))) (c .before .before .before .before .before .before .before .before .before .before .before .before .before .args .short) f (c .before .before .before .before .loop .inv .1), begun-next (decode (now (c .before .before .before .before .before .before .before .before .before .before .before .before .before .args .recs))) (c .before .before .before .before .loop .b) (c .before .before .kind-at .ensures) (c .before .before .before .before .loop .inv .2) (c .begun-after .ensures))
+loop-again c =
+    let l = c .before .before .before .before in
+    let n = l .before .before .before in
+    let s = n .before .before .before .before .before .before in
+    let tr = decode (now (s .args .recs)) in
+    let f = kind-no-access (at tr (l .loop .b)) (omega (arith, c .before .before .kind-at .ensures, c .before .if1 .taken)) in
+    (listing-next (l .loop .inv .0) (omega (arith, n .count .ensures, c .before .before .before .loop-test .taken)) _ _ (no-second f _ _ _ _), tables-pass tr (s .args .short) f (l .loop .inv .1), begun-next tr (l .loop .b) (c .before .before .kind-at .ensures) (l .loop .inv .2) (c .begun-after .ensures))
 
-slice-aggregate-list-access : tie.Need-slice-aggregate-list-access Inv-loop μ-loop
-slice-aggregate-list-access c = sym (c .before .before .before .before .loop .inv .1 .seen-size)
+sub-u : tie.Need-sub-u Inv-loop μ-loop
+sub-u c =
+    let l = c .before .before .before in
+    let n = l .before .before .before in
+    let s = n .before .before .before .before .before .before in
+    let acc = s .pre .0 .acceptable in
+    let h : l .loop .b < length (decode (now (s .args .recs))) = omega (arith, n .count .ensures, c .before .before .loop-test .taken) in
+    let t = kind-access acc (l .loop .b) h (omega (arith, c .before .kind-at .ensures, c .if1 .left)) in
+    omega (arith, l .loop .inv .2, access-rank acc (l .loop .b) h t, access-ranked acc (l .loop .b) h)
 
-slice-aggregate-list-access-2 : tie.Need-slice-aggregate-list-access-2 Inv-loop μ-loop
-slice-aggregate-list-access-2 c = sym (c .before .before .before .before .before .loop .inv .1 .written-size)
+slice-aggregate-take-access : tie.Need-slice-aggregate-take-access Inv-loop μ-loop
+slice-aggregate-take-access c = let l = c .before .before .before .before in sym (l .loop .inv .1 .seen-size)
 
-sub-list-access : tie.Need-sub-list-access Inv-loop μ-loop
-sub-list-access c = let t = kind-access (c .before .before .before .before .before .before .before .before .before .before .before .before .before .before .pre .0 .acceptable) (c .before .before .before .before .before .loop .b) (omega (arith, c .before .before .before .before .before .before .before .before .count .ensures, c .before .before .before .before .loop-test .taken)) (omega (arith, c .before .before .before .kind-at .ensures, c .before .before .if1 .left)) in omega (arith, c .before .before .before .before .before .loop .inv .2, access-rank (c .before .before .before .before .before .before .before .before .before .before .before .before .before .before .pre .0 .acceptable) (c .before .before .before .before .before .loop .b) (omega (arith, c .before .before .before .before .before .before .before .before .count .ensures, c .before .before .before .before .loop-test .taken)) t, access-ranked (c .before .before .before .before .before .before .before .before .before .before .before .before .before .before .pre .0 .acceptable) (c .before .before .before .before .before .loop .b) (omega (arith, c .before .before .before .before .before .before .before .before .count .ensures, c .before .before .before .before .loop-test .taken)))
+slice-aggregate-take-access-2 : tie.Need-slice-aggregate-take-access-2 Inv-loop μ-loop
+slice-aggregate-take-access-2 c = let l = c .before .before .before .before .before in sym (l .loop .inv .1 .written-size)
 
-list-access-requires : tie.Need-list-access-requires Inv-loop μ-loop
-list-access-requires c κs = let t = kind-access (c .before .before .before .before .before .before .before .before .before .before .before .before .before .before .before .pre .0 .acceptable) (c .before .before .before .before .before .before .loop .b) (omega (arith, c .before .before .before .before .before .before .before .before .before .count .ensures, c .before .before .before .before .before .loop-test .taken)) (omega (arith, c .before .before .before .before .kind-at .ensures, c .before .before .before .if1 .left)) in (record { filled = c .before .before .before .before .before .before .before .before .before .before .before .before .before .before .before .pre .0; inside = (omega (arith, c .before .before .before .before .before .before .before .before .before .count .ensures, c .before .before .before .before .before .loop-test .taken)); access = t; row = ap (λ x. x - 1) (c .before .before .before .before .before .before .loop .inv .2 ∙ sym (access-rank (c .before .before .before .before .before .before .before .before .before .before .before .before .before .before .before .pre .0 .acceptable) (c .before .before .before .before .before .before .loop .b) (omega (arith, c .before .before .before .before .before .before .before .before .before .count .ensures, c .before .before .before .before .before .loop-test .taken)) t)) }, (listing-room (c .before .before .before .before .before .before .loop .inv .0) (c .before .before .before .before .before .before .before .before .before .before .before .before .before .before .before .pre .0 .acceptable .few) (omega (arith, c .before .before .before .before .before .before .before .before .before .count .ensures, c .before .before .before .before .before .loop-test .taken)) (c .before .before .before .before .before .before .before .before .before .before .before .before .before .before .before .pre .1), c .before .before .before .before .before .before .loop .inv .1))
+take-access-requires : tie.Need-take-access-requires Inv-loop μ-loop
+take-access-requires c κs =
+    let l = c .before .before .before .before .before in
+    let n = l .before .before .before in
+    let s = n .before .before .before .before .before .before in
+    let h : l .loop .b < length (decode (now (s .args .recs))) = omega (arith, n .count .ensures, c .before .before .before .before .loop-test .taken) in
+    let t = kind-access (s .pre .0 .acceptable) (l .loop .b) h (omega (arith, c .before .before .before .kind-at .ensures, c .before .before .if1 .left)) in
+    (second-at (own-ranks (s .pre .0)) h t (l .loop .inv .2), l .loop .inv .1)
+
+list-way-requires : tie.Need-list-way-requires Inv-loop μ-loop
+list-way-requires c κs =
+    let w = c .before .before .before in
+    let i = w .before .before .before in
+    let l = i .before .before .before in
+    let n = l .before .before .before in
+    let s = n .before .before .before .before .before .before in
+    let h : l .loop .b < length (decode (now (s .args .recs))) = omega (arith, n .count .ensures, i .before .before .loop-test .taken) in
+    let t = kind-access (s .pre .0 .acceptable) (l .loop .b) h (omega (arith, i .before .kind-at .ensures, i .if1 .left)) in
+    let r = w .take-access .ensures .0 in
+    ((second-at (s .pre .0) h t (l .loop .inv .2), r .range), way-room r (listing-room (l .loop .inv .0) (s .pre .0 .acceptable .few) h (s .pre .1)))
 
 add-b-2 : tie.Need-add-b-2 Inv-loop μ-loop
-add-b-2 c = omega (arith, c .before .before .before .before .before .before .before .before .before .before .loop-test .taken, c .before .before .before .before .before .before .before .before .before .before .before .before .before .before .count .ensures, c .before .before .before .before .before .before .before .before .before .before .before .before .before .before .before .before .before .before .before .before .pre .0 .acceptable .few)
+add-b-2 c =
+    let i = c .before .before .before .before .before .before .before .before .before in
+    let n = i .before .before .before .before .before .before in
+    let s = n .before .before .before .before .before .before in
+    omega (arith, i .before .before .loop-test .taken, n .count .ensures, s .pre .0 .acceptable .few)
 
 loop-less-2 : tie.Need-loop-less-2 Inv-loop μ-loop
-loop-less-2 c = omega (arith, c .before .before .before .before .before .before .before .before .before .before .loop-test .taken)
+loop-less-2 c = let t = c .before .before .before .before .before .before .before .before .before .before .before in omega (arith, t .loop-test .taken)
 
 loop-again-2 : tie.Need-loop-again-2 Inv-loop μ-loop
-loop-again-2 c = (listing-next (c .before .before .before .before .before .before .before .before .before .before .before .loop .inv .0) (omega (arith, c .before .before .before .before .before .before .before .before .before .before .before .before .before .before .count .ensures, c .before .before .before .before .before .before .before .before .before .before .loop-test .taken)) _ _ (c .before .before .before .before .list-access .ensures .0), c .before .before .before .before .list-access .ensures .1, c .before .before .before .before .before .before .before .before .before .before .before .loop .inv .2 ∙ sym (access-begun (decode (now (c .before .before .before .before .before .before .before .before .before .before .before .before .before .before .before .before .before .before .before .before .args .recs))) (c .before .before .before .before .before .before .before .before .before .before .before .loop .b) (omega (arith, c .before .before .before .before .before .before .before .before .before .kind-at .ensures, c .before .before .before .before .before .before .before .before .if1 .left))))
+loop-again-2 c =
+    let w = c .before .before .before .before .before .before in
+    let i = w .before .before .before in
+    let l = i .before .before .before in
+    let n = l .before .before .before in
+    let s = n .before .before .before .before .before .before in
+    (listing-next (l .loop .inv .0) (omega (arith, n .count .ensures, i .before .before .loop-test .taken)) _ _ (way-writes (w .take-access .ensures .0) (c .before .before .list-way .ensures)), w .take-access .ensures .1, l .loop .inv .2 ∙ sym (access-begun (decode (now (s .args .recs))) (l .loop .b) (omega (arith, i .before .kind-at .ensures, i .if1 .left))))
 
 same-length : tie.Need-same-length Inv-loop μ-loop
 same-length c = listing-size (c .before .loop .inv .0)
 
 returns : tie.Need-returns Inv-loop μ-loop
-returns c = listing-end (c .before .loop .inv .0) (omega (arith, c .before .before .before .before .count .ensures, c .loop-test .left))
+returns c = let n = c .before .before .before .before in listing-end (c .before .loop .inv .0) (omega (arith, n .count .ensures, c .loop-test .left))
 
 pub list-all-spec : {M : Type 1} → statement M
 list-all-spec =
@@ -87,10 +138,11 @@ list-all-spec =
     add-b
     loop-less
     loop-again
-    slice-aggregate-list-access
-    slice-aggregate-list-access-2
-    sub-list-access
-    list-access-requires
+    sub-u
+    slice-aggregate-take-access
+    slice-aggregate-take-access-2
+    take-access-requires
+    list-way-requires
     add-b-2
     loop-less-2
     loop-again-2

@@ -39,32 +39,42 @@ same-length-2 c = search needs
 
 returns : tie.Need-returns
 returns c =
-    let s = c .before .before .before .before .before .before .before .before .before .before .before .before .before .before .before .before .before .before .before .before in
-    let p = for-list _ (c .before .before .before .before .before .before .before .before .before .before .prepare .ensures) in
-    not-listed (now (s .args .bytes)) (s .args .short) (s .args .width) (now (s .args .clocks)) _ (now (s .args .work)) _ _ (now (s .args .list)) _ _ p (c .before .before .before .before .before .clear .ensures) _ _ (upward (c .before .before .before .before .before .before .before .before .before .before .prepare .result .answer) (c .before .before .match .keys2)) _ (simp (c .refusal-of .ensures))
+    let k = c .before .before .before .before .before in
+    let p = k .before .before .before .before .before in
+    let s = p .before .before .before .before .before .before .before .before .before .before in
+    not-listed (now (s .args .bytes)) (s .args .short) (s .args .width) (now (s .args .clocks)) _ (now (s .args .work)) _ _ (now (s .args .list)) _ _ (for-list _ (p .prepare .ensures)) (k .clear .ensures) _ _ (upward (p .prepare .result .answer) (c .before .before .match .keys2)) _ (simp (c .refusal-of .ensures))
 
 records-requires : tie.Need-records-requires
 records-requires c κs = search needs
 
 slice-aggregate-list-filled : tie.Need-slice-aggregate-list-filled
 slice-aggregate-list-filled c =
-    let s = c .before .before .before .before .before .before .before .before .before .before .before .before .before .before .before .before .before .before .before .before .before .before .before in
-    let p = for-list _ (c .before .before .before .before .before .before .before .before .before .before .before .before .before .prepare .ensures) in
-    let l = listable (now (s .args .bytes)) (s .args .short) (s .args .width) (now (s .args .clocks)) _ (now (s .args .work)) _ _ (now (s .args .list)) _ _ p (c .before .before .before .before .before .before .before .before .clear .ensures) _ (ap fillPaper (c .before .before .before .before .answer .given .1)) _ (c .before .before .records .ensures) in
+    let r = c .before .before in
+    let a = r .before .before in
+    let k = a .before .before .before .before in
+    let p = k .before .before .before .before .before in
+    let s = p .before .before .before .before .before .before .before .before .before .before in
+    let l = listable (now (s .args .bytes)) (s .args .short) (s .args .width) (now (s .args .clocks)) _ (now (s .args .work)) _ _ (now (s .args .list)) _ _ (for-list _ (p .prepare .ensures)) (k .clear .ensures) _ (ap fillPaper (a .answer .given .1)) _ (r .records .ensures) in
     sym (of-length (l .filled))
 
 slice-aggregate-list-filled-2 : tie.Need-slice-aggregate-list-filled-2
 slice-aggregate-list-filled-2 c =
-    let s = c .before .before .before .before .before .before .before .before .before .before .before .before .before .before .before .before .before .before .before .before .before .before .before .before in
-    let p = for-list _ (c .before .before .before .before .before .before .before .before .before .before .before .before .before .before .prepare .ensures) in
-    let l = listable (now (s .args .bytes)) (s .args .short) (s .args .width) (now (s .args .clocks)) _ (now (s .args .work)) _ _ (now (s .args .list)) _ _ p (c .before .before .before .before .before .before .before .before .before .clear .ensures) _ (ap fillPaper (c .before .before .before .before .before .answer .given .1)) _ (c .before .before .before .records .ensures) in
+    let r = c .before .before .before in
+    let a = r .before .before in
+    let k = a .before .before .before .before in
+    let p = k .before .before .before .before .before in
+    let s = p .before .before .before .before .before .before .before .before .before .before in
+    let l = listable (now (s .args .bytes)) (s .args .short) (s .args .width) (now (s .args .clocks)) _ (now (s .args .work)) _ _ (now (s .args .list)) _ _ (for-list _ (p .prepare .ensures)) (k .clear .ensures) _ (ap fillPaper (a .answer .given .1)) _ (r .records .ensures) in
     sym (ranks-length (l .filled))
 
 list-filled-requires : tie.Need-list-filled-requires
 list-filled-requires c κs =
-    let s = c .before .before .before .before .before .before .before .before .before .before .before .before .before .before .before .before .before .before .before .before .before .before .before .before .before in
-    let p = for-list _ (c .before .before .before .before .before .before .before .before .before .before .before .before .before .before .before .prepare .ensures) in
-    let l = listable (now (s .args .bytes)) (s .args .short) (s .args .width) (now (s .args .clocks)) _ (now (s .args .work)) _ _ (now (s .args .list)) _ _ p (c .before .before .before .before .before .before .before .before .before .before .clear .ensures) _ (ap fillPaper (c .before .before .before .before .before .before .answer .given .1)) _ (c .before .before .before .before .records .ensures) in
+    let r = c .before .before .before .before in
+    let a = r .before .before in
+    let k = a .before .before .before .before in
+    let p = k .before .before .before .before .before in
+    let s = p .before .before .before .before .before .before .before .before .before .before in
+    let l = listable (now (s .args .bytes)) (s .args .short) (s .args .width) (now (s .args .clocks)) _ (now (s .args .work)) _ _ (now (s .args .list)) _ _ (for-list _ (p .prepare .ensures)) (k .clear .ensures) _ (ap fillPaper (a .answer .given .1)) _ (r .records .ensures) in
     (l .filled, l .events-are, l .chains-used)
 
 same-length-3 : tie.Need-same-length-3
@@ -78,10 +88,14 @@ same-length-5 c = search needs
 
 returns-2 : tie.Need-returns-2
 returns-2 c =
-    let s = c .before .before .before .before .before .before .before .before .before .before .before .before .before .before .before .before .before .before .before .before .before .before .before .before .before .before .before .before .before .before in
-    let p = for-list _ (c .before .before .before .before .before .before .before .before .before .before .before .before .before .before .before .before .before .before .before .before .prepare .ensures) in
-    let l = listable (now (s .args .bytes)) (s .args .short) (s .args .width) (now (s .args .clocks)) _ (now (s .args .work)) _ _ (now (s .args .list)) _ _ p (c .before .before .before .before .before .before .before .before .before .before .before .before .before .before .before .clear .ensures) _ (ap fillPaper (c .before .before .before .before .before .before .before .before .before .before .before .answer .given .1)) _ (c .before .before .before .before .before .before .before .before .before .records .ensures) in
-    l .done _ _ _ (c .before .before .before .before .list-filled .ensures)
+    let f = c .before .before .before .before in
+    let r = f .before .before .before .before .before in
+    let a = r .before .before in
+    let k = a .before .before .before .before in
+    let p = k .before .before .before .before .before in
+    let s = p .before .before .before .before .before .before .before .before .before .before in
+    let l = listable (now (s .args .bytes)) (s .args .short) (s .args .width) (now (s .args .clocks)) _ (now (s .args .work)) _ _ (now (s .args .list)) _ _ (for-list _ (p .prepare .ensures)) (k .clear .ensures) _ (ap fillPaper (a .answer .given .1)) _ (r .records .ensures) in
+    l .done _ _ _ (f .list-filled .ensures)
 
 pub list-races-spec : {M : Type 1} → statement M
 list-races-spec =

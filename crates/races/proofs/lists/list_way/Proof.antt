@@ -5,7 +5,7 @@ use Rattle.records.specs.Search.{leastKind, mayRace}
 use mathlib.Core.Path.{ap, _∙_}
 use Rattle.races.proofs.CandidateLaws.{past-quiet}
 use Rattle.races.proofs.ListLaws.{may-found}
-use Rattle.races.proofs.EntryStores.{Writing, writing-start, writing-size, writing-few, writing-room, writing-one, writing-past, writing-end}
+use Rattle.races.proofs.EntryStores.{Writing, writing-start, writing-size, writing-few, writing-room, writing-one, writing-past, writing-end, way-over}
 use Prim.Native.Nat.{_-_, _<_, _≤_}
 use lib.Dec.{T}
 use denote.Ref.{now}
@@ -15,10 +15,13 @@ use Rattle.races.proofs.lists.list_way.Statement.{statement}
 use Rattle.races.proofs.lists.list_way.Tie as tie
 
 abbrev Inv-loop : tie.InvT-loop
-Inv-loop recs ranks of width clocks from to b u list₀ k writing c least next₀ a₀ list next a = Writing writing (decode recs) b from k list₀ list next a × (a ≤ to) × (a < to → T (mayRace (decode recs) least (c .0) a))
+Inv-loop recs ranks of width clocks way b u list₀ k writing c least next₀ a₀ list next a = Writing writing (decode recs) b (way .from) k list₀ list next a × (a ≤ way .to) × (a < way .to → T (mayRace (decode recs) least (c .0) a))
 
 abbrev μ-loop : tie.MeasureT-loop
-μ-loop recs ranks of width clocks from to b u list₀ k writing c least next₀ a₀ list next a = to - a
+μ-loop recs ranks of width clocks way b u list₀ k writing c least next₀ a₀ list next a = way .to - a
+
+returns : tie.Need-returns Inv-loop μ-loop
+returns c = let start = c .before .before .before .before .before .before .before in way-over (start .pre .0 .1) (c .if1 .taken) _ _ _
 
 cell-at-requires : tie.Need-cell-at-requires Inv-loop μ-loop
 cell-at-requires c κs = search needs
@@ -34,42 +37,62 @@ next-access-requires c κs = search needs
 
 loop-holds : tie.Need-loop-holds Inv-loop μ-loop
 loop-holds c =
-    let s = c .before .before .before .before .before .before .before .before .before in
+    let s = c .before .before .before .before .before .before .before .before .before .before .before in
     let g = s .pre .0 .1 in
     let n = c .next-access .ensures .next (g .low) (omega (arith, g .high, s .pre .0 .0 .inside)) in
-    let w = writing-start (s .args .writing) (decode (now (s .args .recs))) (s .args .b) (s .args .from) (s .args .k) (now (s .args .list)) (omega (arith, g .low, g .high)) in
+    let w = writing-start (s .args .writing) (decode (now (s .args .recs))) (s .args .b) (s .args .way .from) (s .args .k) (now (s .args .list)) (omega (arith, g .low, g .high)) in
     (writing-past w (n .past .low) (omega (arith, n .high, g .high)) (past-quiet _ (s .args .b) (c .before .before .before .cell-at .ensures) (c .before .least-kind .ensures ∙ ap leastKind (c .before .before .kind-at .ensures)) (n .past)), n .high, n .found)
 
 list-race-requires : tie.Need-list-race-requires Inv-loop μ-loop
-list-race-requires c κs = let g = c .before .before .before .before .before .before .before .before .before .before .before .before .pre .0 .1 in let i = c .before .before .loop .inv in let h : c .before .before .loop .a < c .before .before .before .before .before .before .before .before .before .before .before .before .args .b = omega (arith, g .high, c .before .loop-test .taken) in record { second = c .before .before .before .before .before .before .before .before .before .before .before .before .pre .0 .0; earlier = h; may = may-found _ (c .before .before .loop .a) (c .before .before .before .before .before .before .before .before .before .before .before .before .args .b) (c .before .before .before .before .before .before .cell-at .ensures) (c .before .before .before .before .least-kind .ensures ∙ ap leastKind (c .before .before .before .before .before .kind-at .ensures)) (i .2 (c .before .loop-test .taken)); few = writing-few (i .0) (c .before .before .before .before .before .before .before .before .before .before .before .before .pre .1 .few); space = writing-room (i .0) h (c .before .before .before .before .before .before .before .before .before .before .before .before .pre .1) }
+list-race-requires c κs =
+    let l = c .before .before .before in
+    let k = l .before .before in
+    let s = k .before .before .before .before .before .before .before .before .before .before in
+    let i = l .loop .inv in
+    let h : l .loop .a < s .args .b = omega (arith, s .pre .0 .1 .high, c .before .if2 .taken) in
+    record {
+      second = s .pre .0 .0;
+      earlier = h;
+      may = may-found _ (l .loop .a) (s .args .b) (k .before .before .cell-at .ensures) (k .least-kind .ensures ∙ ap leastKind (k .before .kind-at .ensures)) (i .2 (c .before .if2 .taken));
+      few = writing-few (i .0) (s .pre .1 .few);
+      space = writing-room (i .0) h (s .pre .1);
+    }
 
 add-next-access : tie.Need-add-next-access Inv-loop μ-loop
-add-next-access c = omega (arith, c .before .before .before .before .loop-test .taken, c .before .before .before .before .before .before .before .before .before .before .before .before .before .before .before .pre .0 .1 .high, c .before .before .before .before .before .before .before .before .before .before .before .before .before .before .before .pre .0 .0 .inside, c .before .before .before .before .before .before .before .before .before .before .before .before .before .before .before .pre .0 .0 .filled .acceptable .few)
+add-next-access c =
+    let t = c .before .before .before .before in
+    let s = t .before .before .before .before .before .before .before .before .before .before .before .before .before .before in
+    omega (arith, t .if2 .taken, s .pre .0 .1 .high, s .pre .0 .0 .inside, s .pre .0 .0 .filled .acceptable .few)
 
 next-access-requires-2 : tie.Need-next-access-requires-2 Inv-loop μ-loop
 next-access-requires-2 c κs = search needs
 
 loop-less : tie.Need-loop-less Inv-loop μ-loop
 loop-less c =
-    let s = c .before .before .before .before .before .before .before .before .before .before .before .before .before .before .before .before in
-    let t = c .before .before .before .before .before .loop-test .taken in
-    let n = c .next-access2 .ensures .next (omega (arith, t)) (omega (arith, s .pre .0 .1 .high, s .pre .0 .0 .inside)) in
-    omega (arith, n .past .low, t, n .high)
+    let t = c .before .before .before .before .before in
+    let s = t .before .before .before .before .before .before .before .before .before .before .before .before .before .before in
+    let n = c .next-access2 .ensures .next (omega (arith, t .if2 .taken)) (omega (arith, s .pre .0 .1 .high, s .pre .0 .0 .inside)) in
+    omega (arith, n .past .low, t .if2 .taken, n .high)
 
 loop-again : tie.Need-loop-again Inv-loop μ-loop
 loop-again c =
-    let s = c .before .before .before .before .before .before .before .before .before .before .before .before .before .before .before .before in
+    let t = c .before .before .before .before .before in
+    let l = t .before .before in
+    let k = l .before .before in
+    let s = k .before .before .before .before .before .before .before .before .before .before in
     let g = s .pre .0 .1 in
-    let t = c .before .before .before .before .before .loop-test .taken in
-    let n = c .next-access2 .ensures .next (omega (arith, t)) (omega (arith, g .high, s .pre .0 .0 .inside)) in
-    let h : c .before .before .before .before .before .before .loop .a < s .args .b = omega (arith, g .high, c .before .before .before .before .before .loop-test .taken) in
-    (writing-past (writing-one (c .before .before .before .before .before .before .loop .inv .0) h _ _ (c .before .before .before .list-race .ensures)) (n .past .low) (omega (arith, n .high, g .high)) (past-quiet _ (s .args .b) (c .before .before .before .before .before .before .before .before .before .before .cell-at .ensures) (c .before .before .before .before .before .before .before .before .least-kind .ensures ∙ ap leastKind (c .before .before .before .before .before .before .before .before .before .kind-at .ensures)) (n .past)), n .high, n .found)
+    let n = c .next-access2 .ensures .next (omega (arith, t .if2 .taken)) (omega (arith, g .high, s .pre .0 .0 .inside)) in
+    let h : l .loop .a < s .args .b = omega (arith, g .high, t .if2 .taken) in
+    (writing-past (writing-one (l .loop .inv .0) h _ _ (c .before .before .before .list-race .ensures)) (n .past .low) (omega (arith, n .high, g .high)) (past-quiet _ (s .args .b) (k .before .before .cell-at .ensures) (k .least-kind .ensures ∙ ap leastKind (k .before .kind-at .ensures)) (n .past)), n .high, n .found)
 
 same-length : tie.Need-same-length Inv-loop μ-loop
-same-length c = writing-size (c .before .loop .inv .0)
+same-length c = writing-size (c .before .before .loop .inv .0)
 
-returns : tie.Need-returns Inv-loop μ-loop
-returns c = writing-end (c .before .loop .inv .0) (c .loop-test .left) (c .before .before .before .before .before .before .before .before .before .before .before .pre .0 .1)
+returns-2 : tie.Need-returns-2 Inv-loop μ-loop
+returns-2 c =
+    let l = c .before .before in
+    let s = l .before .before .before .before .before .before .before .before .before .before .before .before in
+    writing-end (l .loop .inv .0) (c .if2 .left) (s .pre .0 .1)
 
 pub list-way-spec : {M : Type 1} → statement M
 list-way-spec =
@@ -77,6 +100,7 @@ list-way-spec =
     (tie.spec
     Inv-loop
     μ-loop
+    returns
     cell-at-requires
     kind-at-requires
     least-kind-requires
@@ -88,4 +112,4 @@ list-way-spec =
     loop-less
     loop-again
     same-length
-    returns)
+    returns-2)
