@@ -23,7 +23,7 @@ use Rattle.compactor.specs.declared.Compacting.{Compacting}
 use Rattle.compactor.specs.declared.Compacting.the-variants.{Compacted}
 use Rattle.compactor.specs.SlimTrace.{dropped, kept, slimOf, droppedIn}
 use Rattle.compactor.specs.Compact.{compactPaper, slimBytes, compactTrace, compactReply, outAfter, Compacts}
-use Rattle.compactor.specs.Keeping.{Passes, Fits, WritesSlim}
+use Rattle.compactor.specs.loops.Keeping.{Passes, Fits, WritesSlim}
 use Rattle.compactor.proofs.SlimLaws.{slim-length, slim-events}
 use Rattle.compactor.proofs.KeepLaws.{stored-after}
 

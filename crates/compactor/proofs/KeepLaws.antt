@@ -28,7 +28,7 @@ use Rattle.races.specs.Traces.{isAccess}
 use Rattle.races.proofs.Instance.{access-kind}
 use Rattle.races.proofs.CandidateLaws.{cell-low, kind-access}
 use Rattle.compactor.specs.SlimTrace.{repeats, dropped, kept, slimOf}
-use Rattle.compactor.specs.Keeping.{lastBy, Stamped, Stamps, Passes}
+use Rattle.compactor.specs.loops.Keeping.{lastBy, Stamped, Stamps, Passes}
 use Rattle.compactor.proofs.SlimLaws.{Repeat, repeat-of, of-repeat, slim-length}
 
 module _ (tr : List Record) (k c : ℕ) where

@@ -1,4 +1,4 @@
 pub mod SlimTrace
 pub mod Compact
 pub mod Same
-pub mod Keeping
+pub mod loops

@@ -17,7 +17,7 @@ ghost use Rattle.records.specs.Records.{at};
 ghost use Rattle.trace.specs.Reading.{Acceptable};
 ghost use Rattle.records.specs.Encoding.{encode, storedWithin};
 ghost use Rattle.compactor.specs.SlimTrace.{kept, slimOf};
-ghost use Rattle.compactor.specs.Keeping.{Stamps, Passes};
+ghost use Rattle.compactor.specs.loops.Keeping.{Stamps, Passes};
 
 // Has cell c another stamp than e? It is stamped by e then.
 fn stamp(stamps: &mut [u16], c: Var, e: EventId) -> bool

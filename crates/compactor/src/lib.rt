@@ -15,7 +15,7 @@ ghost use Rattle.records.specs.Bytes.{decode};
 ghost use Rattle.trace.specs.Reading.{Acceptable};
 ghost use Rattle.order.specs.Fill.{eventsIn};
 ghost use Rattle.compactor.specs.Compact.{slimBytes, Compacts};
-ghost use Rattle.compactor.specs.Keeping.{Fits, WritesSlim};
+ghost use Rattle.compactor.specs.loops.Keeping.{Fits, WritesSlim};
 
 // A slim trace: its length in bytes, and how many records it leaves out.
 pub struct Slim {

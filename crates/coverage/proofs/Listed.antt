@@ -11,7 +11,7 @@ use Rattle.coverage.specs.Race.{Race}
 use Rattle.coverage.specs.Leading.{leads}
 use Rattle.coverage.specs.Neighbours.{Cells, conflicts}
 use Rattle.coverage.specs.Lists.{allRaces, shortList}
-use Rattle.coverage.specs.Whole.{Whole, Edges}
+use Rattle.coverage.specs.loops.Whole.{Whole, Edges}
 use Rattle.slices.proofs.Tests.{decide}
 use Rattle.coverage.proofs.Order.{race-after}
 use Rattle.coverage.proofs.Leads.{le-leads, leads-below, leads-race}

@@ -11,7 +11,7 @@ use Rattle.coverage.specs.Setting.{Setting, Laws}
 use Rattle.coverage.specs.Race.{Race, raceb}
 use Rattle.coverage.specs.Cover.{CoversFrom, one, more}
 use Rattle.coverage.specs.Leading.{leads, coveredb}
-use Rattle.coverage.specs.Whole.{RacesTo, last, next, Whole, below, by-race, wholeBy, whole}
+use Rattle.coverage.specs.loops.Whole.{RacesTo, last, next, Whole, below, by-race, wholeBy, whole}
 use Rattle.slices.proofs.Tests.{both, and, either, or-left, or-right, decide-eq}
 use Rattle.coverage.proofs.Below.{found, find}
 use Rattle.coverage.proofs.Order.{before-le, before-lt, race-of, of-race, race-apart, after, race-after}

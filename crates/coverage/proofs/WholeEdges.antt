@@ -11,7 +11,7 @@ use Rattle.coverage.specs.Race.{before, Race}
 use Rattle.coverage.specs.Leading.{coveredb}
 use Rattle.coverage.specs.Neighbours.{Cells, conflicts, NoWrite, Neighbours, write-write, write-read, read-write, writeBetween}
 use Rattle.coverage.specs.Lists.{allRaces, shortList}
-use Rattle.coverage.specs.Whole.{Whole, below, Edges, taken}
+use Rattle.coverage.specs.loops.Whole.{Whole, below, Edges, taken}
 use Rattle.slices.proofs.Tests.{both, and, decide}
 use Rattle.coverage.proofs.Below.{found}
 use Rattle.coverage.proofs.Order.{before-le, race-not-le}

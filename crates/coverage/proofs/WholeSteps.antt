@@ -7,7 +7,7 @@ use lib.Dec.{T}
 use Rattle.coverage.specs.Setting.{Setting, Laws}
 use Rattle.coverage.specs.Race.{Race}
 use Rattle.coverage.specs.Leading.{leads, coveredb}
-use Rattle.coverage.specs.Whole.{Whole, below, Edges, Direct, Into}
+use Rattle.coverage.specs.loops.Whole.{Whole, below, Edges, Direct, Into}
 use Rattle.slices.proofs.Tests.{decide-eq}
 use Rattle.coverage.proofs.Order.{race-apart}
 use Rattle.coverage.proofs.Steps.{Links, GoOn}

@@ -6,6 +6,6 @@ pub mod Arrangement
 pub mod Leading
 pub mod Neighbours
 pub mod Lists
-pub mod Whole
 pub mod Demand
 pub mod Embedding
+pub mod loops

@@ -10,7 +10,7 @@ use borrow.Author.Tests.{le-leb, lt-leb}
 use lib.ListN.{length, getD, take, drop, set, length-append}
 use lib.Seq.{sets, length-sets, sets-eq, set-comm, drop-cons, drop-length, take-at, length-take-le}
 use Rattle.listing.specs.Lines.{decimal, shapeWord, putAt, afterLine, Printed}
-use Rattle.listing.specs.Pieces.{Written}
+use Rattle.listing.specs.loops.Pieces.{Written}
 use Rattle.listing.proofs.Decimal.{decimal-one, decimal-more, length-one, length-more}
 use Rattle.listing.proofs.Text.{shape-length}
 

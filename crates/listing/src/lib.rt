@@ -6,7 +6,7 @@ ghost use mathlib.Core.List.{[], _∷_, _++_};
 ghost use Prim.Native.Nat.{_+_, _-_, _≤_};
 ghost use lib.ListN.{length};
 ghost use Rattle.listing.specs.Lines.{decimal, shapeWord, markWord, headerLine, pairLine, refusedLine, Printed};
-ghost use Rattle.listing.specs.Pieces.{Width, Written};
+ghost use Rattle.listing.specs.loops.Pieces.{Width, Written};
 
 // How many digits n has.
 fn width(n: usize) -> usize

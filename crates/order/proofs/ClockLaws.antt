@@ -9,7 +9,7 @@ use lib.ListN.{getD}
 use Rattle.order.specs.Links.{Links, Forward, _∈_, _⊢_≼_, same, step, leq}
 use Rattle.order.specs.Chains.{first, bit, count, lasts, used, members}
 use Rattle.order.specs.Clocks.{largest, chainOf, entry, merged, compare}
-use Rattle.order.specs.Sets.{row, index, entryBy, Family}
+use Rattle.order.specs.loops.Sets.{row, index, entryBy, Family}
 use Rattle.slices.proofs.Tests.{both, and, decide, decide-eq, eq→eqb}
 use Rattle.order.proofs.SetLaws.{family-decides, own-entry, entry-by, clock-by, merged-by}
 use Rattle.order.proofs.OrderLaws.{≼-trans, ≼-last, ≼→leq, leq→≼, leq-refl, leq-trans, leq-forward}

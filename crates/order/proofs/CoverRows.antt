@@ -9,7 +9,7 @@ use lib.Dec.{T, eqb, eqb→eq}
 use Rattle.coverage.specs.Setting.{Setting, Laws}
 use Rattle.coverage.specs.Race.{Race}
 use Rattle.coverage.specs.Leading.{leads, coveredb}
-use Rattle.coverage.specs.Whole.{Whole, below, Edges, Direct}
+use Rattle.coverage.specs.loops.Whole.{Whole, below, Edges, Direct}
 use Rattle.slices.proofs.Tests.{either, or-left, or-right, eq→eqb, decide-lt}
 use Rattle.coverage.proofs.Order.{race-apart}
 use Rattle.coverage.proofs.Leads.{leads-below}
@@ -18,8 +18,8 @@ use Rattle.coverage.proofs.WholeSteps.{whole-step, leads-first, leads-next, who
 use Rattle.order.specs.Links.{_∈_, some}
 use Rattle.order.specs.Chains.{bit}
 use Rattle.order.specs.Clocks.{largest}
-use Rattle.order.specs.Sets.{index, Initial, Family}
-use Rattle.order.specs.Numbering.{Numbered, InOrder, Preds, Firsts, wholeOf, leadsTo, upTo, clockRow, coverRow, coverRowAt}
+use Rattle.order.specs.loops.Sets.{index, Initial, Family}
+use Rattle.order.specs.loops.Numbering.{Numbered, InOrder, Preds, Firsts, wholeOf, leadsTo, upTo, clockRow, coverRow, coverRowAt}
 use Rattle.order.proofs.OrderLaws.{found, find}
 use Rattle.order.proofs.SetLaws.{row-mono, row-decides, row-merge, row-start, family-decides, own-entry}
 

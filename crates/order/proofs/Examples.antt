@@ -6,7 +6,7 @@ use lib.Dec.{lit<, lit≤}
 use lib.ListN.{getD}
 use Rattle.ranks.specs.Said.{Op, link, begin, other}
 use Rattle.order.specs.Schedule.{begins, Ordered}
-use Rattle.order.specs.Walk.{walk, fillWalk}
+use Rattle.order.specs.loops.Walk.{walk, fillWalk}
 use Rattle.clocks.specs.Rows.{hasRow, reach, mergeAt, mergeFrom, mergeRow, span, clearPast, copyAt, copyFrom, copyRow}
 use Rattle.order.proofs.ScheduleLaws.{ordered-zero, ordered-suc}
 

@@ -19,7 +19,7 @@ use Rattle.order.specs.Fill.{eventsIn, shortRow, chainsUsed, traceClocks
 use Rattle.order.specs.Lent.{enoughChains, clocksFilled, chainsFilled}
 use Rattle.order.specs.declared.Filling.{Filling}
 use Rattle.order.specs.Paper.{fillPaper, FillsTrace}
-use Rattle.order.specs.PassEnds.{Ready, Passes}
+use Rattle.order.specs.loops.PassEnds.{Ready, Passes}
 use Rattle.order.proofs.SpaceLaws.{has-room}
 
 module _ (tr : List Record) (a : Acceptable tr) (events width : ℕ) (ee : events ≡ eventsIn tr) (cs : List ℕ)

@@ -15,7 +15,7 @@ use Rattle.order.specs.Clocks.{flat}
 use Rattle.clocks.specs.Rows.{reach, mergeAt, mergeFrom, mergeRow, copyRow, clearRow}
 use Rattle.clocks.proofs.RowLaws.{reach-le, reach-past, merge-row-fits, stored}
 use borrow.Rule.Slice.PartMut.{putMid}
-use Rattle.order.specs.Pass.{tick, fullAt, chooseIn, NoneFull}
+use Rattle.order.specs.loops.Pass.{tick, fullAt, chooseIn, NoneFull}
 use Rattle.order.specs.ByEvent.{OnlyRow}
 use Rattle.slices.proofs.Tests.{decide-eq, decide-lt}
 use Rattle.order.proofs.CountLaws.{first-past, first-over}

@@ -16,7 +16,7 @@ use Rattle.ranks.specs.Said.{Op, link, begin, other}
 use Rattle.clocks.specs.Rows.{mergeRow, copyRow}
 use Rattle.order.specs.Clocks.{largest, flat}
 use Rattle.order.specs.Schedule.{begins, linked, Ordered}
-use Rattle.order.specs.Walk.{FillWalked, stops, fillOn, linkedBy, hintedBy, fillWalk, opBy}
+use Rattle.order.specs.loops.Walk.{FillWalked, stops, fillOn, linkedBy, hintedBy, fillWalk, opBy}
 use Rattle.slices.proofs.Tests.{decide-eq, decide-lt}
 use Rattle.order.proofs.ScheduleLaws.{begins-suc, begins-mono, linked-exact, begin-next, link-between}
 use Rattle.order.proofs.FlatLaws.{mergeInto, into-own, into-other, copyInto, copy-own, copy-other, merged-row, copied-row}

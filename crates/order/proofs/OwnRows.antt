@@ -14,7 +14,7 @@ use lib.Seq.{length-take-le, getD-append-add, getD-set-same, getD-set-other, get
 use Rattle.clocks.specs.Rows.{hasRow, rowsIf, reach, mergeAt, mergeFrom, mergeRow, span, clearPast, copyAt, copyFrom, copyRow, clearRow}
 use Rattle.clocks.proofs.RowLaws.{row-stands, stands-row, row-before, rows-apart, reach-le, span-le, span-past, copy-row-fits, clear-row-past, past-length, past-before, past-in, past-after}
 use Rattle.slices.proofs.Tests.{decide-eq, decide-lt}
-use Rattle.order.specs.Pass.{tick, Rows, pickRows, enterRow, beginRow, chooseIn}
+use Rattle.order.specs.loops.Pass.{tick, Rows, pickRows, enterRow, beginRow, chooseIn}
 use Rattle.order.specs.ByEvent.{OnlyRow}
 
 module _ (w u : ℕ) where

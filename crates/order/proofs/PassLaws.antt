@@ -24,9 +24,9 @@ use Rattle.clocks.specs.Rows.{rowsIf, clearRow}
 use Rattle.order.specs.Chains.{bit}
 use Rattle.order.specs.Clocks.{table, flat, largest, chainOf, entry, merged, clocksOf}
 use Rattle.order.specs.Schedule.{begins}
-use Rattle.order.specs.Walk.{FillWalked, FillWalks}
-use Rattle.order.specs.Pass.{tick, chooseIn, Rows, enterRow, beginRow, RoomToBegin, Are}
-use Rattle.order.specs.PassEnds.{Ready, Passes}
+use Rattle.order.specs.loops.Walk.{FillWalked, FillWalks}
+use Rattle.order.specs.loops.Pass.{tick, chooseIn, Rows, enterRow, beginRow, RoomToBegin, Are}
+use Rattle.order.specs.loops.PassEnds.{Ready, Passes}
 use Rattle.order.specs.HappensBefore.{opAt, traceLinks}
 use Rattle.slices.specs.Slices.{zeros}
 use Rattle.order.specs.Fill.{eventsIn, beginPosition, shortRow, chainsUsed, chainTable, traceClocks, noChains}

@@ -7,13 +7,13 @@ use native.Mathlib.Omega.{arith}
 use lib.Dec.{T, eqb, eqb→eq}
 use Rattle.coverage.specs.Setting.{Setting, Laws}
 use Rattle.coverage.specs.Leading.{coveredb}
-use Rattle.coverage.specs.Whole.{Edges, Direct}
+use Rattle.coverage.specs.loops.Whole.{Edges, Direct}
 use Rattle.slices.proofs.Tests.{decide, decide-eq, eq→eqb, passed, failed, smaller}
 use Rattle.order.specs.Links.{_∈_}
 use Rattle.order.specs.Chains.{bit}
 use Rattle.order.specs.Clocks.{largest}
-use Rattle.order.specs.Numbering.{Numbered, InOrder, Preds, Firsts, coverRow, coverRowAt}
-use Rattle.order.specs.Raising.{raisedBy, rowAfter, rowBefore, startOf, Seconds, none, then, recordsFrom}
+use Rattle.order.specs.loops.Numbering.{Numbered, InOrder, Preds, Firsts, coverRow, coverRowAt}
+use Rattle.order.specs.loops.Raising.{raisedBy, rowAfter, rowBefore, startOf, Seconds, none, then, recordsFrom}
 use Rattle.order.proofs.SetLaws.{largest-local}
 use Rattle.order.proofs.CoverRows.{cover-first, cover-none, cover-next, cover-last, cover-own, mark-decides}
 

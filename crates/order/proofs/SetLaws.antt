@@ -9,7 +9,7 @@ use lib.Dec.{T, eqb, eqb→eq, eqb-refl}
 use Rattle.order.specs.Links.{Links, Forward, _∈_, some}
 use Rattle.order.specs.Chains.{bit, count}
 use Rattle.order.specs.Clocks.{largest}
-use Rattle.order.specs.Sets.{isIn, row, index, Initial, entryBy, mergedBy, Family}
+use Rattle.order.specs.loops.Sets.{isIn, row, index, Initial, entryBy, mergedBy, Family}
 use Rattle.slices.proofs.Tests.{both, and, either, or-left, or-right, decide, eq→eqb, same as equal-tests, decide-lt, smaller}
 use Rattle.order.proofs.AlongLaws.{Local, along-law}
 use Rattle.order.proofs.OrderLaws.{found, find}

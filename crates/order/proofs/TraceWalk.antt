@@ -8,7 +8,7 @@ use Rattle.records.specs.declared.Record.{Record}
 use Rattle.trace.specs.Reading.{Acceptable}
 use Rattle.ranks.specs.Ranks.{ranksOf}
 use Rattle.order.specs.Schedule.{begins}
-use Rattle.order.specs.Walk.{FillWalked, opBy, FillWalks}
+use Rattle.order.specs.loops.Walk.{FillWalked, opBy, FillWalks}
 use Rattle.order.specs.HappensBefore.{opAt}
 use Rattle.order.proofs.TraceOrder.{ops-ordered, link-target}
 use Rattle.order.proofs.RankLaws.{ops-are}

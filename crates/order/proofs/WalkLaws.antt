@@ -19,7 +19,7 @@ use Rattle.clocks.specs.Rows.{mergeRow}
 use Rattle.order.specs.Links.{Links, _∈_}
 use Rattle.order.specs.Clocks.{largest, flat}
 use Rattle.order.specs.Schedule.{begins, linked, Ordered, Makes}
-use Rattle.order.specs.Walk.{Walked, stops, mergedBy, walkOn, walk, opBy, walkFrom}
+use Rattle.order.specs.loops.Walk.{Walked, stops, mergedBy, walkOn, walk, opBy, walkFrom}
 use Rattle.slices.proofs.Tests.{decide-eq, decide-lt}
 use Rattle.order.proofs.SetLaws.{largest-in, largest-le}
 use Rattle.order.proofs.ScheduleLaws.{begins-zero, begins-suc, linked-suc, begins-mono, linked-exact, begin-next, link-between, link-after}

@@ -11,7 +11,7 @@ ghost use lib.Dec.{eqb};
 ghost use lib.ListN.{getD, set};
 ghost use Rattle.records.specs.Bytes.{decode};
 ghost use Rattle.clocks.specs.Rows.{rowsIf, mergeRow, copyRow};
-ghost use Rattle.order.specs.Walk.{opBy, TakesLink, FillWalks};
+ghost use Rattle.order.specs.loops.Walk.{opBy, TakesLink, FillWalks};
 
 fn hint_of(c: u16) -> u16
     ensures { λ r. ⌜ r ≡ 1024 - c ⌝ }

@@ -3,7 +3,7 @@ use clocks::merge_row;
 use ranks::Ordering;
 use records::access;
 ghost use Rattle.records.specs.Bytes.{decode};
-ghost use Rattle.order.specs.Walk.{opBy, Takes, Walks};
+ghost use Rattle.order.specs.loops.Walk.{opBy, Takes, Walks};
 
 // The record at position i: where it is a link, the earlier row is merged into the later one. Is it a begin?
 fn pass_record(

@@ -4,7 +4,7 @@ ghost use mathlib.Core.Bool.{false};
 ghost use Prim.Native.Nat.{ℕ, _+_, _-_, _*_, _≤_, _<_};
 ghost use lib.ListN.{length, getD, set};
 ghost use Rattle.order.specs.Chains.{firstFrom};
-ghost use Rattle.order.specs.Pass.{fullAt, chooseIn, NoneFull, RoomToChoose};
+ghost use Rattle.order.specs.loops.Pass.{fullAt, chooseIn, NoneFull, RoomToChoose};
 
 // Is one of the sixteen entries from `at` on equal to the size beside it?
 fn among_sixteen(clocks: &[u16], at: usize, sizes: &[u16], c: usize) -> bool

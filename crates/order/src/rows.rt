@@ -23,8 +23,8 @@ ghost use Rattle.clocks.specs.Rows.{spaceFor, rowsIf, clearRow};
 ghost use Rattle.order.specs.Fill.{eventsIn, noChains};
 ghost use Rattle.order.specs.Prepare.{noTrace};
 ghost use Rattle.order.specs.Paper.{FillsTrace};
-ghost use Rattle.order.specs.PassEnds.{Ready, Passes};
-ghost use Rattle.order.specs.Pass.{Rows, chooseIn, NoneFull, beginRow, RoomToChoose, RoomToBegin, Are};
+ghost use Rattle.order.specs.loops.PassEnds.{Ready, Passes};
+ghost use Rattle.order.specs.loops.Pass.{Rows, chooseIn, NoneFull, beginRow, RoomToChoose, RoomToBegin, Are};
 
 // The chain of row u, by its hint: no chain below 1,024 less that has all its members in the row.
 fn choose_hinted(

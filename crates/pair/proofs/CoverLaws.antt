@@ -22,13 +22,13 @@ use Rattle.coverage.proofs.Order.{le-before, before-le, race-of, of-race, race-
 use Rattle.coverage.proofs.Theorems.{cover-next}
 use Rattle.coverage.proofs.Leads.{le-leads}
 use Rattle.races.specs.Traces.{settingOf}
-use Rattle.pair.specs.Leading.{mark, Marks}
-use Rattle.races.specs.Filled.{rows, Filled, RowsIn}
-use Rattle.races.specs.Candidates.{cell}
+use Rattle.pair.specs.loops.Leading.{mark, Marks}
+use Rattle.races.specs.loops.Filled.{rows, Filled, RowsIn}
+use Rattle.races.specs.loops.Candidates.{cell}
 use Rattle.records.specs.Search.{leastKind, mayRace, Past, NextAccess}
 use Rattle.pair.specs.Pair.{raceEntry, raceEntries, GivesCover}
-use Rattle.pair.specs.Kept.{rowOf, Starts}
-use Rattle.pair.specs.PairSearch.{racesFrom, First, NoneFrom, FirstFrom, goesOn, NoRace, Sought, Next, Written}
+use Rattle.pair.specs.loops.Kept.{rowOf, Starts}
+use Rattle.pair.specs.loops.PairSearch.{racesFrom, First, NoneFrom, FirstFrom, goesOn, NoRace, Sought, Next, Written}
 use Rattle.races.proofs.Instance.{laws}
 use Rattle.pair.proofs.RecordRows.{starts-parted, rank-rises, rank-some, rank-few, row-low}
 use Rattle.pair.proofs.RowMarks.{marks-tell}

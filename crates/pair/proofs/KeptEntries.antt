@@ -15,11 +15,11 @@ use Rattle.coverage.specs.Leading.{leads, lastKept, entries}
 use Rattle.slices.proofs.Tests.{decide-eq, passed}
 use Rattle.coverage.proofs.Leads.{leads-self}
 use Rattle.races.specs.Traces.{settingOf}
-use Rattle.pair.specs.Leading.{mark, Marks}
-use Rattle.races.specs.Filled.{rows}
-use Rattle.pair.specs.Kept.{rowOf}
+use Rattle.pair.specs.loops.Leading.{mark, Marks}
+use Rattle.races.specs.loops.Filled.{rows}
+use Rattle.pair.specs.loops.Kept.{rowOf}
 use Rattle.pair.specs.Pair.{withEntries, keptEntries}
-use Rattle.pair.specs.PairSearch.{keptBelow, PutsEnd}
+use Rattle.pair.specs.loops.PairSearch.{keptBelow, PutsEnd}
 use Rattle.races.proofs.Instance.{laws}
 use Rattle.pair.proofs.RecordRows.{row-low, row-first, row-goes-on, row-ends, goes-on, ends-there}
 use Rattle.pair.proofs.RowMarks.{marks-tell, marks-room}

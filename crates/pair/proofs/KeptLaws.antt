@@ -26,9 +26,9 @@ use Rattle.coverage.proofs.Order.{race-apart}
 use Rattle.coverage.proofs.Leads.{leads-self, leads-below, leads-race, leads-ahead, leads-unfold}
 use Rattle.coverage.proofs.Steps.{leads-closed}
 use Rattle.races.specs.Traces.{isAccess, cellsOf, settingOf}
-use Rattle.pair.specs.Leading.{mark}
-use Rattle.races.specs.Filled.{rows, Filled}
-use Rattle.pair.specs.Kept.{rowOf, level, Starts, Split, Block, Accessed, Noted, clashes, OneClashes, Bytes, Merged, Rest, KeptAccess, Below, Kept, MarksKept}
+use Rattle.pair.specs.loops.Leading.{mark}
+use Rattle.races.specs.loops.Filled.{rows, Filled}
+use Rattle.pair.specs.loops.Kept.{rowOf, level, Starts, Split, Block, Accessed, Noted, clashes, OneClashes, Bytes, Merged, Rest, KeptAccess, Below, Kept, MarksKept}
 use Rattle.races.proofs.Instance.{laws, links, access-kind, access-inside}
 use Rattle.races.proofs.CandidateLaws.{cell-low, kind-access}
 use Rattle.races.proofs.FilledLaws.{rows-before}

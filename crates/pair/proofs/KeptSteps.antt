@@ -16,8 +16,8 @@ use Rattle.order.specs.Fill.{eventsIn, shortRow, chainsUsed}
 use Rattle.order.proofs.ChainLaws.{chain-below, needs-none}
 use Rattle.order.proofs.RowLaws.{place}
 use Rattle.order.proofs.TableLaws.{events-few, chain-at}
-use Rattle.races.specs.Filled.{rows, Filled}
-use Rattle.pair.specs.Kept.{rowOf, Starts, Split, Block, Noted, OneClashes, Merged, Passing, Rest, Kept, Passes, PassesAll, Markable, MarksKept}
+use Rattle.races.specs.loops.Filled.{rows, Filled}
+use Rattle.pair.specs.loops.Kept.{rowOf, Starts, Split, Block, Noted, OneClashes, Merged, Passing, Rest, Kept, Passes, PassesAll, Markable, MarksKept}
 use Rattle.races.proofs.FilledLaws.{of-length, chain-fits, clocks-hold}
 use Rattle.pair.proofs.RecordRows.{row-low, row-of-block, split-at}
 use Rattle.pair.proofs.KeptLaws.{none-bytes, noted-bytes, led-leads, leads-led, keeps-by, keeps-below, keeps-merged, keeps-start, keeps-end}

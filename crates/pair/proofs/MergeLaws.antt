@@ -7,7 +7,7 @@ use native.Mathlib.Omega.{arith}
 use lib.ListN.{length, getD, take, drop, set, length-set}
 use lib.Seq.{getD-set-same, getD-set-other, getD-drop, getD-take, ext-getD}
 use Rattle.slices.proofs.Tests.{decide-eq}
-use Rattle.pair.specs.Kept.{Merged}
+use Rattle.pair.specs.loops.Kept.{Merged}
 
 -- merged as far as chain c
 pub record Merging (part : List ℕ) (c : ℕ) (row row′ : List ℕ) : Type 0 where

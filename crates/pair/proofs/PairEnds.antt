@@ -25,9 +25,9 @@ use Rattle.order.proofs.LentLaws.{filled as made}
 use Rattle.order.proofs.PrepareLaws.{prepared}
 use Rattle.slices.proofs.Tests.{both, and, same}
 use Rattle.pair.specs.declared.PairAnswer.{PairAnswer}
-use Rattle.races.specs.Filled as hand
+use Rattle.races.specs.loops.Filled as hand
 use Rattle.pair.specs.Pair.{PairMark, pairPaper, isRecord, areRecords, pairFilled, AnswersFilled, pairReady, pairReply, PairPromise, ListAfter, entriesGiven}
-use Rattle.races.specs.Filled.{Clear}
+use Rattle.races.specs.loops.Filled.{Clear}
 use Rattle.races.proofs.PreparedLaws.{marks-cleared, after-work, fitting, filled-whole, work-clear}
 
 -- the two records are in the trace

@@ -18,9 +18,9 @@ use Rattle.coverage.specs.Leading.{leads, lastKept, entries}
 use Rattle.slices.proofs.Tests.{both, either, decide, decide-eq, eq→eqb}
 use Rattle.coverage.proofs.Lists.{upto-zero, upto-yes, upto-no}
 use Rattle.races.specs.Traces.{settingOf}
-use Rattle.races.specs.Filled.{rows}
+use Rattle.races.specs.loops.Filled.{rows}
 use Rattle.pair.specs.Pair.{flat, withEntries, keptEntry, keptEntries}
-use Rattle.pair.specs.PairSearch.{entryAt, keptBelow}
+use Rattle.pair.specs.loops.PairSearch.{entryAt, keptBelow}
 use Rattle.pair.proofs.RecordRows.{rank-rises, rank-some, rank-few}
 
 pub flat-length : (es : List (ℕ × ℕ)) → length (flat es) ≡ 2 * length es

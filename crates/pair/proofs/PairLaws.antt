@@ -18,11 +18,11 @@ use Rattle.coverage.proofs.Order.{race-of}
 use Rattle.pair.specs.declared.PairAnswer.{PairAnswer}
 use Rattle.pair.specs.declared.PairAnswer.the-variants.{Open, Covered}
 use Rattle.races.specs.Traces.{settingOf}
-use Rattle.races.specs.Filled.{Filled, rows, Clear}
-use Rattle.pair.specs.Leading.{mark, Marks}
+use Rattle.races.specs.loops.Filled.{Filled, rows, Clear}
+use Rattle.pair.specs.loops.Leading.{mark, Marks}
 use Rattle.trace.specs.Reply.{refused, gives, demand}
 use Rattle.pair.specs.Pair.{isOpen, pairPaper, answered, withEntries, keptEntries, pairFilled, GivesCover, AnswersRace, AnswersFilled}
-use Rattle.pair.specs.Kept.{Markable, MarksKept}
+use Rattle.pair.specs.loops.Kept.{Markable, MarksKept}
 use Rattle.races.proofs.FilledLaws.{ranks-length}
 use Rattle.races.proofs.CandidateLaws.{racing}
 use Rattle.pair.proofs.RecordRows.{row-low}

@@ -15,9 +15,9 @@ use Rattle.trace.specs.Reading.{Acceptable}
 use Rattle.order.proofs.TraceOrder.{counted, counted-zero, counted-begin, counted-other, ranked}
 use Rattle.coverage.specs.Leading.{leads}
 use Rattle.races.specs.Traces.{settingOf}
-use Rattle.pair.specs.Leading.{mark, marksIn, leadingMarks, Marks}
-use Rattle.races.specs.Filled.{rows}
-use Rattle.pair.specs.Kept.{rowOf}
+use Rattle.pair.specs.loops.Leading.{mark, marksIn, leadingMarks, Marks}
+use Rattle.races.specs.loops.Filled.{rows}
+use Rattle.pair.specs.loops.Kept.{rowOf}
 use Rattle.pair.proofs.RecordRows.{row-low, row-one}
 
 -- A mark for each begin, in the order of begins.

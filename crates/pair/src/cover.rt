@@ -14,10 +14,10 @@ ghost use Rattle.records.specs.Bytes.{decode};
 ghost use Rattle.coverage.specs.Race.{Race};
 ghost use Rattle.coverage.specs.Leading.{coveredb};
 ghost use Rattle.races.specs.Traces.{settingOf};
-ghost use Rattle.races.specs.Filled.{Filled, RowsIn, rows};
+ghost use Rattle.races.specs.loops.Filled.{Filled, RowsIn, rows};
 ghost use Rattle.pair.specs.Pair.{entryNumbers, GivesCover};
-ghost use Rattle.pair.specs.PairSearch.{goesOn, FirstFrom, Sought, Next};
-ghost use Rattle.pair.specs.Leading.{Marks};
+ghost use Rattle.pair.specs.loops.PairSearch.{goesOn, FirstFrom, Sought, Next};
+ghost use Rattle.pair.specs.loops.Leading.{Marks};
 ghost use lib.Dec.{T};
 
 // A race: its two records.

@@ -10,9 +10,9 @@ ghost use lib.Dec.{T};
 ghost use lib.ListN.{length, getD, set};
 ghost use Rattle.records.specs.Bytes.{decode};
 ghost use Rattle.trace.specs.Reading.{Acceptable};
-ghost use Rattle.races.specs.Filled.{rows};
-ghost use Rattle.pair.specs.Kept.{Starts, Split, Block, Noted, clashes, OneClashes, Bytes, Merged};
-ghost use Rattle.pair.specs.Kept.{Passing, Passes, PassesAll, Markable, MarksKept};
+ghost use Rattle.races.specs.loops.Filled.{rows};
+ghost use Rattle.pair.specs.loops.Kept.{Starts, Split, Block, Noted, clashes, OneClashes, Bytes, Merged};
+ghost use Rattle.pair.specs.loops.Kept.{Passing, Passes, PassesAll, Markable, MarksKept};
 
 // The first record of the event action of record i.
 pub(crate) fn block_start(recs: &[u8], i: usize) -> usize

@@ -23,10 +23,10 @@ ghost use Rattle.order.specs.Fill.{chainsUsed};
 ghost use Rattle.coverage.specs.Race.{raceb};
 ghost use Rattle.coverage.specs.Leading.{entries};
 ghost use Rattle.races.specs.Traces.{settingOf};
-ghost use Rattle.races.specs.Filled.{Filled, rows, Clear};
+ghost use Rattle.races.specs.loops.Filled.{Filled, rows, Clear};
 ghost use Rattle.pair.specs.Pair.{entryNumbers, pairPaper, withEntries, keptEntries, AnswersFilled, PairPromise};
-ghost use Rattle.pair.specs.PairSearch.{PutsEnd};
-ghost use Rattle.pair.specs.Leading.{Marks};
+ghost use Rattle.pair.specs.loops.PairSearch.{PutsEnd};
+ghost use Rattle.pair.specs.loops.Leading.{Marks};
 
 // An entry's numbers: an event and its last record, or a race's two records.
 pub const ENTRY_NUMBERS: usize = 2;

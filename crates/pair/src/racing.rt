@@ -14,8 +14,8 @@ ghost use Rattle.order.specs.HappensBefore.{happensBefore};
 ghost use Rattle.coverage.specs.Race.{raceb};
 ghost use Rattle.races.specs.Traces.{isAccess, settingOf, conflict, clash};
 ghost use Rattle.clocks.specs.WayRound.{relationPaper, relateIn};
-ghost use Rattle.races.specs.Filled.{Filled};
-ghost use Rattle.pair.specs.PairSearch.{wayOf};
+ghost use Rattle.races.specs.loops.Filled.{Filled};
+ghost use Rattle.pair.specs.loops.PairSearch.{wayOf};
 
 pub(crate) fn is_access(r: Record) -> bool
     ensures { λ x. ⌜ x ≡ isAccess r ⌝ }

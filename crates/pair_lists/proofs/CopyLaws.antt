@@ -25,7 +25,7 @@ use Rattle.races.specs.Paper.{listPaper, Lists}
 use Rattle.pair_lists.specs.declared.Pair.{Pair}
 use Rattle.pair_lists.specs.declared.Made.{Made}
 use Rattle.pair_lists.specs.Pairs.{noPair, pairOf, space, pairsAfter, PairLists}
-use Rattle.pair_lists.specs.Copying.{countIn, Within, pairAt, puts}
+use Rattle.pair_lists.specs.loops.Copying.{countIn, Within, pairAt, puts}
 
 -- ---- the count of a reply, and how it stands to the list and to the space
 unfoldable countOf : Reply Summary → ℕ

@@ -20,7 +20,7 @@ use Rattle.races.specs.Demand.{ListSuffices, ListAnswers}
 use Rattle.races.proofs.ThirdDemand.{made, made-answer, acceptable, list-demand, alike}
 use Rattle.pair_lists.specs.declared.Pair.{Pair}
 use Rattle.pair_lists.specs.Pairs.{noPair, pairOf, space, pairsAfter, PairLists}
-use Rattle.pair_lists.specs.Copying.{pairAt}
+use Rattle.pair_lists.specs.loops.Copying.{pairAt}
 use Rattle.pair_lists.specs.Demand.{Calls, Names, PairListSuffices, ThirdDemand}
 use Rattle.pair_lists.proofs.CopyLaws.{entry-says}
 

@@ -1,3 +1,3 @@
 pub mod Pairs
-pub mod Copying
 pub mod Demand
+pub mod loops

@@ -10,7 +10,7 @@ ghost use lib.ListN.{length};
 ghost use Rattle.races.specs.Lists.{entryNumbers};
 ghost use Rattle.races.specs.Paper.{Lists};
 ghost use Rattle.pair_lists.specs.Pairs.{space, PairLists};
-ghost use Rattle.pair_lists.specs.Copying.{countIn, Within, pairAt, puts};
+ghost use Rattle.pair_lists.specs.loops.Copying.{countIn, Within, pairAt, puts};
 
 // An entry of a list: its first and second record, its cell, its shape (1 ww, 2 wr, 3 rw) and its mark (1 open, 0 covered).
 pub struct Pair {

@@ -18,7 +18,7 @@ use Rattle.order.specs.Clocks.{chainOf}
 use Rattle.order.specs.HappensBefore.{rank, traceLinks}
 use Rattle.order.specs.Fill.{eventsIn, shortRow}
 use Rattle.order.specs.Compared.{compared}
-use Rattle.question.specs.ChainPass.{PassesChains}
+use Rattle.question.specs.loops.ChainPass.{PassesChains}
 use Rattle.trace.specs.Reply.{refused, gives, demand}
 use Rattle.order.specs.Lent.{spaces, enoughChains}
 use Rattle.question.specs.Question.{bothBegin, relatedIn, orderTrace}

@@ -14,7 +14,7 @@ use Rattle.ranks.specs.Said.{Op, link, begin, other}
 use Rattle.order.specs.Schedule.{begins, Stands, Ordered, Makes}
 use Rattle.slices.specs.Slices.{zeros}
 use Rattle.slices.proofs.Cleared.{zeros-length, zeros-at}
-use Rattle.question.specs.Marking.{markBy, marksDown, marked, markIn, marksDownIn, marksIn}
+use Rattle.question.specs.loops.Marking.{markBy, marksDown, marked, markIn, marksDownIn, marksIn}
 use Rattle.slices.proofs.Tests.{decide-eq, decide-lt}
 use Rattle.order.proofs.ScheduleLaws.{begins-mono}
 use Rattle.question.proofs.MarkLaws.{marks-begin}

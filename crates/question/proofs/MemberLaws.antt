@@ -22,13 +22,13 @@ use Rattle.order.specs.Clocks.{table, chainOf}
 use Rattle.order.specs.Schedule.{begins}
 use Rattle.slices.specs.Slices.{zeros}
 use Rattle.slices.proofs.Cleared.{zeros-at}
-use Rattle.question.specs.Marking.{marked, marksIn, marksDownIn, markIn}
+use Rattle.question.specs.loops.Marking.{marked, marksIn, marksDownIn, markIn}
 use Rattle.ranks.specs.Said.{Op, link, begin, other}
 use Rattle.order.specs.HappensBefore.{opAt, traceLinks}
 use Rattle.ranks.specs.Ranks.{ranksOf}
 use Rattle.order.specs.Fill.{eventsIn, shortRow, chainTable}
-use Rattle.order.specs.PassEnds.{Short}
-use Rattle.question.specs.ChainPass.{Members, markedChain, ownChain, enterChain, saidBy, turnMembers, RoomFor, AreMembers, ReadyChains, PassesChains}
+use Rattle.order.specs.loops.PassEnds.{Short}
+use Rattle.question.specs.loops.ChainPass.{Members, markedChain, ownChain, enterChain, saidBy, turnMembers, RoomFor, AreMembers, ReadyChains, PassesChains}
 use Rattle.order.proofs.CountLaws.{firstFrom-local}
 use Rattle.order.proofs.ChainLaws.{chain-search, chain-le-used, used-zero, used-suc, last-own, last-other, needs-at, needs-none}
 use Rattle.order.proofs.ScheduleLaws.{begins-zero, begins-suc, begins-mono, links-made}

@@ -1,3 +1,2 @@
-pub mod Marking
-pub mod ChainPass
 pub mod Question
+pub mod loops

@@ -11,8 +11,8 @@ ghost use mathlib.Core.Path.{_≡_};
 ghost use Prim.Native.Nat.{_≤_, _<_};
 ghost use lib.ListN.{length};
 ghost use Rattle.records.specs.Bytes.{decode};
-ghost use Rattle.question.specs.Marking.{marked, markIn, marksIn};
-ghost use Rattle.question.specs.ChainPass.{markedChain, ownChain, enterChain, saidBy, turnMembers, RoomFor, AreMembers, ReadyChains, PassesChains};
+ghost use Rattle.question.specs.loops.Marking.{marked, markIn, marksIn};
+ghost use Rattle.question.specs.loops.ChainPass.{markedChain, ownChain, enterChain, saidBy, turnMembers, RoomFor, AreMembers, ReadyChains, PassesChains};
 
 fn is_marked(marks: &[u8], row: usize) -> bool
     ensures { λ r. ⌜ r ≡ marked (now (marks .entry)) row ⌝ }

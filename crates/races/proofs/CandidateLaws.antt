@@ -26,12 +26,12 @@ use Rattle.coverage.specs.Race.{raceb}
 use Rattle.coverage.specs.Neighbours.{conflicts}
 use Rattle.slices.proofs.Tests.{decide, both, and, either, or-left, or-right, eq→eqb}
 use Rattle.races.specs.Traces.{isAccess, cellsOf, settingOf}
-use Rattle.races.specs.Candidates.{cell, accesses, writes, startOf, Upto, lastWrite, Seen, Tables, orderedIn, seenAfter, wayFrom}
+use Rattle.races.specs.loops.Candidates.{cell, accesses, writes, startOf, Upto, lastWrite, Seen, Tables, orderedIn, seenAfter, wayFrom}
 use Rattle.records.specs.Search.{leastKind, mayRace, Past, NextAccess}
 use Rattle.clocks.specs.WayRound.{relateIn, saysBefore}
 use Rattle.order.specs.HappensBefore.{rank, happensBefore}
 use Rattle.order.proofs.TraceOrder.{counted, counted-zero, counted-begin, counted-other, ranked, record-begins, begins-rank}
-use Rattle.races.specs.Filled.{Filled, BothIn}
+use Rattle.races.specs.loops.Filled.{Filled, BothIn}
 use Rattle.races.proofs.FilledLaws.{before-told, rows-both}
 use Rattle.races.proofs.Instance.{laws, access-kind}
 

@@ -22,8 +22,8 @@ use Rattle.order.proofs.FlatLaws.{mergeInto, into-own, into-other, merged-row}
 use Rattle.order.proofs.RankLaws.{ranks-are}
 use Rattle.races.specs.Traces.{settingOf}
 use Rattle.races.specs.Lists.{shapeOf, markOf}
-use Rattle.races.specs.Marking.{first}
-use Rattle.races.specs.Raising.{rowIn, raiseBy, raiseDown}
+use Rattle.races.specs.loops.Marking.{first}
+use Rattle.races.specs.loops.Raising.{rowIn, raiseBy, raiseDown}
 use Rattle.races.proofs.Instance.{laws}
 use Rattle.races.proofs.CoverNumbers.{events, nameOf, number, numbered, in-order, number-name}
 use Rattle.races.proofs.RaisedRows.{final, final-short, name-of}

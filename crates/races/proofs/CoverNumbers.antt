@@ -17,7 +17,7 @@ use Rattle.coverage.specs.Below.{Listed, upto}
 use Rattle.coverage.specs.Race.{Race, raceb}
 use Rattle.coverage.specs.Neighbours.{neighbour}
 use Rattle.coverage.specs.Lists.{shortList}
-use Rattle.coverage.specs.Whole.{Edges, Direct, taken}
+use Rattle.coverage.specs.loops.Whole.{Edges, Direct, taken}
 use Rattle.slices.proofs.Tests.{both, and}
 use Rattle.coverage.proofs.Lists.{in-map, map-in, in-upto, upto-in}
 use Rattle.coverage.proofs.Order.{race-of, of-race}
@@ -28,8 +28,8 @@ use Rattle.coverage.proofs.WholeEdges.{taken-test-edges}
 use Rattle.order.specs.Links.{leq}
 use Rattle.order.specs.Clocks.{chainOf, entry}
 use Rattle.order.specs.HappensBefore.{Link, rank, traceLinks, happensBefore}
-use Rattle.order.specs.Numbering.{Numbered, InOrder, Preds, Firsts, clockRow, coverRow}
-use Rattle.order.specs.Raising.{rowAfter, rowBefore, startOf, Seconds, recordsFrom}
+use Rattle.order.specs.loops.Numbering.{Numbered, InOrder, Preds, Firsts, clockRow, coverRow}
+use Rattle.order.specs.loops.Raising.{rowAfter, rowBefore, startOf, Seconds, recordsFrom}
 use Rattle.order.proofs.OrderLaws.{≼→leq, leq→≼}
 use Rattle.order.proofs.ClockLaws.{chain-≼, clock}
 use Rattle.order.proofs.SetLaws.{row-same, row-count}

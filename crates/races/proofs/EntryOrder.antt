@@ -12,7 +12,7 @@ use Rattle.trace.specs.Reading.{Acceptable}
 use Rattle.coverage.specs.Below.{Listed, Sooner, Ordered}
 use Rattle.coverage.specs.Race.{Race, raceb}
 use Rattle.coverage.specs.Neighbours.{neighbour}
-use Rattle.coverage.specs.Whole.{Edges, taken}
+use Rattle.coverage.specs.loops.Whole.{Edges, taken}
 use Rattle.slices.proofs.Tests.{both, and}
 use Rattle.coverage.proofs.Order.{race-of, of-race}
 use Rattle.coverage.proofs.Short.{neighbour-iff}

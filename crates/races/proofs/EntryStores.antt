@@ -16,10 +16,10 @@ use Rattle.coverage.specs.Race.{raceb}
 use Rattle.ranks.specs.Ranks.{ranksOf}
 use Rattle.order.proofs.TraceOrder.{counted}
 use Rattle.races.specs.Traces.{isAccess, settingOf}
-use Rattle.races.specs.Filled.{Filled}
+use Rattle.races.specs.loops.Filled.{Filled}
 use Rattle.races.specs.Lists.{shapeOf}
-use Rattle.races.specs.Candidates.{cell, Upto, Seen, Tables, orderedIn, seenAfter, wayFrom, wayTo, Range}
-use Rattle.races.specs.ListPass.{fromOf, firsts, withSecond, pairsBelow, raw, raws, entryIf, Second, OneWrites, RoomIf, Writes, WritesAll, Ranges}
+use Rattle.races.specs.loops.Candidates.{cell, Upto, Seen, Tables, orderedIn, seenAfter, wayFrom, wayTo, Range}
+use Rattle.races.specs.loops.ListPass.{fromOf, firsts, withSecond, pairsBelow, raw, raws, entryIf, Second, OneWrites, RoomIf, Writes, WritesAll, Ranges}
 use Rattle.races.proofs.CandidateLaws.{racing, cell-low, access-rank, tables-next, seen-after, ordered-upto}
 use Rattle.races.proofs.ListLaws.{firsts-start, firsts-yes, firsts-no, firsts-grow, firsts-skip, firsts-empty, firsts-length, below-none, below-more, below-length, quiet, way-found}
 

@@ -32,7 +32,7 @@ use Rattle.coverage.specs.Race.{before, raceb}
 use Rattle.coverage.specs.Neighbours.{conflicts}
 use Rattle.races.specs.Traces.{cellsOf, settingOf, conflict, clash}
 use Rattle.slices.proofs.Tests.{eq→eqb}
-use Rattle.races.specs.Filled.{Filled, RowsIn, BothIn}
+use Rattle.races.specs.loops.Filled.{Filled, RowsIn, BothIn}
 
 module _ {tr : List Record} {ranks of : List ℕ} {width : ℕ} {clocks : List ℕ} (f : Filled tr ranks of width clocks) where
   abbrev ev : ℕ → ℕ

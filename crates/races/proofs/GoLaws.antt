@@ -8,8 +8,8 @@ use native.Mathlib.Omega.{arith}
 use lib.ListN.{length, getD}
 use Rattle.records.specs.declared.Record.{Record}
 use Rattle.ranks.specs.Said.{Op}
-use Rattle.order.specs.Walk.{Walked, stops, mergedBy, walkOn, walk, opBy, walkFrom}
-use Rattle.races.specs.Raising.{Place, onward, goes, MayGo, Went}
+use Rattle.order.specs.loops.Walk.{Walked, stops, mergedBy, walkOn, walk, opBy, walkFrom}
+use Rattle.races.specs.loops.Raising.{Place, onward, goes, MayGo, Went}
 
 -- the walk ends no later than the records
 walk-position : (op : ℕ → Op) (w chains k i : ℕ) (cs : List ℕ) → walk op w chains k i cs .position ≤ i + k

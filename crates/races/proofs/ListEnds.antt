@@ -30,10 +30,10 @@ use Rattle.races.specs.declared.Listing.{Listing}
 use Rattle.races.specs.declared.Summary.{Summary}
 use Rattle.races.specs.Lists.{pairsOf, numbers, listFilled, listReady, listReply, listAfter}
 use Rattle.races.specs.Paper.{listPaper, Lists, ListsFilled}
-use Rattle.races.specs.ListPass.{pairsBelow, raws, WritesAll, Ample, Counts, ListsAll}
-use Rattle.races.specs.Raising.{Unmarked, MarksList}
+use Rattle.races.specs.loops.ListPass.{pairsBelow, raws, WritesAll, Ample, Counts, ListsAll}
+use Rattle.races.specs.loops.Raising.{Unmarked, MarksList}
 use Rattle.races.proofs.EntryStores.{raws-length}
-use Rattle.races.specs.Filled.{Filled}
+use Rattle.races.specs.loops.Filled.{Filled}
 use Rattle.races.specs.Traces.{cellsOf, settingOf}
 use Rattle.coverage.proofs.Total.{short-total}
 use Rattle.races.proofs.ListLaws.{pairs-below, below-few}

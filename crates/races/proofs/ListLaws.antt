@@ -25,10 +25,10 @@ use Rattle.coverage.proofs.Below.{found, find}
 use Rattle.coverage.proofs.Lists.{upto-ext, upto-zero, upto-yes, upto-no, upto-empty}
 use Rattle.races.specs.Traces.{isAccess, cellsOf, settingOf, conflict}
 use Rattle.races.specs.Lists.{pairsOf}
-use Rattle.races.specs.Candidates.{cell, accesses, writes, Upto, lastWrite, wayFrom, wayTo}
+use Rattle.races.specs.loops.Candidates.{cell, accesses, writes, Upto, lastWrite, wayFrom, wayTo}
 use Rattle.records.specs.Search.{leastKind, mayRace}
-use Rattle.races.specs.ListPass.{fromOf, firsts, withSecond, pairsBelow, Ranges, OneRoom}
-use Rattle.races.specs.Filled.{BothIn}
+use Rattle.races.specs.loops.ListPass.{fromOf, firsts, withSecond, pairsBelow, Ranges, OneRoom}
+use Rattle.races.specs.loops.Filled.{BothIn}
 use Rattle.coverage.proofs.Order.{race-of, race-not-le}
 use Rattle.clocks.specs.WayRound.{relateIn, saysUnordered}
 use Rattle.order.specs.HappensBefore.{rank, happensBefore}

@@ -22,11 +22,11 @@ use Rattle.order.proofs.RankLaws.{ranks-are}
 use Rattle.order.proofs.RowLaws.{flat-length, place}
 use Rattle.order.proofs.FlatLaws.{flat-read}
 use Rattle.order.proofs.TableLaws.{events-few}
-use Rattle.races.specs.Filled.{Filled, RowsIn}
+use Rattle.races.specs.loops.Filled.{Filled, RowsIn}
 use Rattle.races.specs.Traces.{settingOf}
 use Rattle.races.specs.Lists.{markOf}
-use Rattle.races.specs.Marking.{first, second, Remarked}
-use Rattle.races.specs.Raising.{Unmarked, rowIn, markIn, Markable, MarksSecond, raiseDown, Place, MayGo, Went}
+use Rattle.races.specs.loops.Marking.{first, second, Remarked}
+use Rattle.races.specs.loops.Raising.{Unmarked, rowIn, markIn, Markable, MarksSecond, raiseDown, Place, MayGo, Went}
 use Rattle.races.proofs.CoverNumbers.{events, number, number-name}
 use Rattle.races.proofs.FilledLaws.{of-length}
 use Rattle.races.proofs.MarkingLaws.{remarked-none, remarked-on}

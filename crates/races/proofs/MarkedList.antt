@@ -15,9 +15,9 @@ use Rattle.coverage.specs.Leading.{coveredb}
 use Rattle.slices.proofs.Tests.{decide-eq, passed}
 use Rattle.races.specs.Traces.{settingOf}
 use Rattle.races.specs.Lists.{pairsOf, shapeOf, markOf, numbers}
-use Rattle.races.specs.ListPass.{pairsBelow, raw, raws, WritesAll}
-use Rattle.races.specs.Marking.{first, second, markTo, Remarked}
-use Rattle.races.specs.Raising.{Unmarked, MarksList}
+use Rattle.races.specs.loops.ListPass.{pairsBelow, raw, raws, WritesAll}
+use Rattle.races.specs.loops.Marking.{first, second, markTo, Remarked}
+use Rattle.races.specs.loops.Raising.{Unmarked, MarksList}
 use Rattle.races.proofs.ListLaws.{pairs-below}
 use Rattle.races.proofs.EntryStores.{raws-length}
 use Rattle.races.proofs.DemandLaws.{numbers-length}

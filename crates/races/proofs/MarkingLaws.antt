@@ -10,8 +10,8 @@ use lib.Seq.{sets, sets-eq, getD-set-other}
 use Rattle.records.specs.declared.Record.{Record}
 use Rattle.records.specs.Records.{at}
 use Rattle.races.specs.Lists.{shapeOf, markOf, entry, numbers}
-use Rattle.races.specs.ListPass.{firsts, raw, raws}
-use Rattle.races.specs.Marking.{first, second, markTo, Remarked}
+use Rattle.races.specs.loops.ListPass.{firsts, raw, raws}
+use Rattle.races.specs.loops.Marking.{first, second, markTo, Remarked}
 use Rattle.races.proofs.EntryStores.{raws-length}
 use Rattle.races.proofs.DemandLaws.{numbers-length}
 

@@ -13,13 +13,13 @@ use Rattle.records.specs.Records.{at, isWrite}
 use Rattle.trace.specs.Reading.{Acceptable}
 use Rattle.coverage.specs.Below.{some, Sooner}
 use Rattle.coverage.specs.Leading.{coveredb}
-use Rattle.coverage.specs.Whole.{taken}
+use Rattle.coverage.specs.loops.Whole.{taken}
 use Rattle.slices.proofs.Tests.{both, and, decide-eq, decide-lt}
 use Rattle.coverage.proofs.Below.{found, find}
 use Rattle.order.specs.Links.{_∈_}
 use Rattle.order.specs.Clocks.{chainOf}
 use Rattle.order.specs.HappensBefore.{traceLinks}
-use Rattle.order.specs.Numbering.{Firsts}
+use Rattle.order.specs.loops.Numbering.{Firsts}
 use Rattle.order.proofs.CoverRows.{race-earlier}
 use Rattle.races.specs.Traces.{cellsOf, settingOf}
 use Rattle.races.specs.Lists.{pairsOf}

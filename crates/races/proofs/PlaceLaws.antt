@@ -16,14 +16,14 @@ use Rattle.order.specs.Clocks.{chainOf, entry, flat, clocksOf}
 use Rattle.order.specs.Fill.{eventsIn, shortRow, chainTable, traceClocks}
 use Rattle.order.specs.Schedule.{begins}
 use Rattle.order.specs.HappensBefore.{opAt, traceLinks}
-use Rattle.order.specs.Walk.{walkFrom}
+use Rattle.order.specs.loops.Walk.{walkFrom}
 use Rattle.order.proofs.ChainLaws.{used-zero, used-suc, used-mono, chain-le-used, chain-below, needs-none}
 use Rattle.order.proofs.ScheduleLaws.{begins-zero, begins-suc, begins-mono, begin-next}
 use Rattle.order.proofs.TraceOrder.{ops-begins, ops-ordered, first-begins}
 use Rattle.order.proofs.TableLaws.{chain-at}
 use Rattle.order.proofs.WalkLaws.{Along, along-start, Arrives}
-use Rattle.races.specs.Filled.{Filled}
-use Rattle.races.specs.Raising.{Place, onward, goes}
+use Rattle.races.specs.loops.Filled.{Filled}
+use Rattle.races.specs.loops.Raising.{Place, onward, goes}
 use Rattle.races.proofs.CoverNumbers.{events}
 use Rattle.races.proofs.RaisedRows.{final, final-short}
 use Rattle.races.proofs.EntryOrder.{edge, list-edges}

@@ -20,7 +20,7 @@ use Rattle.order.proofs.SpaceLaws.{cleared as cleared-zeros}
 use Rattle.order.proofs.LentLaws.{Fits, fits}
 use Rattle.order.proofs.FilledTrace.{events-of}
 use Rattle.order.proofs.PrepareLaws.{none-ready, is-ready, prepared}
-use Rattle.races.specs.Filled.{Filled, Clear}
+use Rattle.races.specs.loops.Filled.{Filled, Clear}
 
 module _ (work : List ℕ) (found : Reply Trace) {b : List ℕ} {w : ℕ} {cs cs′ of all all′ : List ℕ} {f : Filling} {t : Trace}
     (p : Prepares b (spaced found w (length cs) (workFor (length work))) w cs cs′ of all all′ f t) where

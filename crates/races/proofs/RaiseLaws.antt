@@ -9,8 +9,8 @@ use borrow.Author.Tests.{eq-eqb, ne-eqb}
 use lib.ListN.{getD}
 use Rattle.records.specs.declared.Record.{Record}
 use Rattle.clocks.specs.Rows.{mergeRow}
-use Rattle.races.specs.Marking.{first}
-use Rattle.races.specs.Raising.{rowIn, raiseBy, raiseDown}
+use Rattle.races.specs.loops.Marking.{first}
+use Rattle.races.specs.loops.Raising.{rowIn, raiseBy, raiseDown}
 
 module _ (tr : List Record) (ranks : List ℕ) (w chains u : ℕ) (list : List ℕ) where
   pub raise-open : (j : ℕ) (cs : List ℕ) → getD list (5 * j + 4) 0 ≡ 1 → (t : ℕ) → t ≡ rowIn tr ranks (first list j - 1) → mergeRow w chains t u cs ≡ raiseBy tr ranks w chains u list j cs

@@ -12,13 +12,13 @@ use Rattle.records.specs.declared.Record.{Record}
 use Rattle.records.specs.Records.{at}
 use Rattle.trace.specs.Reading.{Acceptable}
 use Rattle.trace.proofs.Blocks.{apart}
-use Rattle.coverage.specs.Whole.{Edges}
+use Rattle.coverage.specs.loops.Whole.{Edges}
 use Rattle.order.specs.Links.{leq}
 use Rattle.order.specs.Chains.{bit, used}
-use Rattle.order.specs.Sets.{isIn}
+use Rattle.order.specs.loops.Sets.{isIn}
 use Rattle.order.specs.Clocks.{chainOf, entry, largest}
 use Rattle.order.specs.HappensBefore.{Link, rank, traceLinks}
-use Rattle.order.specs.Numbering.{Firsts, wholeOf, coverRow, coverRowAt}
+use Rattle.order.specs.loops.Numbering.{Firsts, wholeOf, coverRow, coverRowAt}
 use Rattle.order.proofs.CountLaws.{count-none}
 use Rattle.order.proofs.ChainLaws.{chain-below, used-le-self}
 use Rattle.order.proofs.SetLaws.{row-count}

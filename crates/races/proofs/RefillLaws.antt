@@ -20,19 +20,19 @@ use Rattle.order.specs.Clocks.{chainOf, entry, largest, table, flat, clocksOf}
 use Rattle.order.specs.Fill.{eventsIn, chainTable, traceClocks}
 use Rattle.order.specs.Schedule.{begins}
 use Rattle.order.specs.HappensBefore.{opAt, traceLinks}
-use Rattle.order.specs.Walk.{Walked, walkFrom}
+use Rattle.order.specs.loops.Walk.{Walked, walkFrom}
 use Rattle.order.proofs.SetLaws.{largest-le}
 use Rattle.order.proofs.ChainLaws.{used-zero, used-suc, used-mono, used-le-self}
 use Rattle.order.proofs.ClockLaws.{entry-law, entry-zero, entry-le}
 use Rattle.order.proofs.RowLaws.{table-length, flat-length, flat-same, flat-zero, place, clocks-length}
-use Rattle.order.specs.Pass.{tick}
+use Rattle.order.specs.loops.Pass.{tick}
 use Rattle.order.proofs.FlatLaws.{addAt, add-own, add-other, flat-read, ticked-row}
 use Rattle.order.proofs.ScheduleLaws.{begins-zero, begins-suc, begins-mono, links-made}
 use Rattle.order.proofs.TraceOrder.{ops-ordered, forward-links, first-begins}
 use Rattle.order.proofs.TableLaws.{events-few}
 use Rattle.order.proofs.WalkLaws.{Along, along-start, along-begin, along-merged, Arrives}
-use Rattle.races.specs.Filled.{Filled}
-use Rattle.races.specs.Refilling.{Refillable}
+use Rattle.races.specs.loops.Filled.{Filled}
+use Rattle.races.specs.loops.Refilling.{Refillable}
 use Rattle.races.proofs.PlaceLaws.{events-in, events-are, chain-place}
 use Rattle.races.proofs.TraceWalk.{trace-walk}
 

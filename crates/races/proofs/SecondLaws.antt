@@ -9,9 +9,9 @@ use lib.ListN.{length, set}
 use Rattle.records.specs.declared.Record.{Record}
 use Rattle.slices.proofs.Tests.{decide-eq}
 use Rattle.races.specs.Lists.{markOf}
-use Rattle.races.specs.Filled.{RowsIn}
-use Rattle.races.specs.Marking.{first, second, Remarked}
-use Rattle.races.specs.Raising.{rowIn, markIn, Markable, MarksSecond}
+use Rattle.races.specs.loops.Filled.{RowsIn}
+use Rattle.races.specs.loops.Marking.{first, second, Remarked}
+use Rattle.races.specs.loops.Raising.{rowIn, markIn, Markable, MarksSecond}
 use Rattle.races.proofs.MarkingLaws.{remarked-none, remarked-on, remarked-one}
 
 -- those from k on, before e, are marked

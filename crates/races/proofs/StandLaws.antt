@@ -14,9 +14,9 @@ use Rattle.trace.specs.Reading.{Acceptable}
 use Rattle.ranks.specs.Said.{begin}
 use Rattle.coverage.specs.Race.{Race}
 use Rattle.coverage.specs.Leading.{coveredb}
-use Rattle.coverage.specs.Whole.{Edges}
+use Rattle.coverage.specs.loops.Whole.{Edges}
 use Rattle.slices.proofs.Tests.{decide-eq, same as equal-tests}
-use Rattle.order.specs.Sets.{index}
+use Rattle.order.specs.loops.Sets.{index}
 use Rattle.order.specs.Schedule.{linked}
 use Rattle.order.specs.Clocks.{chainOf, entry, largest}
 use Rattle.order.specs.HappensBefore.{opAt, traceLinks}

@@ -14,7 +14,7 @@ use Rattle.ranks.specs.Said.{opOf}
 use Rattle.order.specs.Clocks.{flat}
 use Rattle.order.specs.Schedule.{begins}
 use Rattle.order.specs.HappensBefore.{opAt}
-use Rattle.order.specs.Walk.{walkFrom, opBy}
+use Rattle.order.specs.loops.Walk.{walkFrom, opBy}
 use Rattle.order.proofs.TraceOrder.{ops-ordered, link-target}
 use Rattle.order.proofs.RankLaws.{ops-are}
 use Rattle.order.proofs.WalkLaws.{Along, Arrives, ZeroPast, walked}

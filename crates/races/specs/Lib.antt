@@ -1,10 +1,5 @@
 pub mod Traces
-pub mod Filled
 pub mod Lists
 pub mod Paper
-pub mod Candidates
-pub mod ListPass
-pub mod Marking
 pub mod Demand
-pub mod Raising
-pub mod Refilling
+pub mod loops

@@ -9,10 +9,10 @@ ghost use Prim.Native.Nat.{_+_, _-_, _≤_, _<_};
 ghost use lib.Dec.{eqb};
 ghost use lib.ListN.{length, set};
 ghost use Rattle.records.specs.Bytes.{decode};
-ghost use Rattle.races.specs.Filled.{BothIn};
+ghost use Rattle.races.specs.loops.Filled.{BothIn};
 ghost use Rattle.ranks.specs.Ranks.{ranksOf};
-ghost use Rattle.races.specs.Candidates.{orderedIn, seenAfter, wayFrom, wayTo, Tables};
-ghost use Rattle.races.specs.ListPass.{Second, Ranges};
+ghost use Rattle.races.specs.loops.Candidates.{orderedIn, seenAfter, wayFrom, wayTo, Tables};
+ghost use Rattle.races.specs.loops.ListPass.{Second, Ranges};
 ghost use Rattle.records.specs.Search.{leastKind, mayRace, NextAccess};
 
 // By the number of a cell: do all its accesses from the start on happen before row u, or belong to it? It is 0 where there are none, and above 1,024

@@ -27,9 +27,9 @@ ghost use Rattle.order.specs.Fill.{eventsIn, chainsUsed};
 ghost use Rattle.trace.specs.Reply.{Reply};
 ghost use Rattle.races.specs.Lists.{entryNumbers, shapeOf};
 ghost use Rattle.races.specs.Paper.{listPaper, ListsFilled, Lists};
-ghost use Rattle.races.specs.ListPass.{pairsBelow, raw, Second, OneRoom, OneWrites, RoomIf, Writes, WritesAll, Ample, Counts, ListsAll};
-ghost use Rattle.races.specs.Candidates.{Range};
-ghost use Rattle.races.specs.Filled.{Filled};
+ghost use Rattle.races.specs.loops.ListPass.{pairsBelow, raw, Second, OneRoom, OneWrites, RoomIf, Writes, WritesAll, Ample, Counts, ListsAll};
+ghost use Rattle.races.specs.loops.Candidates.{Range};
+ghost use Rattle.races.specs.loops.Filled.{Filled};
 
 // 1 for ww, 2 for wr, 3 for rw.
 fn shape_of(recs: &[u8], a: usize, b: usize) -> u16

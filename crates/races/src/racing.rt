@@ -5,7 +5,7 @@ ghost use mathlib.Core.Path.{_≡_};
 ghost use lib.ListN.{getD};
 ghost use Rattle.clocks.specs.Rows.{compareIn};
 ghost use Rattle.clocks.specs.WayRound.{relationPaper, relateIn};
-ghost use Rattle.races.specs.Filled.{RowsIn, BothIn};
+ghost use Rattle.races.specs.loops.Filled.{RowsIn, BothIn};
 
 // Whether row t's own entry, at its chain, is at most row u's, as the rows stand.
 pub(crate) fn comes_before(of: &[u16], width: usize, clocks: &[u16], t: usize, u: usize) -> bool

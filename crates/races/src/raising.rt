@@ -11,10 +11,10 @@ ghost use Prim.Native.Nat.{ℕ, _+_, _*_, _-_, _≤_, _<_, max};
 ghost use lib.ListN.{length, getD};
 ghost use Rattle.records.specs.Bytes.{decode};
 ghost use Rattle.order.specs.Fill.{eventsIn};
-ghost use Rattle.races.specs.Filled.{Filled, RowsIn};
+ghost use Rattle.races.specs.loops.Filled.{Filled, RowsIn};
 ghost use Rattle.races.specs.Lists.{entryNumbers};
-ghost use Rattle.races.specs.Marking.{first};
-ghost use Rattle.races.specs.Raising.{Unmarked, MarksList, markIn, Markable, MarksSecond, raiseBy, raiseDown, MayGo, Went, MarksAll};
+ghost use Rattle.races.specs.loops.Marking.{first};
+ghost use Rattle.races.specs.loops.Raising.{Unmarked, MarksList, markIn, Markable, MarksSecond, raiseBy, raiseDown, MayGo, Went, MarksAll};
 
 // 0 where row t leads to row u as it stands, else 1.
 fn mark_of(of: &[u16], width: usize, clocks: &[u16], t: usize, u: usize) -> u16

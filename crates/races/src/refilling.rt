@@ -9,8 +9,8 @@ ghost use Prim.Native.Nat.{_+_, _*_, _≤_, _<_};
 ghost use lib.ListN.{length, getD, drop};
 ghost use Rattle.records.specs.Bytes.{decode};
 ghost use Rattle.order.specs.Fill.{eventsIn, traceClocks};
-ghost use Rattle.order.specs.Pass.{tick};
-ghost use Rattle.races.specs.Refilling.{Refillable};
+ghost use Rattle.order.specs.loops.Pass.{tick};
+ghost use Rattle.races.specs.loops.Refilling.{Refillable};
 
 // One more at entry c of row u.
 fn add_to_row(clocks: &mut [u16], width: usize, u: usize, c: usize)

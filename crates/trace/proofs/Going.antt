@@ -16,8 +16,8 @@ use Rattle.records.specs.Records.{noRecord, at, past, begins}
 use Rattle.slices.specs.Slices.{zeros}
 use Rattle.trace.specs.Place.{between, inside, place}
 use Rattle.trace.specs.Rule.{situation, owner, numbered, wellFormed, misplaced, again, early, judge, rule}
-use Rattle.trace.specs.Status.{hasBegun, hasEnded, noted}
-use Rattle.trace.specs.Inner.{Inner, Accesses, none, more}
+use Rattle.trace.specs.loops.Status.{hasBegun, hasEnded, noted}
+use Rattle.trace.specs.loops.Inner.{Inner, Accesses, none, more}
 use Rattle.trace.specs.Reply.{refused, gives, demand, orElse}
 use Rattle.trace.specs.Reading.{closing, walk}
 use Rattle.trace.proofs.ReplyLaws.{stops}

@@ -14,7 +14,7 @@ use lib.Seq.{getD-set-same, getD-set-other}
 use Rattle.records.specs.declared.Record.{Record}
 use Rattle.records.specs.Records.{isBegin, isEnd, has, begun, ended}
 use Rattle.slices.specs.Slices.{zeros}
-use Rattle.trace.specs.Status.{hasBegun, hasEnded, noted}
+use Rattle.trace.specs.loops.Status.{hasBegun, hasEnded, noted}
 
 pub record Tracks (m : List ℕ) (before : List Record) : Type 0 where
   pub size : length m ≡ 1025

@@ -3,7 +3,7 @@ use slices::bytes::get;
 use slices::bytes::put;
 ghost use mathlib.Core.Path.{_≡_};
 ghost use lib.ListN.{set};
-ghost use Rattle.trace.specs.Status.{hasBegun, hasEnded};
+ghost use Rattle.trace.specs.loops.Status.{hasBegun, hasEnded};
 
 pub(crate) const BEGUN: u8 = 1;
 

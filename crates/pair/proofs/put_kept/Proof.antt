@@ -8,7 +8,7 @@ use mathlib.Core.Path.{sym, ap, _∙_}
 use lib.ListN.{length, length-set}
 use Rattle.records.specs.Bytes.{decode}
 use Rattle.ranks.specs.Ranks.{ranksOf}
-use Rattle.pair.specs.Leading.{Marks}
+use Rattle.pair.specs.loops.Leading.{Marks}
 use Rattle.pair.proofs.KeptEntries.{Ends, ends-start, ends-long, ends-row, ends-room, ends-next, ends-pass, ends-last-room, ends-last}
 use Rattle.pair.proofs.put_kept.Statement.{statement}
 use Rattle.pair.proofs.put_kept.Tie as tie

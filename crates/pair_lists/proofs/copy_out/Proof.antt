@@ -48,7 +48,7 @@ use denote.Triple.Walked.{says, needs, Stays, stay-none, stay-slice, stay-none-s
 use denote.Exit.{yes}
 use denote.Signature.{plain}
 use Rattle.pair_lists.specs.declared.Pair.{Pair}
-use Rattle.pair_lists.specs.Copying.{pairAt, puts}
+use Rattle.pair_lists.specs.loops.Copying.{pairAt, puts}
 use Rattle.pair_lists.proofs.Pair as T
 use Rattle.pair_lists.proofs.Pair.Laws as T′
 use Rattle.pair_lists.proofs.Parts.{after}

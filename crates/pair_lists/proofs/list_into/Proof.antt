@@ -47,7 +47,7 @@ use Rattle.races.proofs.Listing.Laws as An′
 use Rattle.pair_lists.specs.declared.Pair.{Pair}
 use Rattle.pair_lists.specs.declared.Made.{Made}
 use Rattle.pair_lists.specs.Pairs.{PairLists}
-use Rattle.pair_lists.specs.Copying.{puts, Within}
+use Rattle.pair_lists.specs.loops.Copying.{puts, Within}
 use Rattle.pair_lists.proofs.Pair as T
 use Rattle.pair_lists.proofs.Made as Md
 use Rattle.pair_lists.proofs.Made.Laws as Md′

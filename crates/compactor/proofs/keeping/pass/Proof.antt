@@ -10,7 +10,7 @@ use lib.ListN.{length}
 use denote.Ref.{now}
 use Rattle.records.specs.Bytes.{decode}
 use Rattle.compactor.specs.SlimTrace.{kept}
-use Rattle.compactor.specs.Keeping.{Stamps}
+use Rattle.compactor.specs.loops.Keeping.{Stamps}
 use Rattle.compactor.proofs.KeepLaws.{Written, stamps-start, not-kept, is-kept, few-kept, written-start, written-dropped, written-kept, written-room, written-long, written-end}
 use Rattle.compactor.proofs.keeping.pass.Statement.{statement}
 use Rattle.compactor.proofs.keeping.pass.Tie as tie

@@ -7,7 +7,7 @@ use borrow.Author.Needs.{needs}
 use denote.Ref.{now}
 use lib.ListN.{length}
 use Rattle.records.specs.Bytes.{decode}
-use Rattle.order.specs.Walk.{fillWalk, opBy}
+use Rattle.order.specs.loops.Walk.{fillWalk, opBy}
 use Rattle.order.proofs.HintLaws.{fill-skips, fill-over, fill-stop, fill-next}
 use Rattle.order.proofs.linking.pass_links.Statement.{statement}
 use Rattle.order.proofs.linking.pass_links.Tie as tie

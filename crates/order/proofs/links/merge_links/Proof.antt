@@ -6,7 +6,7 @@ use native.Mathlib.Omega.{arith}
 use borrow.Author.Needs.{needs}
 use lib.ListN.{length}
 use Rattle.records.specs.Bytes.{decode}
-use Rattle.order.specs.Walk.{walk, opBy, walkFrom}
+use Rattle.order.specs.loops.Walk.{walk, opBy, walkFrom}
 use Rattle.order.proofs.WalkLaws.{walk-skips, walk-over, walk-stop, walk-next}
 use Rattle.order.proofs.links.merge_links.Statement.{statement}
 use Rattle.order.proofs.links.merge_links.Tie as tie

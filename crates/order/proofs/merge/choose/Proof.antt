@@ -7,7 +7,7 @@ use mathlib.Core.Path.{_≡_, sym, _∙_}
 use native.Mathlib.Omega.{arith}
 use native.Mathlib.Nat.{add-assoc}
 use Rattle.order.specs.Chains.{firstFrom}
-use Rattle.order.specs.Pass.{fullAt, chooseIn}
+use Rattle.order.specs.loops.Pass.{fullAt, chooseIn}
 use borrow.Author.Tests.{ne-eqb}
 use Rattle.order.proofs.CountLaws.{first-past}
 use Rattle.order.proofs.merge.choose.Statement.{statement}

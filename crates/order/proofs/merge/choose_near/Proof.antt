@@ -4,7 +4,7 @@ use Prim.Native.Nat.{_-_, _≤_}
 use mathlib.Core.Path.{_≡_, refl, sym, _∙_}
 use native.Mathlib.Omega.{arith}
 use Rattle.order.specs.Chains.{firstFrom}
-use Rattle.order.specs.Pass.{fullAt}
+use Rattle.order.specs.loops.Pass.{fullAt}
 use borrow.Author.Tests.{eq-eqb, ne-eqb}
 use Rattle.order.proofs.CountLaws.{first-hit, first-miss, first-over}
 use Rattle.order.proofs.merge.choose_near.Statement.{statement}

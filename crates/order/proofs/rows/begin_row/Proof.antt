@@ -1,6 +1,6 @@
 -- `order::rows::begin_row` meets its contract.
 -- Assumes nothing.
-use Rattle.order.specs.Pass.{enterRow}
+use Rattle.order.specs.loops.Pass.{enterRow}
 use Rattle.order.proofs.FlatLaws.{part-entry, ticked-part}
 use Rattle.clocks.proofs.RowLaws.{one-more}
 use borrow.Author.Tests.{le-leb, lt-leb}

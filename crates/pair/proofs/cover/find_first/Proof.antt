@@ -7,7 +7,7 @@ use Prim.Native.Nat.{_-_, _<_}
 use mathlib.Core.Path.{sym, ap, _∙_}
 use lib.ListN.{length}
 use Rattle.records.specs.Bytes.{decode}
-use Rattle.races.specs.Filled.{Filled}
+use Rattle.races.specs.loops.Filled.{Filled}
 use Rattle.records.specs.Search.{leastKind}
 use Rattle.races.proofs.FilledLaws.{rank-is}
 use Rattle.pair.proofs.RecordRows.{row-low}

@@ -6,7 +6,7 @@ use native.Mathlib.Omega.{arith}
 use Prim.Native.Nat.{_-_, _≤_, _<_}
 use lib.ListN.{length}
 use Rattle.records.specs.Bytes.{decode}
-use Rattle.pair.specs.PairSearch.{NoRace}
+use Rattle.pair.specs.loops.PairSearch.{NoRace}
 use Rattle.pair.proofs.RecordRows.{row-low}
 use Rattle.pair.proofs.RowMarks.{marks-room}
 use Rattle.pair.proofs.CoverLaws.{row-told, no-race-start, no-race-next, next-found, next-some}

@@ -4,7 +4,7 @@ use Rattle.clocks.specs.WayRound.{saysUnordered, saysBefore}
 use borrow.Author.Tests.{not-true, not-false}
 use mathlib.Core.Path.{refl, sym, ap, _∙_}
 use borrow.Author.Needs.{needs}
-use Rattle.pair.specs.PairSearch.{goesOn}
+use Rattle.pair.specs.loops.PairSearch.{goesOn}
 use Rattle.pair.proofs.cover.leads_on.Statement.{statement}
 use Rattle.pair.proofs.cover.leads_on.Tie as tie
 

@@ -8,7 +8,7 @@ use mathlib.Core.Path.{refl, sym, _∙_}
 use borrow.Author.Tests.{not-true, not-false}
 use Rattle.trace.proofs.Events.{few-events}
 use Rattle.records.specs.Bytes.{decode}
-use Rattle.pair.specs.PairSearch.{Written}
+use Rattle.pair.specs.loops.PairSearch.{Written}
 use Rattle.pair.proofs.CoverLaws.{written-start, written-sought, written-long, written-room, written-on, written-next, written-end, few-rows}
 use Rattle.pair.proofs.cover.put_cover.Statement.{statement}
 use Rattle.pair.proofs.cover.put_cover.Tie as tie

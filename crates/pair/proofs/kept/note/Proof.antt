@@ -7,7 +7,7 @@ use Prim.Native.Nat.{_-_, _≤_}
 use mathlib.Core.Path.{_≡_, _∙_}
 use mathlib.Core.Logic.{⊎-elim}
 use Rattle.records.specs.Bytes.{decode}
-use Rattle.pair.specs.Kept.{Noted}
+use Rattle.pair.specs.loops.Kept.{Noted}
 use Rattle.races.proofs.CandidateLaws.{cell-low}
 use Rattle.pair.proofs.KeptLaws.{kind-high, noted-none, noted-still, noted-next, noted-bytes}
 use Rattle.pair.proofs.kept.note.Statement.{statement}

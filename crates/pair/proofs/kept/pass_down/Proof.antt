@@ -5,8 +5,8 @@ use native.Mathlib.Omega.{arith}
 use Prim.Native.Nat.{_≤_}
 use mathlib.Core.Path.{_≡_}
 use Rattle.records.specs.Bytes.{decode}
-use Rattle.races.specs.Filled.{rows}
-use Rattle.pair.specs.Kept.{Split, Passes}
+use Rattle.races.specs.loops.Filled.{rows}
+use Rattle.pair.specs.loops.Kept.{Split, Passes}
 use Rattle.pair.proofs.RecordRows.{split-some, split-block}
 use Rattle.pair.proofs.KeptSteps.{passes-none, passes-down}
 use Rattle.pair.proofs.kept.pass_down.Statement.{statement}

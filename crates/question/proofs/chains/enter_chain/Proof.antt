@@ -1,6 +1,6 @@
 -- `question::chains::enter_chain` meets its contract.
 -- Assumes nothing.
-use Rattle.question.specs.ChainPass.{enterChain}
+use Rattle.question.specs.loops.ChainPass.{enterChain}
 use borrow.Author.Tests.{le-leb, lt-leb}
 use native.Mathlib.Omega.{arith}
 use mathlib.Core.Path.{refl}

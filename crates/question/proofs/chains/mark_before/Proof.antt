@@ -2,8 +2,8 @@
 -- Assumes nothing.
 use borrow.Author.Needs.{needs}
 use Rattle.question.proofs.MarkListLaws.{marks-down, mark-in-length}
-use Rattle.question.specs.ChainPass.{saidBy}
-use Rattle.question.specs.Marking.{marksDownIn}
+use Rattle.question.specs.loops.ChainPass.{saidBy}
+use Rattle.question.specs.loops.Marking.{marksDownIn}
 use Rattle.records.specs.Bytes.{decode}
 use lib.ListN.{length, set}
 use Rattle.slices.proofs.Cleared.{cleared-whole}

@@ -1,7 +1,7 @@
 -- `question::chains::mark_link` meets its contract.
 -- Assumes nothing.
 use Rattle.ranks.proofs.SaidLaws.{nothing-said, begin-said}
-use Rattle.question.specs.Marking.{markIn}
+use Rattle.question.specs.loops.Marking.{markIn}
 use Rattle.ranks.specs.Ranks.{says}
 use mathlib.Core.Path.{refl, sym, ap, _∙_}
 use borrow.Author.Needs.{needs}

@@ -2,8 +2,8 @@
 -- Assumes nothing.
 use borrow.Author.Needs.{needs}
 use Rattle.order.proofs.CountLaws.{first-hit, first-miss, first-over}
-use Rattle.question.specs.ChainPass.{markedChain}
-use Rattle.question.specs.Marking.{marked}
+use Rattle.question.specs.loops.ChainPass.{markedChain}
+use Rattle.question.specs.loops.Marking.{marked}
 use Rattle.order.specs.Chains.{firstFrom}
 use lib.ListN.{getD}
 use native.Mathlib.Omega.{arith}

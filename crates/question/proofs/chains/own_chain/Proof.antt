@@ -1,6 +1,6 @@
 -- `question::chains::own_chain` meets its contract.
 -- Assumes nothing.
-use Rattle.question.specs.ChainPass.{ownChain}
+use Rattle.question.specs.loops.ChainPass.{ownChain}
 use borrow.Author.Tests.{eq-eqb, ne-eqb}
 use borrow.Author.Needs.{needs}
 use Rattle.question.proofs.chains.own_chain.Statement.{statement}

@@ -1,7 +1,7 @@
 -- `question::chains::turn` meets its contract.
 -- Assumes nothing.
 use Rattle.ranks.proofs.SaidLaws.{link-said, nothing-said}
-use Rattle.question.specs.ChainPass.{turnMembers}
+use Rattle.question.specs.loops.ChainPass.{turnMembers}
 use Rattle.ranks.specs.Ranks.{says}
 use native.Mathlib.Omega.{arith}
 use mathlib.Core.Path.{refl, sym, ap, _∙_}

@@ -1,5 +1,5 @@
 use borrow.Author.Tests.{ne-eqb, lt-ltb, le-ltb}
-use Rattle.races.specs.Candidates.{orderedIn}
+use Rattle.races.specs.loops.Candidates.{orderedIn}
 use borrow.Author.Needs.{needs}
 use Rattle.races.proofs.candidates.is_ordered.Statement.{statement}
 use Rattle.races.proofs.candidates.is_ordered.Tie as tie

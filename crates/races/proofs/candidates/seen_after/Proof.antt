@@ -1,5 +1,5 @@
 use borrow.Author.Tests.{ne-eqb, not-true, not-false}
-use Rattle.races.specs.Candidates.{seenAfter}
+use Rattle.races.specs.loops.Candidates.{seenAfter}
 use borrow.Author.Needs.{needs}
 use Rattle.races.proofs.candidates.seen_after.Statement.{statement}
 use Rattle.races.proofs.candidates.seen_after.Tie as tie

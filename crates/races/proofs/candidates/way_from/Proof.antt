@@ -1,5 +1,5 @@
 use borrow.Author.Tests.{not-true, not-false}
-use Rattle.races.specs.Candidates.{wayFrom}
+use Rattle.races.specs.loops.Candidates.{wayFrom}
 use borrow.Author.Needs.{needs}
 use Rattle.races.proofs.candidates.way_from.Statement.{statement}
 use Rattle.races.proofs.candidates.way_from.Tie as tie

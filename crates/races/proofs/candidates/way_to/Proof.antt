@@ -1,5 +1,5 @@
 use borrow.Author.Tests.{ne-eqb}
-use Rattle.races.specs.Candidates.{wayTo}
+use Rattle.races.specs.loops.Candidates.{wayTo}
 use Rattle.races.proofs.candidates.way_to.Statement.{statement}
 use Rattle.races.proofs.candidates.way_to.Tie as tie
 

@@ -1,5 +1,5 @@
 use Rattle.races.proofs.ListEnds.{counts-few}
-use Rattle.races.specs.ListPass.{Ample}
+use Rattle.races.specs.loops.ListPass.{Ample}
 use Rattle.records.specs.Bytes.{decode}
 use denote.Ref.{now}
 use lib.Dec.{T}

@@ -5,8 +5,8 @@ use borrow.Author.Needs.{needs}
 use mathlib.Core.Path.{_≡_}
 use Prim.Native.Nat.{_+_, _*_, _-_}
 use Rattle.records.specs.Bytes.{decode}
-use Rattle.races.specs.Filled.{Filled}
-use Rattle.races.specs.Raising.{Unmarked}
+use Rattle.races.specs.loops.Filled.{Filled}
+use Rattle.races.specs.loops.Raising.{Unmarked}
 use Rattle.races.proofs.MarkedList.{list-room}
 use Rattle.races.proofs.MarkAllLaws.{Marking, marking-start, second-some, may-go, arrived, markable, marking-last, raise-room, marking-next, left-size, left-rest}
 use Rattle.races.proofs.raising.mark_all.Statement.{statement}

@@ -6,7 +6,7 @@ use mathlib.Core.Path.{_≡_, sym, _∙_}
 use Prim.Native.Nat.{_-_, _≤_}
 use lib.ListN.{length}
 use Rattle.records.specs.Bytes.{decode}
-use Rattle.races.specs.Raising.{raiseDown}
+use Rattle.races.specs.loops.Raising.{raiseDown}
 use Rattle.races.proofs.RaiseLaws.{raise-over, raise-reads, raise-writes}
 use Rattle.races.proofs.raising.raise.Statement.{statement}
 use Rattle.races.proofs.raising.raise.Tie as tie

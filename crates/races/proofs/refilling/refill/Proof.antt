@@ -9,7 +9,7 @@ use Prim.Native.Nat.{_+_, _-_, _<_, max}
 use lib.ListN.{length, getD}
 use denote.Ref.{now}
 use Rattle.records.specs.Bytes.{decode}
-use Rattle.races.specs.Refilling.{Refillable}
+use Rattle.races.specs.loops.Refilling.{Refillable}
 use Rattle.order.specs.Fill.{traceClocks}
 use Rattle.order.proofs.TableLaws.{events-few}
 use Rattle.races.proofs.RefillLaws.{Refilling, refilling-start, of-room, add-room, refilling-next, refilling-end, cleared-rest, cleared-zeros, cleared-refillable}

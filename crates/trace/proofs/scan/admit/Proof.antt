@@ -4,7 +4,7 @@ use mathlib.Core.Path.{_∙_}
 use borrow.Author.Tests.{ne-eqb}
 use native.Mathlib.Omega.{arith}
 use Rattle.trace.specs.Rule.{again, early}
-use Rattle.trace.specs.Status.{noted}
+use Rattle.trace.specs.loops.Status.{noted}
 use borrow.Author.Needs.{needs}
 use Rattle.trace.proofs.scan.admit.Statement.{statement}
 use Rattle.trace.proofs.scan.admit.Tie as tie

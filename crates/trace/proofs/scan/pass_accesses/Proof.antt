@@ -7,7 +7,7 @@ use borrow.Author.Tests.{not-false}
 use lib.ListN.{length}
 use denote.Ref.{now}
 use Rattle.records.specs.Bytes.{decode}
-use Rattle.trace.specs.Inner.{Accesses, none, more}
+use Rattle.trace.specs.loops.Inner.{Accesses, none, more}
 use Rattle.trace.proofs.scan.pass_accesses.Statement.{statement}
 use Rattle.trace.proofs.scan.pass_accesses.Tie as tie
 

@@ -1,6 +1,6 @@
 -- `trace::status::has_begun` meets its contract.
 -- Assumes nothing.
-use Rattle.trace.specs.Status.{hasBegun}
+use Rattle.trace.specs.loops.Status.{hasBegun}
 use borrow.Author.Needs.{needs}
 use Rattle.trace.proofs.status.has_begun.Statement.{statement}
 use Rattle.trace.proofs.status.has_begun.Tie as tie

@@ -1,6 +1,6 @@
 -- `trace::status::has_ended` meets its contract.
 -- Assumes nothing.
-use Rattle.trace.specs.Status.{hasEnded}
+use Rattle.trace.specs.loops.Status.{hasEnded}
 use borrow.Author.Needs.{needs}
 use Rattle.trace.proofs.status.has_ended.Statement.{statement}
 use Rattle.trace.proofs.status.has_ended.Tie as tie

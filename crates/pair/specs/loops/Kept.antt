@@ -13,8 +13,8 @@ use Rattle.order.specs.HappensBefore.{rank, happensBefore}
 use Rattle.order.specs.Fill.{chainsUsed}
 use Rattle.coverage.specs.Leading.{leads}
 use Rattle.races.specs.Traces.{isAccess, settingOf}
-use Rattle.pair.specs.Leading.{mark, Marks}
-use Rattle.races.specs.Filled.{rows, Filled, Clear}
+use Rattle.pair.specs.loops.Leading.{mark, Marks}
+use Rattle.races.specs.loops.Filled.{rows, Filled, Clear}
 
 module _ (tr : List Record) where
   -- the row of a record's event action

@@ -9,11 +9,11 @@ use lib.ListN.{length, getD, drop}
 use Rattle.records.specs.declared.Record.{Record}
 use Rattle.records.specs.Records.{at}
 use Rattle.order.specs.Fill.{eventsIn}
-use Rattle.order.specs.Walk.{walkFrom}
+use Rattle.order.specs.loops.Walk.{walkFrom}
 use Rattle.races.specs.Lists.{entryNumbers, pairsOf, markOf, numbers}
-use Rattle.races.specs.ListPass.{raws}
-use Rattle.races.specs.Marking.{first, second, Remarked}
-use Rattle.races.specs.Filled.{RowsIn}
+use Rattle.races.specs.loops.ListPass.{raws}
+use Rattle.races.specs.loops.Marking.{first, second, Remarked}
+use Rattle.races.specs.loops.Filled.{RowsIn}
 use Rattle.clocks.specs.Rows.{compareIn, rowsIf, mergeRow}
 
 -- The list has the entries of the short list, or of the list of all races, their marks still 0.

@@ -6,9 +6,9 @@ use mathlib.Core.List.{List}
 use lib.Dec.{T}
 use Rattle.coverage.specs.Setting.{Setting}
 use Rattle.coverage.specs.Leading.{leads}
-use Rattle.coverage.specs.Whole.{whole}
+use Rattle.coverage.specs.loops.Whole.{whole}
 use Rattle.order.specs.Links.{_∈_}
-use Rattle.order.specs.Sets.{row}
+use Rattle.order.specs.loops.Sets.{row}
 
 -- `name` of a number is an event action; `place` is a record of it, of the later one a later record
 pub record Numbered (t : Setting) (m : ℕ) (name : ℕ → ℕ) : Type 0 where

@@ -15,8 +15,8 @@ use Rattle.coverage.specs.Race.{before, Race, raceb}
 use Rattle.coverage.specs.Cover.{CoversFrom}
 use Rattle.coverage.specs.Leading.{leads, lastKept}
 use Rattle.races.specs.Traces.{settingOf}
-use Rattle.pair.specs.Kept.{rowOf}
-use Rattle.pair.specs.Leading.{Marks}
+use Rattle.pair.specs.loops.Kept.{rowOf}
+use Rattle.pair.specs.loops.Leading.{Marks}
 use Rattle.pair.specs.Pair.{entryNumbers, withEntries, raceEntries}
 
 -- the entries of an open pair from the records before i: the event, and the last record kept by its number

@@ -14,9 +14,9 @@ use Rattle.coverage.specs.Below.{upto}
 use Rattle.coverage.specs.Race.{raceb}
 use Rattle.races.specs.Traces.{isAccess, settingOf}
 use Rattle.races.specs.Lists.{entryNumbers, shapeOf, numbers}
-use Rattle.races.specs.Candidates.{cell, startOf, Range}
+use Rattle.races.specs.loops.Candidates.{cell, startOf, Range}
 use Rattle.records.specs.Search.{leastKind, mayRace}
-use Rattle.races.specs.Filled.{Filled}
+use Rattle.races.specs.loops.Filled.{Filled}
 
 module _ (tr : List Record) where
   -- from where on first accesses of b are looked for: from the start of its cell

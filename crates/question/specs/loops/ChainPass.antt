@@ -10,11 +10,11 @@ use Rattle.records.specs.declared.Record.{Record}
 use Rattle.records.specs.Records.{at}
 use Rattle.trace.specs.Reading.{Acceptable}
 use Rattle.order.specs.Chains as chains
-use Rattle.question.specs.Marking.{marked, marksIn}
+use Rattle.question.specs.loops.Marking.{marked, marksIn}
 use Rattle.ranks.specs.Said.{opOf, Op, link, begin, other}
 use Rattle.ranks.specs.Ranks.{ranksOf}
 use Rattle.order.specs.Fill.{eventsIn, shortRow, chainTable}
-use Rattle.order.specs.PassEnds.{Short}
+use Rattle.order.specs.loops.PassEnds.{Short}
 
 pub record Members : Type 0 where
   -- the last member of each chain

@@ -1,0 +1,4 @@
+-- What loops compute, for contracts inside the crates: no promise to a caller rests on these.
+pub mod Leading
+pub mod Kept
+pub mod PairSearch

@@ -1,0 +1,7 @@
+-- What loops compute, for contracts inside the crates: no promise to a caller rests on these.
+pub mod Filled
+pub mod Candidates
+pub mod ListPass
+pub mod Marking
+pub mod Raising
+pub mod Refilling
