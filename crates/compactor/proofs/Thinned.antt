@@ -17,9 +17,11 @@ use Rattle.trace.specs.Reading.{Acceptable}
 use Rattle.trace.proofs.Blocks.{Passes, passes-at}
 use Rattle.trace.proofs.PlaceRule.{Outside, begins as begins-outside, joins, Inside, ends, forks, reads, writes, outside, inside}
 use Rattle.records.proofs.Positions.{lt-or-ge}
-use Rattle.ranks.specs.Said.{Op, other, opOf}
+use Rattle.ranks.specs.declared.Ordering.{Ordering}
+use Rattle.ranks.specs.declared.Ordering.the-variants.{Nothing}
+use Rattle.ranks.specs.OrderingOf.{orderingOf}
 use Rattle.order.specs.Schedule.{linked}
-use Rattle.order.specs.HappensBefore.{rankIn, rank, opAt, traceLinks}
+use Rattle.order.specs.HappensBefore.{rankIn, rank, orderingAt, traceLinks}
 use Rattle.coverage.specs.Below.{upto}
 use Rattle.slices.proofs.Tests.{decide}
 use Rattle.coverage.proofs.Indexed.{size, item, size-zero, size-yes, size-no, item-passes, item-at, size-more, place-of, size-most}
@@ -184,20 +186,20 @@ module _ {tr : List Record} (acc : Acceptable tr) where
     pub thin-begins : begins (past thin (length thin)) ≡ begins (past tr (length tr))
     thin-begins = all-alike .counts
 
-    same-op : (r : Record) → opOf (rank thin) r ≡ opOf (rank tr) r
-    same-op r = ap (λ (f : ℕ → ℕ). opOf f r) (fun-ext thin-rank)
+    same-op : (r : Record) → orderingOf (rank thin) r ≡ orderingOf (rank tr) r
+    same-op r = ap (λ (f : ℕ → ℕ). orderingOf f r) (fun-ext thin-rank)
 
-    access-op : (r : Record) → (r .kind ≡ 5) ⊎ (r .kind ≡ 6) → opOf (rank tr) r ≡ other
-    unfolding opOf
+    access-op : (r : Record) → (r .kind ≡ 5) ⊎ (r .kind ≡ 6) → orderingOf (rank tr) r ≡ Nothing
+    unfolding orderingOf
     access-op r (inl e) = simp e
     access-op r (inr e) = simp e
 
-    linked-alike : (u i : ℕ) → i ≤ length tr → linked (opAt thin) (size keep i) u ≡ linked (opAt tr) i u
-    unfolding linked opAt
+    linked-alike : (u i : ℕ) → i ≤ length tr → linked (orderingAt thin) (size keep i) u ≡ linked (orderingAt tr) i u
+    unfolding linked orderingAt
     linked-alike u zero l = rw (size-zero keep)
     linked-alike u (suc i) l = go (decide (keep i)) (linked-alike u i (omega arith))
       where
-        go : T (keep i) ⊎ (T (keep i) → ⊥) → linked (opAt thin) (size keep i) u ≡ linked (opAt tr) i u → linked (opAt thin) (size keep (suc i)) u ≡ linked (opAt tr) (suc i) u
+        go : T (keep i) ⊎ (T (keep i) → ⊥) → linked (orderingAt thin) (size keep i) u ≡ linked (orderingAt tr) i u → linked (orderingAt thin) (size keep (suc i)) u ≡ linked (orderingAt tr) (suc i) u
         go (inl h) e =
             let (x, m) = item-at keep (length tr) i (omega arith) h in
             rw (size-yes keep i h, add-one (size keep i), thin-at (size keep i) m, x, same-op (at tr i), e)

@@ -15,7 +15,7 @@ use Rattle.order.specs.Links.{Links, _⊢_≼_, leq, _∈_}
 use Rattle.order.specs.Chains.{lasts, used, bit}
 use Rattle.order.specs.Clocks.{largest, chainOf, entry, clocksOf}
 use Rattle.order.specs.HappensBefore.{Begins, Link, HappensBefore, rank, traceLinks}
-use Rattle.order.specs.Fill.{eventsIn, shortRow, traceClocks}
+use Rattle.order.specs.Fill.{eventsIn, rowPastWidth, traceClocks}
 use Rattle.order.specs.ByEvent.{rowOf, chainIn, Sooner, LastOf, NewChain, ChainRule, entryIn, Largest, ClockRow, ByEvent}
 use Rattle.order.proofs.CountLaws.{count-none}
 use Rattle.order.proofs.OrderLaws.{leq→≼}
@@ -144,7 +144,7 @@ module _ {tr : List Record} (a : Acceptable tr) {e : ℕ} (b : Begins tr e) wher
           inl (x .event, last-of (chainIn tr e) m k x, from-rows a (x .begins) b (subst (λ (v : ℕ). l ⊢ v ≼ rowOf tr e) (sym (x .row)) h))
 
 -- the rows of clocks of a width that suffices, with anything after them
-module _ {tr : List Record} (a : Acceptable tr) (w : ℕ) (enough : shortRow tr w ≡ eventsIn tr) (rest : List ℕ) where
+module _ {tr : List Record} (a : Acceptable tr) (w : ℕ) (enough : rowPastWidth tr w ≡ eventsIn tr) (rest : List ℕ) where
   abbrev clocks : List ℕ
   clocks = traceClocks tr w ++ rest
 
@@ -153,7 +153,7 @@ module _ {tr : List Record} (a : Acceptable tr) (w : ℕ) (enough : shortRow tr 
   entry-is {e} b c h = flat-read w (eventsIn tr) rest (entry (traceLinks tr)) (rowOf tr e) c (row-inside a b) h
 
   chain-fits : {e : ℕ} → Begins tr e → chainIn tr e < w
-  unfolding shortRow
+  unfolding rowPastWidth
   chain-fits {e} b =
       let k = needs-none (leq (traceLinks tr)) w (eventsIn tr) .0 enough in
       omega (arith, k, chain-below (leq (traceLinks tr)) (rowOf tr e) (eventsIn tr) (row-inside a b))

@@ -15,7 +15,7 @@ use Rattle.order.specs.Chains.{used}
 use Rattle.order.specs.Clocks.{chainOf, clocksOf}
 use Rattle.order.specs.HappensBefore.{rank, traceLinks, happensBefore}
 use Rattle.order.specs.Compared.{compared}
-use Rattle.order.specs.Fill.{eventsIn, shortRow, traceClocks}
+use Rattle.order.specs.Fill.{eventsIn, rowPastWidth, traceClocks}
 use Rattle.slices.proofs.Tests.{eq→eqb, same as equal-tests}
 use Rattle.order.proofs.ChainLaws.{chain-below, needs-none}
 use Rattle.order.proofs.RowLaws.{clocks-length, place}
@@ -31,9 +31,9 @@ same-rows {tr} a t u nt nu = equal-tests (eqb (rank tr t - 1) (rank tr u - 1)) (
     one e = rank-one a t u (rank tr t - 1) (omega (arith, nt)) (omega (arith, nt, nu, e))
 
 -- rows that filling left, with anything after them
-module _ {tr : List Record} (a : Acceptable tr) (w : ℕ) (enough : shortRow tr w ≡ eventsIn tr) (rest : List ℕ) where
+module _ {tr : List Record} (a : Acceptable tr) (w : ℕ) (enough : rowPastWidth tr w ≡ eventsIn tr) (rest : List ℕ) where
   chains-fit : used (leq (traceLinks tr)) (eventsIn tr) ≤ w
-  unfolding shortRow
+  unfolding rowPastWidth
   chains-fit = needs-none (leq (traceLinks tr)) w (eventsIn tr) .0 enough
 
   -- the comparison reads the rows alone

@@ -4,15 +4,16 @@ use mathlib.Core.Path.{_≡_, refl}
 use mathlib.Core.List.{[], _∷_}
 use lib.Dec.{lit<, lit≤}
 use lib.ListN.{getD}
-use Rattle.ranks.specs.Said.{Op, link, begin, other}
+use Rattle.ranks.specs.declared.Ordering.{Ordering}
+use Rattle.ranks.specs.declared.Ordering.the-variants.{Link, Begin, Nothing}
 use Rattle.order.specs.Schedule.{begins, Ordered}
 use Rattle.order.specs.loops.Walk.{walk, fillWalk}
 use Rattle.clocks.specs.Rows.{hasRow, reach, mergeAt, mergeFrom, mergeRow, span, clearPast, copyAt, copyFrom, copyRow}
 use Rattle.order.proofs.ScheduleLaws.{ordered-zero, ordered-suc}
 
 -- the records of T up to the third begin
-abbrev pub records : ℕ → Op
-records i = getD (begin 0 ∷ link 0 1 ∷ link 0 2 ∷ other ∷ begin 1 ∷ other ∷ other ∷ other ∷ begin 2 ∷ []) i other
+abbrev pub records : ℕ → Ordering
+records i = getD (Begin 0 ∷ Link 0 1 ∷ Link 0 2 ∷ Nothing ∷ Begin 1 ∷ Nothing ∷ Nothing ∷ Nothing ∷ Begin 2 ∷ []) i Nothing
 
 -- once the first has begun, the walk merges its row into the other two, and stops at the second begin
 merged-on : walk records 2 1 8 1 (1 ∷ 0 ∷ 0 ∷ 0 ∷ 0 ∷ 0 ∷ []) ≡ record { position = 4; clocks = 1 ∷ 0 ∷ 1 ∷ 0 ∷ 1 ∷ 0 ∷ [] }

@@ -15,7 +15,7 @@ use Rattle.ranks.specs.Ranks.{ranksOf}
 use Rattle.clocks.specs.Rows.{spaceFor, clearRows}
 use Rattle.clocks.proofs.RowLaws.{clear-rows-fit}
 use Rattle.trace.specs.Reply.{refused, gives, demand, unless}
-use Rattle.order.specs.Fill.{eventsIn, shortRow, chainsUsed, traceClocks, noChains}
+use Rattle.order.specs.Fill.{eventsIn, rowPastWidth, chainsUsed, traceClocks, noChains}
 use Rattle.order.specs.Lent.{enoughChains, clocksFilled, chainsFilled}
 use Rattle.order.specs.declared.Filling.{Filling}
 use Rattle.order.specs.Paper.{fillPaper, FillsTrace}
@@ -30,62 +30,62 @@ module _ (tr : List Record) (a : Acceptable tr) (events width : ℕ) (ee : event
   narrow : width ≤ 1024
   narrow = has-room width events (length cs) space .narrow
 
-  pub ready : (ranks sizes of : List ℕ) → ranks ≡ ranksOf tr → sizes ≡ noChains → of ≡ noChains → Ready tr width ranks cs sizes of
-  ready ranks sizes of r s o = record {
+  pub ready : (ranks sizes chosen : List ℕ) → ranks ≡ ranksOf tr → sizes ≡ noChains → chosen ≡ noChains → Ready tr width ranks cs sizes chosen
+  ready ranks sizes chosen r s o = record {
     acceptable = a;
     ranks-are = r;
     narrow = narrow;
     room = rw (← ee) fits;
     sizes-clear = s;
-    of-clear = o;
+    chosen-clear = o;
   }
 
-  module _ (cs₂ of : List ℕ) (chains position : ℕ) (p : Passes tr width cs cs₂ of chains position) where
+  module _ (cs₂ chosen : List ℕ) (chains position : ℕ) (p : Passes tr width cs cs₂ chosen chains position) where
     rest-of : drop (events * width) cs₂ ≡ drop (events * width) cs
     rest-of = rw (← ee) at (p .rest)
 
-    not-short : length tr ≤ position → Dec (shortRow tr width ≡ eventsIn tr) → shortRow tr width ≡ eventsIn tr
+    not-short : length tr ≤ position → Dec (rowPastWidth tr width ≡ eventsIn tr) → rowPastWidth tr width ≡ eventsIn tr
     not-short h (yes e) = e
     not-short h (no n) = absurd (omega (arith, p .short n .inside))
 
-    not-whole : position < length tr → shortRow tr width ≢ eventsIn tr
+    not-whole : position < length tr → rowPastWidth tr width ≢ eventsIn tr
     not-whole h e = omega (arith, p .whole e .to-end)
 
     -- 23
     module _ (h : position < length tr) where
-      none : shortRow tr width ≢ events
+      none : rowPastWidth tr width ≢ events
       none e = not-whole h (e ∙ ee)
 
       short-reply : enoughChains tr events width (gives (chainsUsed tr)) ≡ refused 23 (position + 1)
       unfolding enoughChains demand
-      short-reply = rw (ne-eqb (shortRow tr width) events none, ← p .short (not-whole h) .place)
+      short-reply = rw (ne-eqb (rowPastWidth tr width) events none, ← p .short (not-whole h) .place)
 
       short-clocks : (cs₃ : List ℕ) → length cs₂ ≡ length cs → cs₃ ≡ clearRows width events cs₂ → cs₃ ≡ clocksFilled tr events width cs
       unfolding clocksFilled unless
       short-clocks cs₃ l e =
           rw short-reply (e ∙ (clear-rows-fit width cs₂ events narrow (omega (arith, fits)) ∙ ap (λ r. replicate (events * width) 0 ++ r) rest-of))
 
-      pub ends-short : (cs₃ of₃ all : List ℕ) → length cs₂ ≡ length cs → cs₃ ≡ clearRows width events cs₂ → of₃ ≡ noChains → all ≡ ranksOf tr → (r : Filling) → fillPaper r ≡ refused 23 (position + 1) → FillsTrace tr events width cs cs₃ r of₃ all
+      pub ends-short : (cs₃ chosen₃ ranks : List ℕ) → length cs₂ ≡ length cs → cs₃ ≡ clearRows width events cs₂ → chosen₃ ≡ noChains → ranks ≡ ranksOf tr → (r : Filling) → fillPaper r ≡ refused 23 (position + 1) → FillsTrace tr events width cs cs₃ r chosen₃ ranks
       unfolding chainsFilled unless
-      ends-short cs₃ of₃ all l e o k r q = record { answer = q ∙ sym short-reply; clocks-after = short-clocks cs₃ l e; chains-after = rw short-reply o; ranks-after = k }
+      ends-short cs₃ chosen₃ ranks l e o k r q = record { answer = q ∙ sym short-reply; clocks-after = short-clocks cs₃ l e; chains-after = rw short-reply o; ranks-after = k }
 
     -- the rows are filled
     module _ (h : length tr ≤ position) where
-      enough : shortRow tr width ≡ eventsIn tr
-      enough = not-short h (ℕ-discrete (shortRow tr width) (eventsIn tr))
+      enough : rowPastWidth tr width ≡ eventsIn tr
+      enough = not-short h (ℕ-discrete (rowPastWidth tr width) (eventsIn tr))
 
       whole-reply : enoughChains tr events width (gives (chainsUsed tr)) ≡ gives chains
       unfolding enoughChains demand
-      whole-reply = rw (eq-eqb (shortRow tr width) events (enough ∙ sym ee), ← p .whole enough .chains-are)
+      whole-reply = rw (eq-eqb (rowPastWidth tr width) events (enough ∙ sym ee), ← p .whole enough .chains-are)
 
       whole-clocks : cs₂ ≡ clocksFilled tr events width cs
       unfolding clocksFilled unless
       whole-clocks =
           rw whole-reply (rw (← ee) at (p .whole enough .clocks-are))
 
-      whole-chains : of ≡ chainsFilled tr events width
+      whole-chains : chosen ≡ chainsFilled tr events width
       unfolding chainsFilled unless
-      whole-chains = rw whole-reply (p .whole enough .of-are)
+      whole-chains = rw whole-reply (p .whole enough .chosen-are)
 
-      pub ends-whole : (all : List ℕ) → all ≡ ranksOf tr → (r : Filling) → fillPaper r ≡ gives chains → FillsTrace tr events width cs cs₂ r of all
-      ends-whole all k r q = record { answer = q ∙ sym whole-reply; clocks-after = whole-clocks; chains-after = whole-chains; ranks-after = k }
+      pub ends-whole : (ranks : List ℕ) → ranks ≡ ranksOf tr → (r : Filling) → fillPaper r ≡ gives chains → FillsTrace tr events width cs cs₂ r chosen ranks
+      ends-whole ranks k r q = record { answer = q ∙ sym whole-reply; clocks-after = whole-clocks; chains-after = whole-chains; ranks-after = k }

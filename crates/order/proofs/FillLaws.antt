@@ -13,7 +13,8 @@ use borrow.Author.Tests.{eq-eqb, ne-eqb}
 use Rattle.order.specs.Links.{Links, Forward, _∈_, leq}
 use Rattle.order.specs.Chains.{bit, chain, used, members}
 use Rattle.order.specs.Clocks.{largest, chainOf, entry, merged}
-use Rattle.ranks.specs.Said.{Op, link, begin}
+use Rattle.ranks.specs.declared.Ordering.{Ordering}
+use Rattle.ranks.specs.declared.Ordering.the-variants.{Link, Begin}
 use Rattle.order.specs.Schedule.{begins, linked, Ordered, Makes}
 use Rattle.slices.proofs.Tests.{both, eq→eqb, decide-eq, decide-lt, rises}
 use Rattle.order.proofs.CountLaws.{count-less, count-mono}
@@ -99,11 +100,11 @@ module _ (l : Links) (fw : Forward l) where
       positive zero n = absurd (n refl)
       positive (suc x) n = omega arith
 
-  module _ (op : ℕ → Op) (n : ℕ) (w : Ordered op n) (makes : Makes op n l) where
+  module _ (op : ℕ → Ordering) (n : ℕ) (w : Ordered op n) (makes : Makes op n l) where
     abbrev pub Filling : ℕ → (ℕ → ℕ → ℕ) → Type 0
     Filling i rows = Along op (λ u c. 0) (entry l) i rows
 
-    module _ (i v : ℕ) (h : i < n) (e : op i ≡ begin v) where
+    module _ (i v : ℕ) (h : i < n) (e : op i ≡ Begin v) where
       -- at its begin a row has been merged from all of its direct predecessors
       pub row-merged : (rows : ℕ → ℕ → ℕ) → Filling i rows → (c : ℕ) → rows v c ≡ merged l v c
       row-merged rows f c = omega (arith, along-merged op (λ u c. 0) (entry l) n w l makes i v rows h e f c)

@@ -12,7 +12,7 @@ use Rattle.trace.specs.Reading.{Acceptable, recordsIn, Accepts}
 use Rattle.trace.proofs.ReplyLaws.{same-given}
 use Rattle.trace.proofs.Accepted.{accepts}
 use Rattle.clocks.specs.Rows.{spaceFor}
-use Rattle.order.specs.Fill.{eventsIn, shortRow, traceClocks}
+use Rattle.order.specs.Fill.{eventsIn, rowPastWidth, traceClocks}
 use Rattle.order.specs.Lent.{enoughChains, clocksFilled, clocksAfter, fillReady, fillReply}
 use Rattle.order.proofs.LentLaws.{fits, filling}
 
@@ -22,7 +22,7 @@ unfolding eventsIn
 events-of b t e = let p = accepts b t e in rw (p .counts) (sym (p .begun))
 
 -- the clocks of a call that goes on with the trace, where there are chains enough
-pub clocks-whole : (b : List ℕ) {ready : Reply Trace} {t : Trace} → gives t ≡ ready → (w : ℕ) (cs : List ℕ) → eqb (shortRow (recordsIn b t) w) (t .events) ≡ true
+pub clocks-whole : (b : List ℕ) {ready : Reply Trace} {t : Trace} → gives t ≡ ready → (w : ℕ) (cs : List ℕ) → eqb (rowPastWidth (recordsIn b t) w) (t .events) ≡ true
     → clocksAfter b ready w cs ≡ traceClocks (recordsIn b t) w ++ drop (t .events * w) cs
 unfolding clocksAfter clocksFilled enoughChains demand unless
 clocks-whole b e w cs h = rw (← e, h)
@@ -31,7 +31,7 @@ pub record FilledTrace (b : List ℕ) (t : Trace) (w : ℕ) (cs : List ℕ) : Ty
   pub acceptable : Acceptable (recordsIn b t)
   pub events-are : t .events ≡ eventsIn (recordsIn b t)
   pub had-space : spaceFor w (t .events) (length cs) ≡ true
-  pub had-chains : shortRow (recordsIn b t) w ≡ t .events
+  pub had-chains : rowPastWidth (recordsIn b t) w ≡ t .events
   pub clocks-are : clocksAfter b (fillReady b w (length cs)) w cs ≡ traceClocks (recordsIn b t) w ++ drop (t .events * w) cs
 
 pub filled-trace : (b : List ℕ) (t : Trace) (w : ℕ) (cs : List ℕ) (k : ℕ) → Accepts b t → gives k ≡ fillReply b w (length cs) → FilledTrace b t w cs

@@ -10,7 +10,7 @@ use Rattle.trace.specs.Reply.{Reply, refused, gives, demand, then}
 use Rattle.trace.specs.Reading.{recordsIn, readReply, Accepts}
 use Rattle.trace.proofs.ReplyLaws.{not-both, same-given, passed, given-by}
 use Rattle.clocks.specs.Rows.{spaceFor}
-use Rattle.order.specs.Fill.{shortRow}
+use Rattle.order.specs.Fill.{rowPastWidth}
 use Rattle.order.specs.Lent.{asking, spaces, spaced, enoughChains, onClocks}
 
 -- 11
@@ -76,7 +76,7 @@ module _ {A : Type 0} (b : List ℕ) (ready : Reply Trace) (width : ℕ) where
   pub record Filling (next : Trace → Reply A) (a : A) : Type 0 where
     pub trace : Trace
     pub ready-is : gives trace ≡ ready
-    pub enough : eqb (shortRow (recordsIn b trace) width) (trace .events) ≡ true
+    pub enough : eqb (rowPastWidth (recordsIn b trace) width) (trace .events) ≡ true
     pub answers : gives a ≡ next trace
 
   pub filling : (next : Trace → Reply A) (a : A) → gives a ≡ onClocks b ready width next → Filling next a
@@ -86,7 +86,7 @@ module _ {A : Type 0} (b : List ℕ) (ready : Reply Trace) (width : ℕ) where
       let p = passed _ _ _ _ a (g .2) in
       record { trace = g .0; ready-is = g .1; enough = p .0; answers = p .1 }
 
-  pub filled : (next : Trace → Reply A) (t : Trace) → gives t ≡ ready → eqb (shortRow (recordsIn b t) width) (t .events) ≡ true → onClocks b ready width next ≡ next t
+  pub filled : (next : Trace → Reply A) (t : Trace) → gives t ≡ ready → eqb (rowPastWidth (recordsIn b t) width) (t .events) ≡ true → onClocks b ready width next ≡ next t
   unfolding onClocks then enoughChains demand
   filled next t e h = rw (← e, h)
 
@@ -95,8 +95,8 @@ pub stays : {A B : Type 0} (b : List ℕ) (ready : Reply Trace) (width : ℕ) (f
     → onClocks b ready width (λ t. gives (f t)) ≡ refused n p → onClocks b ready width next ≡ refused n p
 unfolding onClocks then enoughChains demand
 stays b (refused k q) width f next n p e = cc
-stays b (gives t) width f next n p e = go (eqb (shortRow (recordsIn b t) width) (t .events)) refl
+stays b (gives t) width f next n p e = go (eqb (rowPastWidth (recordsIn b t) width) (t .events)) refl
   where
-    go : (x : Bool) → eqb (shortRow (recordsIn b t) width) (t .events) ≡ x → enoughChains (recordsIn b t) (t .events) width (next t) ≡ refused n p
+    go : (x : Bool) → eqb (rowPastWidth (recordsIn b t) width) (t .events) ≡ x → enoughChains (recordsIn b t) (t .events) width (next t) ≡ refused n p
     go true h = absurd (not-both (f t) n p (rw h at e))
     go false h = rw h (let q = rw h at e in cc)

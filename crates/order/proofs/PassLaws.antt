@@ -18,7 +18,8 @@ use Rattle.trace.specs.Reading.{Acceptable}
 use Rattle.trace.proofs.Events.{few-events}
 use Rattle.records.proofs.Positions.{lt-or-ge}
 use Rattle.ranks.specs.Ranks.{ranksOf}
-use Rattle.ranks.specs.Said.{Op, begin}
+use Rattle.ranks.specs.declared.Ordering.{Ordering}
+use Rattle.ranks.specs.declared.Ordering.the-variants.{Begin}
 use Rattle.order.specs.Links.{Links, Forward, _∈_, leq}
 use Rattle.clocks.specs.Rows.{rowsIf, clearRow}
 use Rattle.order.specs.Chains.{bit}
@@ -27,9 +28,9 @@ use Rattle.order.specs.Schedule.{begins}
 use Rattle.order.specs.loops.Walk.{FillWalked, FillWalks}
 use Rattle.order.specs.loops.Pass.{tick, chooseIn, Rows, enterRow, beginRow, RoomToBegin, Are}
 use Rattle.order.specs.loops.PassEnds.{Ready, Passes}
-use Rattle.order.specs.HappensBefore.{opAt, traceLinks}
+use Rattle.order.specs.HappensBefore.{orderingAt, traceLinks}
 use Rattle.slices.specs.Slices.{zeros}
-use Rattle.order.specs.Fill.{eventsIn, beginPosition, shortRow, chainsUsed, chainTable, traceClocks, noChains}
+use Rattle.order.specs.Fill.{eventsIn, beginPosition, rowPastWidth, chainsUsed, chainTable, traceClocks, noChains}
 use Rattle.slices.proofs.Tests.{both, and, eq→eqb, decide-eq}
 use Rattle.order.proofs.CountLaws.{firstFrom-local, first-first, first-only}
 use Rattle.order.proofs.ScheduleLaws.{begins-zero, begins-suc, begins-mono, begin-next, links-made}
@@ -44,21 +45,21 @@ use Rattle.order.proofs.TraceOrder.{counted, counted-passes, ops-begins
 use Rattle.order.proofs.TraceWalk.{arrives}
 
 -- a begin for which a chain is left, and one for which none is
-enter-room : (w u : ℕ) (s : Rows) (c : ℕ) → c < w → enterRow w u s c ≡ record { clocks = tick w u c (s .clocks); sizes = set (s .sizes) c (getD (s .sizes) c 0 + 1); of = set (s .of) u c; chains = max (s .chains) (suc c) }
+enter-room : (w u : ℕ) (s : Rows) (c : ℕ) → c < w → enterRow w u s c ≡ record { clocks = tick w u c (s .clocks); sizes = set (s .sizes) c (getD (s .sizes) c 0 + 1); chosen = set (s .chosen) u c; chains = max (s .chains) (suc c) }
 unfolding enterRow
 enter-room w u s c h = rw (lt-leb w c h)
 
-enter-full : (w u : ℕ) (s : Rows) (c : ℕ) → w ≤ c → enterRow w u s c ≡ record { clocks = s .clocks; sizes = s .sizes; of = s .of; chains = suc w }
+enter-full : (w u : ℕ) (s : Rows) (c : ℕ) → w ≤ c → enterRow w u s c ≡ record { clocks = s .clocks; sizes = s .sizes; chosen = s .chosen; chains = suc w }
 unfolding enterRow
 enter-full w u s c h = rw (le-leb w c h)
 
 -- what the code has is what the definition says
-are-rows : (s : Rows) (clocks sizes of : List ℕ) (chains : ℕ) → Are s clocks sizes of chains → record { clocks = clocks; sizes = sizes; of = of; chains = chains } ≡ s
-are-rows s clocks sizes of chains e = rw (e .clocks-are, e .sizes-are, e .of-are, e .chains-are)
+are-rows : (s : Rows) (clocks sizes chosen : List ℕ) (chains : ℕ) → Are s clocks sizes chosen chains → record { clocks = clocks; sizes = sizes; chosen = chosen; chains = chains } ≡ s
+are-rows s clocks sizes chosen chains e = rw (e .clocks-are, e .sizes-are, e .chosen-are, e .chains-are)
 
 module _ {tr : List Record} (a : Acceptable tr) (w : ℕ) (rest : List ℕ) where
-  abbrev op : ℕ → Op
-  op = opAt tr
+  abbrev op : ℕ → Ordering
+  op = orderingAt tr
 
   abbrev n : ℕ
   n = length tr
@@ -67,7 +68,7 @@ module _ {tr : List Record} (a : Acceptable tr) (w : ℕ) (rest : List ℕ) wher
   l = traceLinks tr
 
   abbrev pub m : ℕ
-  m = begins (opAt tr) (length tr)
+  m = begins (orderingAt tr) (length tr)
 
   fw : Forward (traceLinks tr)
   fw = forward-links a
@@ -90,13 +91,13 @@ module _ {tr : List Record} (a : Acceptable tr) (w : ℕ) (rest : List ℕ) wher
       let e : 1024 - k ≡ suc (1024 - suc k) = omega arith in
       rw (e, append-assoc) (set-at (table k (chainOf l)) 0 (replicate (1024 - suc k) 0) (chainOf l k) k (table-length k (chainOf l)))
 
-  pub begun-below : (i u : ℕ) → i < n → op i ≡ begin u → (u ≡ begins op i) × (u < m)
+  pub begun-below : (i u : ℕ) → i < n → op i ≡ Begin u → (u ≡ begins op i) × (u < m)
   begun-below i u h e =
       let b = begin-next op n (ops-ordered a) i u h e in
-      (b, omega (arith, begins-suc op i (begin u) e, begins-mono op (suc i) n h))
+      (b, omega (arith, begins-suc op i (Begin u) e, begins-mono op (suc i) n h))
 
   -- the begin of row u stands at one position
-  pub begin-position : (i u : ℕ) → i < n → op i ≡ begin u → beginPosition tr u ≡ i
+  pub begin-position : (i u : ℕ) → i < n → op i ≡ Begin u → beginPosition tr u ≡ i
   unfolding beginPosition
   begin-position i u h e =
       let b = begun-below i u h e in
@@ -115,14 +116,14 @@ module _ {tr : List Record} (a : Acceptable tr) (w : ℕ) (rest : List ℕ) wher
 
   -- After the first i records, up to a begin or the end.
   pub record Passing (i : ℕ) (s : Rows) : Type 0 where
-    pub shows : Shows op n (entry l) w rest i (s .of) (s .clocks)
+    pub shows : Shows op n (entry l) w rest i (s .chosen) (s .clocks)
     pub taken : Taken l w (begins op i) (s .sizes) (s .chains)
-    pub of-size : length (s .of) ≡ 1024
-    pub of-hinted : Hinted op (chainOf l) i (s .of)
-    pub of-past : (u : ℕ) → m ≤ u → u < 1024 → getD (s .of) u 0 ≡ 0
+    pub of-size : length (s .chosen) ≡ 1024
+    pub of-hinted : Hinted op (chainOf l) i (s .chosen)
+    pub of-past : (u : ℕ) → m ≤ u → u < 1024 → getD (s .chosen) u 0 ≡ 0
 
   pub passing-start :
-      (cs : List ℕ) → w ≤ 1024 → cs ≡ flat w m (λ u c. getD cs (u * w + c) 0) ++ rest → Passing 0 (record { clocks = cs; sizes = noChains; of = noChains; chains = 0 })
+      (cs : List ℕ) → w ≤ 1024 → cs ≡ flat w m (λ u c. getD cs (u * w + c) 0) ++ rest → Passing 0 (record { clocks = cs; sizes = noChains; chosen = noChains; chains = 0 })
   unfolding zeros
   passing-start cs h e =
       let b = begins-zero op in
@@ -165,26 +166,26 @@ module _ {tr : List Record} (a : Acceptable tr) (w : ℕ) (rest : List ℕ) wher
     zero-past q c g k d = entry-short l fw (begins op i) q c g (rw (p .taken .chains-are) at d)
 
     -- at a begin
-    module _ (narrow : w ≤ 1024) (u : ℕ) (h : i < n) (e : op i ≡ begin u) where
+    module _ (narrow : w ≤ 1024) (u : ℕ) (h : i < n) (e : op i ≡ Begin u) where
       turn : (u ≡ begins op i) × (u < m)
       turn = begun-below i u h e
 
       -- its row is 0 where no link came to it
-      unlinked : getD (s .of) u 0 ≡ 0 → (c : ℕ) → p .shows .rows u c ≡ 0
+      unlinked : getD (s .chosen) u 0 ≡ 0 → (c : ℕ) → p .shows .rows u c ≡ 0
       unfolding largest
       unlinked z c =
           let early : (q : ℕ) → q < begins op i → chainOf l q < 1024 = λ q g. omega (arith, chain-below (leq l) q _ g, p .taken .chains-are, p .taken .chains-fit) in
-          let inside : u < length (s .of) = omega (arith, p .of-size, few, turn .1) in
-          let none = unhinted op (chainOf l) n (ops-ordered a) i (omega arith) (s .of) (p .of-hinted) early u (omega (arith, turn .0)) inside z in
+          let inside : u < length (s .chosen) = omega (arith, p .of-size, few, turn .1) in
+          let none = unhinted op (chainOf l) n (ops-ordered a) i (omega arith) (s .chosen) (p .of-hinted) early u (omega (arith, turn .0)) inside z in
           p .shows .along .coming u c (omega (arith, turn .0)) ∙ rw none refl
 
       -- so the clocks show it once it is cleared there
-      pub passing-fresh : Standing i (record { clocks = rowsIf (eqb (getD (s .of) u 0) 0) (clearRow w u (s .clocks)) (s .clocks); sizes = s .sizes; of = s .of; chains = s .chains }) u
-      passing-fresh = go (decide-eq (getD (s .of) u 0) 0)
+      pub passing-fresh : Standing i (record { clocks = rowsIf (eqb (getD (s .chosen) u 0) 0) (clearRow w u (s .clocks)) (s .clocks); sizes = s .sizes; chosen = s .chosen; chains = s .chains }) u
+      passing-fresh = go (decide-eq (getD (s .chosen) u 0) 0)
         where
-          go : (getD (s .of) u 0 ≡ 0) ⊎ (getD (s .of) u 0 ≢ 0) →
-              Standing i (record { clocks = rowsIf (eqb (getD (s .of) u 0) 0) (clearRow w u (s .clocks)) (s .clocks); sizes = s .sizes; of = s .of; chains = s .chains }) u
-          go (inl z) = rw (eq-eqb (getD (s .of) u 0) 0 z) (record {
+          go : (getD (s .chosen) u 0 ≡ 0) ⊎ (getD (s .chosen) u 0 ≢ 0) →
+              Standing i (record { clocks = rowsIf (eqb (getD (s .chosen) u 0) 0) (clearRow w u (s .clocks)) (s .clocks); sizes = s .sizes; chosen = s .chosen; chains = s .chains }) u
+          go (inl z) = rw (eq-eqb (getD (s .chosen) u 0) 0 z) (record {
             passing = record {
               shows = record {
                 rows = p .shows .rows;
@@ -201,15 +202,15 @@ module _ {tr : List Record} (a : Acceptable tr) (w : ℕ) (rest : List ℕ) wher
             own = λ c. zero-own (p .shows .shown) u c ∙ sym (unlinked z c);
           })
             where
-              apart : (v : ℕ) → (v < begins op i) ⊎ (getD (s .of) v 0 ≢ 0) → v ≢ u
+              apart : (v : ℕ) → (v < begins op i) ⊎ (getD (s .chosen) v 0 ≢ 0) → v ≢ u
               apart v (inl k) x = omega (arith, turn .0)
               apart v (inr k) x = k (rw x z)
-          go (inr z) = rw (ne-eqb (getD (s .of) u 0) 0 z) (record { passing = p; own = λ c. p .shows .shown-is u c (inr z) })
+          go (inr z) = rw (ne-eqb (getD (s .chosen) u 0) 0 z) (record { passing = p; own = λ c. p .shows .shown-is u c (inr z) })
 
     -- along the links to the next begin
     pub passing-walk :
-        (narrow : w ≤ 1024) (r : FillWalked) → FillArrives op n (ops-ordered a) (link-target a) (entry l) (chainOf l) w (s .chains) narrow rest i (s .of) r →
-        Passing (r .position) (record { clocks = r .clocks; sizes = s .sizes; of = r .hints; chains = s .chains })
+        (narrow : w ≤ 1024) (r : FillWalked) → FillArrives op n (ops-ordered a) (link-target a) (entry l) (chainOf l) w (s .chains) narrow rest i (s .chosen) r →
+        Passing (r .position) (record { clocks = r .clocks; sizes = s .sizes; chosen = r .hints; chains = s .chains })
     passing-walk narrow r f =
         record {
           shows = f .shows;
@@ -220,7 +221,7 @@ module _ {tr : List Record} (a : Acceptable tr) (w : ℕ) (rest : List ℕ) wher
         }
 
   -- at a begin whose row the clocks show
-  module _ (i : ℕ) (s : Rows) (u : ℕ) (q : Standing i s u) (h : i < n) (e : op i ≡ begin u) where
+  module _ (i : ℕ) (s : Rows) (u : ℕ) (q : Standing i s u) (h : i < n) (e : op i ≡ Begin u) where
     abbrev p : Passing i s
     p = q .passing
 
@@ -241,19 +242,19 @@ module _ {tr : List Record} (a : Acceptable tr) (w : ℕ) (rest : List ℕ) wher
     passing-room narrow = record {
       narrow = narrow;
       room = record { row = fits; chains-fit = taken .chains-fit; sizes-room = taken .sizes-room };
-      of-room = inside;
+      chosen-room = inside;
       few-entries = λ c g. omega (arith, row-is c g, rows-le l fw op n (ops-ordered a) (links-made op n) i (p .shows .rows) (omega arith) (p .shows .along) u c, few, begins-mono op i n (omega arith));
       few-members = λ c g. omega (arith, taken .sizes-are c g, members-le (leq l) u c, few, turn-of .1);
       hint-low = p .of-hinted .low u inside;
       hinted = λ c g x.
           let k : c < w = omega (arith, taken .chains-fit) in
-          hinted-none l fw u (1024 - getD (s .of) u 0) low c (omega arith) (omega (arith, taken .chains-are)) (sym (merged-is c k) ∙ (x ∙ taken .sizes-are c k));
+          hinted-none l fw u (1024 - getD (s .chosen) u 0) low c (omega arith) (omega (arith, taken .chains-are)) (sym (merged-is c k) ∙ (x ∙ taken .sizes-are c k));
     }
       where
-        inside : u < length (s .of)
+        inside : u < length (s .chosen)
         inside = omega (arith, p .of-size, few, turn-of .1)
 
-        low : (t : ℕ) → t ∈ l .preds u → 1024 - getD (s .of) u 0 ≤ chainOf l t
+        low : (t : ℕ) → t ∈ l .preds u → 1024 - getD (s .chosen) u 0 ≤ chainOf l t
         low t y =
             let r = pred-linked op n (ops-ordered a) l (links-made op n) i u h e t y in
             omega (arith, p .of-hinted .hints u t (r .0) (omega (arith, turn-of .0)) inside (r .1) (r .2))
@@ -261,7 +262,7 @@ module _ {tr : List Record} (a : Acceptable tr) (w : ℕ) (rest : List ℕ) wher
         fits : u * w + w ≤ length (s .clocks)
         fits = omega (arith, ap length (p .shows .clocks-are), length-append (flat w m (p .shows .shown)) rest, flat-length w m (p .shows .shown), mul-le-mul-right w (turn-of .1), suc-mul u w)
 
-    -- the chain chosen is the chain of the event action
+    -- the chain choice is the chain of the event action
     pub chosen-is : chooseIn w u (s .clocks) (s .sizes) (s .chains) ≡ chainOf l u
     unfolding chooseIn
     chosen-is =
@@ -279,39 +280,39 @@ module _ {tr : List Record} (a : Acceptable tr) (w : ℕ) (rest : List ℕ) wher
         clocks-are = ap (tick w u (chainOf l u)) (p .shows .clocks-are) ∙ ticked-row w m rest (p .shows .shown) u (chainOf l u) (turn-of .1) t;
       };
       taken = rw b (taken-more l w u (s .sizes) (s .chains) taken t);
-      of-size = length-set (s .of) u (chainOf l u) ∙ p .of-size;
-      of-hinted = hinted-begin op (chainOf l) i u (s .of) e (turn-of .0) (omega (arith, p .of-size, few, turn-of .1)) (omega (arith, narrow)) (p .of-hinted);
-      of-past = λ v k g. getD-set-other (s .of) u v (chainOf l u) 0 (omega (arith, turn-of .1)) ∙ p .of-past v k g;
+      of-size = length-set (s .chosen) u (chainOf l u) ∙ p .of-size;
+      of-hinted = hinted-begin op (chainOf l) i u (s .chosen) e (turn-of .0) (omega (arith, p .of-size, few, turn-of .1)) (omega (arith, narrow)) (p .of-hinted);
+      of-past = λ v k g. getD-set-other (s .chosen) u v (chainOf l u) 0 (omega (arith, turn-of .1)) ∙ p .of-past v k g;
     })
       where
         b : begins op (suc i) ≡ suc u
-        b = begins-suc op i (begin u) e ∙ ap suc (sym (turn-of .0))
+        b = begins-suc op i (Begin u) e ∙ ap suc (sym (turn-of .0))
 
-        before : (v : ℕ) → v ≢ u → (v < begins op (suc i)) ⊎ (getD (set (s .of) u (chainOf l u)) v 0 ≢ 0) → (v < begins op i) ⊎ (getD (s .of) v 0 ≢ 0)
+        before : (v : ℕ) → v ≢ u → (v < begins op (suc i)) ⊎ (getD (set (s .chosen) u (chainOf l u)) v 0 ≢ 0) → (v < begins op i) ⊎ (getD (s .chosen) v 0 ≢ 0)
         before v x (inl k) = inl (omega (arith, b, turn-of .0))
-        before v x (inr k) = inr (λ z. k (getD-set-other (s .of) u v (chainOf l u) 0 x ∙ z))
+        before v x (inr k) = inr (λ z. k (getD-set-other (s .chosen) u v (chainOf l u) 0 x ∙ z))
 
-        each : (v c : ℕ) → (v < begins op (suc i)) ⊎ (getD (set (s .of) u (chainOf l u)) v 0 ≢ 0) → (v ≡ u) ⊎ (v ≢ u) → p .shows .shown v c ≡ p .shows .rows v c
+        each : (v c : ℕ) → (v < begins op (suc i)) ⊎ (getD (set (s .chosen) u (chainOf l u)) v 0 ≢ 0) → (v ≡ u) ⊎ (v ≢ u) → p .shows .shown v c ≡ p .shows .rows v c
         each v c k (inl x) = rw x (q .own c)
         each v c k (inr x) = p .shows .shown-is v c (before v x k)
 
     -- none is left: it is the begin that needs one
-    pub short-is : w ≤ chainOf l u → shortRow tr w ≡ u
-    unfolding shortRow
+    pub short-is : w ≤ chainOf l u → rowPastWidth tr w ≡ u
+    unfolding rowPastWidth
     short-is t = rw (← events-are) (needs-at (leq l) w m u (turn-of .1) (omega (arith, taken .chains-are, taken .chains-fit)) t)
 
   -- all records are passed
   pub record Completed (s : Rows) : Type 0 where
     pub clocks-are : s .clocks ≡ traceClocks tr w ++ rest
-    pub of-are : s .of ≡ chainTable tr
+    pub chosen-are : s .chosen ≡ chainTable tr
     pub chains-are : s .chains ≡ chainsUsed tr
-    pub enough : shortRow tr w ≡ eventsIn tr
+    pub enough : rowPastWidth tr w ≡ eventsIn tr
 
   pub passing-end : (s : Rows) → Passing n s → Completed s
-  unfolding traceClocks clocksOf chainTable chainsUsed shortRow
+  unfolding traceClocks clocksOf chainTable chainsUsed rowPastWidth
   passing-end s p = record {
     clocks-are = rw (← events-are) (p .shows .clocks-are ∙ ap (λ x. x ++ rest) (flat-same w m (p .shows .shown) (entry l) (λ u c h k. p .shows .shown-is u c (inl h) ∙ p .shows .along .done u c h)));
-    of-are = rw (← events-are) (ext-getD 0 (s .of) (chains-of m) (p .of-size ∙ sym size) (λ u h. each u (omega (arith, p .of-size)) (lt-or-ge u m)));
+    chosen-are = rw (← events-are) (ext-getD 0 (s .chosen) (chains-of m) (p .of-size ∙ sym size) (λ u h. each u (omega (arith, p .of-size)) (lt-or-ge u m)));
     chains-are = rw (← events-are) (p .taken .chains-are);
     enough = rw (← events-are) (needs-none (leq l) w m .1 (omega (arith, p .taken .chains-are, p .taken .chains-fit)));
   }
@@ -319,7 +320,7 @@ module _ {tr : List Record} (a : Acceptable tr) (w : ℕ) (rest : List ℕ) wher
       size : length (chains-of m) ≡ 1024
       size = omega (arith, length-append (table m (chainOf l)) (replicate (1024 - m) 0), table-length m (chainOf l), length-replicate {A = ℕ} (1024 - m) 0, few)
 
-      each : (u : ℕ) → u < 1024 → (u < m) ⊎ (m ≤ u) → getD (s .of) u 0 ≡ getD (chains-of m) u 0
+      each : (u : ℕ) → u < 1024 → (u < m) ⊎ (m ≤ u) → getD (s .chosen) u 0 ≡ getD (chains-of m) u 0
       each u h (inl k) = p .of-hinted .chains u k ∙ sym (List·getD-append (table m (chainOf l)) (replicate (1024 - m) 0) 0 u (omega (arith, table-length m (chainOf l))) ∙ table-at m (chainOf l) u k)
       each u h (inr k) =
           let t = table-length m (chainOf l) in
@@ -328,24 +329,24 @@ module _ {tr : List Record} (a : Acceptable tr) (w : ℕ) (rest : List ℕ) wher
 
 -- The loop of the pass, event action by event action.
 module _ (tr : List Record) (w : ℕ) (ranks clocks₀ : List ℕ) where
-  pub record Going (clocks sizes of : List ℕ) (chains u i : ℕ) : Type 0 where
+  pub record Going (clocks sizes chosen : List ℕ) (chains u i : ℕ) : Type 0 where
     pub acceptable : Acceptable tr
     pub narrow : w ≤ 1024
     pub ranks-are : ranks ≡ ranksOf tr
     pub within : i ≤ length tr
-    pub row-is : u ≡ begins (opAt tr) i
-    pub at-begin : i < length tr → opAt tr i ≡ begin u
-    pub passing : Passing acceptable w (drop (eventsIn tr * w) clocks₀) i (record { clocks = clocks; sizes = sizes; of = of; chains = chains })
+    pub row-is : u ≡ begins (orderingAt tr) i
+    pub at-begin : i < length tr → orderingAt tr i ≡ Begin u
+    pub passing : Passing acceptable w (drop (eventsIn tr * w) clocks₀) i (record { clocks = clocks; sizes = sizes; chosen = chosen; chains = chains })
 
-  pub going-start : (sizes of : List ℕ) → Ready tr w ranks clocks₀ sizes of → Going clocks₀ sizes of 0 0 0
-  going-start sizes of r = record {
+  pub going-start : (sizes chosen : List ℕ) → Ready tr w ranks clocks₀ sizes chosen → Going clocks₀ sizes chosen 0 0 0
+  going-start sizes chosen r = record {
     acceptable = r .acceptable;
     narrow = r .narrow;
     ranks-are = r .ranks-are;
     within = omega arith;
-    row-is = sym (begins-zero (opAt tr));
+    row-is = sym (begins-zero (orderingAt tr));
     at-begin = first-begins (r .acceptable);
-    passing = rw (r .sizes-clear, r .of-clear) (passing-start (r .acceptable) w rest clocks₀ (r .narrow) same);
+    passing = rw (r .sizes-clear, r .chosen-clear) (passing-start (r .acceptable) w rest clocks₀ (r .narrow) same);
   }
     where
       rest : List ℕ
@@ -354,11 +355,11 @@ module _ (tr : List Record) (w : ℕ) (ranks clocks₀ : List ℕ) where
       same : clocks₀ ≡ flat w (m (r .acceptable) w rest) (λ u c. getD clocks₀ (u * w + c) 0) ++ rest
       same = rw (events-are (r .acceptable) w rest) (flat-any w (eventsIn tr) clocks₀ (r .room))
 
-  module _ {clocks sizes of : List ℕ} {chains u i : ℕ} (g : Going clocks sizes of chains u i) where
+  module _ {clocks sizes chosen : List ℕ} {chains u i : ℕ} (g : Going clocks sizes chosen chains u i) where
     rest-stays : drop (eventsIn tr * w) clocks ≡ drop (eventsIn tr * w) clocks₀
     rest-stays = subst (λ (k : ℕ). drop (k * w) clocks ≡ drop (eventsIn tr * w) clocks₀) (events-are (g .acceptable) w []) (passing-rest (g .acceptable) w _ i _ (g .passing))
 
-    pub going-size : length of ≡ 1024
+    pub going-size : length chosen ≡ 1024
     going-size = g .passing .of-size
 
     module _ (h : i < length tr) where
@@ -366,62 +367,62 @@ module _ (tr : List Record) (w : ℕ) (ranks clocks₀ : List ℕ) where
       going-row = let b = begun-below (g .acceptable) w [] i u h (g .at-begin h) in omega (arith, few (g .acceptable) w [])
 
       -- once its row is cleared where no link came to it
-      module _ (fresh : List ℕ) (ef : fresh ≡ rowsIf (eqb (getD of u 0) 0) (clearRow w u clocks) clocks) where
-        standing : Standing (g .acceptable) w (drop (eventsIn tr * w) clocks₀) i (record { clocks = fresh; sizes = sizes; of = of; chains = chains }) u
+      module _ (fresh : List ℕ) (ef : fresh ≡ rowsIf (eqb (getD chosen u 0) 0) (clearRow w u clocks) clocks) where
+        standing : Standing (g .acceptable) w (drop (eventsIn tr * w) clocks₀) i (record { clocks = fresh; sizes = sizes; chosen = chosen; chains = chains }) u
         standing = rw ef (passing-fresh (g .acceptable) w _ i _ (g .passing) (g .narrow) u h (g .at-begin h))
 
         rest-fresh : drop (eventsIn tr * w) fresh ≡ drop (eventsIn tr * w) clocks₀
         rest-fresh = subst (λ (k : ℕ). drop (k * w) fresh ≡ drop (eventsIn tr * w) clocks₀) (events-are (g .acceptable) w []) (passing-rest (g .acceptable) w _ i _ (standing .passing))
 
-        pub going-room : RoomToBegin w u (record { clocks = fresh; sizes = sizes; of = of; chains = chains })
+        pub going-room : RoomToBegin w u (record { clocks = fresh; sizes = sizes; chosen = chosen; chains = chains })
         going-room = passing-room (g .acceptable) w _ i _ u standing h (g .at-begin h) (g .narrow)
 
-        module _ (clocks′ sizes′ of′ : List ℕ) (next : ℕ) (t : Are (beginRow w u (record { clocks = fresh; sizes = sizes; of = of; chains = chains })) clocks′ sizes′ of′ next) where
-          abbrev chosen : ℕ
-          chosen = chainOf (traceLinks tr) u
+        module _ (clocks′ sizes′ chosen′ : List ℕ) (next : ℕ) (t : Are (beginRow w u (record { clocks = fresh; sizes = sizes; chosen = chosen; chains = chains })) clocks′ sizes′ chosen′ next) where
+          abbrev choice : ℕ
+          choice = chainOf (traceLinks tr) u
 
-          begun : record { clocks = clocks′; sizes = sizes′; of = of′; chains = next } ≡ enterRow w u (record { clocks = fresh; sizes = sizes; of = of; chains = chains }) chosen
-          begun = are-rows _ clocks′ sizes′ of′ next t ∙ ap (enterRow w u (record { clocks = fresh; sizes = sizes; of = of; chains = chains })) (chosen-is (g .acceptable) w _ i _ u standing h (g .at-begin h))
+          begun : record { clocks = clocks′; sizes = sizes′; chosen = chosen′; chains = next } ≡ enterRow w u (record { clocks = fresh; sizes = sizes; chosen = chosen; chains = chains }) choice
+          begun = are-rows _ clocks′ sizes′ chosen′ next t ∙ ap (enterRow w u (record { clocks = fresh; sizes = sizes; chosen = chosen; chains = chains })) (chosen-is (g .acceptable) w _ i _ u standing h (g .at-begin h))
 
           -- a chain was left
-          left : next ≤ w → (chosen < w) ⊎ (w ≤ chosen) → chosen < w
+          left : next ≤ w → (choice < w) ⊎ (w ≤ choice) → choice < w
           left k (inl c) = c
-          left k (inr c) = absurd (omega (arith, ap (λ r. r .chains) (begun ∙ enter-full w u _ chosen c)))
+          left k (inr c) = absurd (omega (arith, ap (λ r. r .chains) (begun ∙ enter-full w u _ choice c)))
 
-          module _ (k : next ≤ w) (clocks″ of″ : List ℕ) (j : ℕ) (x : FillWalks tr ranks w next (i + 1) clocks′ of′ clocks″ of″ j) where
-            entered : Passing (g .acceptable) w (drop (eventsIn tr * w) clocks₀) (suc i) (record { clocks = clocks′; sizes = sizes′; of = of′; chains = next })
-            entered = rw (are-rows _ clocks′ sizes′ of′ next t) (passing-begin (g .acceptable) w _ i _ u standing h (g .at-begin h) (g .narrow) (left k (lt-or-ge chosen w)))
+          module _ (k : next ≤ w) (clocks″ chosen″ : List ℕ) (j : ℕ) (x : FillWalks tr ranks w next (i + 1) clocks′ chosen′ clocks″ chosen″ j) where
+            entered : Passing (g .acceptable) w (drop (eventsIn tr * w) clocks₀) (suc i) (record { clocks = clocks′; sizes = sizes′; chosen = chosen′; chains = next })
+            entered = rw (are-rows _ clocks′ sizes′ chosen′ next t) (passing-begin (g .acceptable) w _ i _ u standing h (g .at-begin h) (g .narrow) (left k (lt-or-ge choice w)))
 
-            early : (q : ℕ) → q < begins (opAt tr) (suc i) → chainOf (traceLinks tr) q < 1024
+            early : (q : ℕ) → q < begins (orderingAt tr) (suc i) → chainOf (traceLinks tr) q < 1024
             early q y = omega (arith, chain-below (leq (traceLinks tr)) q _ y, entered .taken .chains-are, entered .taken .chains-fit, g .narrow)
 
-            arrived : FillArrives (opAt tr) (length tr) (ops-ordered (g .acceptable)) (link-target (g .acceptable)) (entry (traceLinks tr)) (chainOf (traceLinks tr)) w next (g .narrow) (drop (eventsIn tr * w) clocks₀) (suc i) of′ (record { position = j; clocks = clocks″; hints = of″ })
+            arrived : FillArrives (orderingAt tr) (length tr) (ops-ordered (g .acceptable)) (link-target (g .acceptable)) (entry (traceLinks tr)) (chainOf (traceLinks tr)) w next (g .narrow) (drop (eventsIn tr * w) clocks₀) (suc i) chosen′ (record { position = j; clocks = clocks″; hints = chosen″ })
             arrived =
-                arrives (g .acceptable) ranks (g .ranks-are) _ _ w next _ (suc i) clocks′ of′ clocks″ of″ j (g .narrow) h (entered .shows)
+                arrives (g .acceptable) ranks (g .ranks-are) _ _ w next _ (suc i) clocks′ chosen′ clocks″ chosen″ j (g .narrow) h (entered .shows)
                 (zero-past (g .acceptable) w _ (suc i) _ entered) (entered .of-hinted) early (omega (arith, entered .of-size, few (g .acceptable) w [])) (rw (add-one i) at x)
 
             pub going-on : i < j
             going-on = arrived .later
 
-            pub going-next : Going clocks″ sizes′ of″ next (u + 1) j
+            pub going-next : Going clocks″ sizes′ chosen″ next (u + 1) j
             going-next =
-                let b : begins (opAt tr) (suc i) ≡ u + 1 = begins-suc (opAt tr) i (begin u) (g .at-begin h) ∙ omega (arith, g .row-is) in
+                let b : begins (orderingAt tr) (suc i) ≡ u + 1 = begins-suc (orderingAt tr) i (Begin u) (g .at-begin h) ∙ omega (arith, g .row-is) in
                 record {
                   acceptable = g .acceptable;
                   narrow = g .narrow;
                   ranks-are = g .ranks-are;
                   within = arrived .inside;
                   row-is = sym (arrived .none-begun ∙ b);
-                  at-begin = λ y. arrived .at-begin y ∙ ap begin b;
+                  at-begin = λ y. arrived .at-begin y ∙ ap Begin b;
                   passing = passing-walk (g .acceptable) w _ (suc i) _ entered (g .narrow) _ arrived;
                 }
 
           -- none was left
-          pub going-stop : w < next → Passes tr w clocks₀ clocks′ of′ chains i
-          going-stop k = stops (lt-or-ge chosen w)
+          pub going-stop : w < next → Passes tr w clocks₀ clocks′ chosen′ chains i
+          going-stop k = stops (lt-or-ge choice w)
             where
-              stops : (chosen < w) ⊎ (w ≤ chosen) → Passes tr w clocks₀ clocks′ of′ chains i
-              stops (inl c) = absurd (omega (arith, ap (λ r. r .chains) (begun ∙ enter-room w u _ chosen c), g .passing .taken .chains-fit))
+              stops : (choice < w) ⊎ (w ≤ choice) → Passes tr w clocks₀ clocks′ chosen′ chains i
+              stops (inl c) = absurd (omega (arith, ap (λ r. r .chains) (begun ∙ enter-room w u _ choice c), g .passing .taken .chains-fit))
               stops (inr c) =
                   let s = short-is (g .acceptable) w _ i _ u standing h (g .at-begin h) c in
                   let b = begun-below (g .acceptable) w [] i u h (g .at-begin h) in
@@ -429,16 +430,16 @@ module _ (tr : List Record) (w : ℕ) (ranks clocks₀ : List ℕ) where
                   record {
                     whole = λ z. absurd (omega arith);
                     short = λ z. record { place = sym (ap (beginPosition tr) s ∙ begin-position (g .acceptable) w [] i u h (g .at-begin h)); inside = h };
-                    rest = ap (λ r. drop (eventsIn tr * w) (r .clocks)) (begun ∙ enter-full w u _ chosen c) ∙ rest-fresh;
+                    rest = ap (λ r. drop (eventsIn tr * w) (r .clocks)) (begun ∙ enter-full w u _ choice c) ∙ rest-fresh;
                   }
 
-    pub going-end : length tr ≤ i → Passes tr w clocks₀ clocks of chains i
+    pub going-end : length tr ≤ i → Passes tr w clocks₀ clocks chosen chains i
     going-end h =
         let l = g .within in
         let e : i ≡ length tr = omega arith in
         let p = passing-end (g .acceptable) w _ _ (rw e at (g .passing)) in
         record {
-          whole = λ z. record { clocks-are = p .clocks-are; of-are = p .of-are; chains-are = p .chains-are; to-end = e };
+          whole = λ z. record { clocks-are = p .clocks-are; chosen-are = p .chosen-are; chains-are = p .chains-are; to-end = e };
           short = λ n. absurd (n (p .enough));
           rest = rest-stays;
         }

@@ -18,8 +18,8 @@ use Rattle.trace.specs.Reading.{Acceptable}
 use Rattle.trace.proofs.Blocks.{passes-at}
 use Rattle.trace.proofs.Marked.{formed}
 use Rattle.trace.proofs.Going.{in-range}
-use Rattle.ranks.specs.Said.{opOf}
-use Rattle.order.specs.HappensBefore.{Begins, rankIn, rank, opAt}
+use Rattle.ranks.specs.OrderingOf.{orderingOf}
+use Rattle.order.specs.HappensBefore.{Begins, rankIn, rank, orderingAt}
 use Rattle.slices.specs.Slices.{zeros}
 use Rattle.ranks.specs.Ranks.{withRank, rankIf, ranksUpto, ranksOf}
 use Rattle.ranks.proofs.RankLaws.{ranks-length}
@@ -81,6 +81,6 @@ module _ {tr : List Record} (a : Acceptable tr) where
       go (no h) = List·getD-eq-default (ranksUpto tr (length tr)) 0 (omega (arith, ranks-length tr (length tr))) ∙ sym (no-rank e (omega arith) (ℕ-discrete (rank tr e) 0))
 
   -- so what a record says by the list is what it says
-  pub ops-are : (i : ℕ) → opOf (λ e. getD (ranksOf tr) e 0) (at tr i) ≡ opAt tr i
-  unfolding opAt opOf
+  pub ops-are : (i : ℕ) → orderingOf (λ e. getD (ranksOf tr) e 0) (at tr i) ≡ orderingAt tr i
+  unfolding orderingAt orderingOf
   ops-are i = simp ranks-are

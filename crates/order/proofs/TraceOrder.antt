@@ -23,8 +23,10 @@ use Rattle.order.specs.Schedule.{begins, beginsBy, Stands, Ordered}
 use Rattle.slices.proofs.Tests.{and, either, or-left, or-right, eq→eqb}
 use Rattle.order.proofs.OrderLaws.{≼→leq, leq→≼}
 use Rattle.order.proofs.ScheduleLaws.{begins-zero, begins-suc, linked-exact, links-forward}
-use Rattle.ranks.specs.Said.{linkOf, opOf, Op, link, begin, other}
-use Rattle.order.specs.HappensBefore.{Begins, Link, fork, join, HappensBefore, same, step, rankIn, rank, opAt, traceLinks, leqRanks, happensBefore}
+use Rattle.ranks.specs.declared.Ordering.{Ordering}
+use Rattle.ranks.specs.declared.Ordering.the-variants.{Link as link, Begin, Nothing}
+use Rattle.ranks.specs.OrderingOf.{linkOf, orderingOf}
+use Rattle.order.specs.HappensBefore.{Begins, Link, fork, join, HappensBefore, same, step, rankIn, rank, orderingAt, traceLinks, leqRanks, happensBefore}
 
 module _ (tr : List Record) where
   abbrev pub counted : ℕ → ℕ
@@ -116,20 +118,20 @@ module _ {tr : List Record} (a : Acceptable tr) where
       record { position = f .at-position; inside = f .earlier; is-begin = subst T (sym (f .passes)) tt; of-event = f .event }
 
   -- what a record says, kind by kind
-  op-begin : (i : ℕ) → i < length tr → at tr i .kind ≡ 1 → opAt tr i ≡ begin (counted tr i)
-  unfolding opAt opOf
-  op-begin i h k = rw (eq-eqb (at tr i .kind) 1 k, ranked i h k) (ap begin (omega arith))
+  op-begin : (i : ℕ) → i < length tr → at tr i .kind ≡ 1 → orderingAt tr i ≡ Begin (counted tr i)
+  unfolding orderingAt orderingOf
+  op-begin i h k = rw (eq-eqb (at tr i .kind) 1 k, ranked i h k) (ap Begin (omega arith))
 
-  op-fork : (i : ℕ) → at tr i .kind ≡ 3 → opAt tr i ≡ linkOf (rank tr (at tr i .first)) (rank tr (at tr i .second))
-  unfolding opAt opOf
+  op-fork : (i : ℕ) → at tr i .kind ≡ 3 → orderingAt tr i ≡ linkOf (rank tr (at tr i .first)) (rank tr (at tr i .second))
+  unfolding orderingAt orderingOf
   op-fork i k = rw k
 
-  op-join : (i : ℕ) → at tr i .kind ≡ 4 → opAt tr i ≡ linkOf (rank tr (at tr i .second)) (rank tr (at tr i .first))
-  unfolding opAt opOf
+  op-join : (i : ℕ) → at tr i .kind ≡ 4 → orderingAt tr i ≡ linkOf (rank tr (at tr i .second)) (rank tr (at tr i .first))
+  unfolding orderingAt orderingOf
   op-join i k = rw k
 
-  op-other : (i : ℕ) → at tr i .kind ≢ 1 → at tr i .kind ≢ 3 → at tr i .kind ≢ 4 → opAt tr i ≡ other
-  unfolding opAt opOf
+  op-other : (i : ℕ) → at tr i .kind ≢ 1 → at tr i .kind ≢ 3 → at tr i .kind ≢ 4 → orderingAt tr i ≡ Nothing
+  unfolding orderingAt orderingOf
   op-other i x y z = rw (ne-eqb (at tr i .kind) 1 x, ne-eqb (at tr i .kind) 3 y, ne-eqb (at tr i .kind) 4 z)
 
   data Said (i : ℕ) : Type 0 where
@@ -153,14 +155,14 @@ module _ {tr : List Record} (a : Acceptable tr) where
   link-no-begin (suc p) zero b = refl
   link-no-begin (suc p) (suc u) b = refl
 
-  pub ops-begins : (i : ℕ) → i ≤ length tr → begins (opAt tr) i ≡ counted tr i
-  ops-begins zero h = begins-zero (opAt tr) ∙ sym (counted-zero tr)
-  ops-begins (suc i) h = begins-suc (opAt tr) i (opAt tr i) refl ∙ go (said i) (ops-begins i (omega arith))
+  pub ops-begins : (i : ℕ) → i ≤ length tr → begins (orderingAt tr) i ≡ counted tr i
+  ops-begins zero h = begins-zero (orderingAt tr) ∙ sym (counted-zero tr)
+  ops-begins (suc i) h = begins-suc (orderingAt tr) i (orderingAt tr i) refl ∙ go (said i) (ops-begins i (omega arith))
     where
-      go : Said i → begins (opAt tr) i ≡ counted tr i → beginsBy (opAt tr i) (begins (opAt tr) i) ≡ counted tr (suc i)
+      go : Said i → begins (orderingAt tr) i ≡ counted tr i → beginsBy (orderingAt tr i) (begins (orderingAt tr) i) ≡ counted tr (suc i)
       go (begins-it k) ih = rw (op-begin i h k, counted-begin tr i k) (omega arith)
-      go (forks-it k) ih = rw (op-fork i k) (link-no-begin (rank tr (at tr i .first)) (rank tr (at tr i .second)) (begins (opAt tr) i) ∙ ih ∙ sym (counted-other tr i (λ z. omega arith)))
-      go (joins-it k) ih = rw (op-join i k) (link-no-begin (rank tr (at tr i .second)) (rank tr (at tr i .first)) (begins (opAt tr) i) ∙ ih ∙ sym (counted-other tr i (λ z. omega arith)))
+      go (forks-it k) ih = rw (op-fork i k) (link-no-begin (rank tr (at tr i .first)) (rank tr (at tr i .second)) (begins (orderingAt tr) i) ∙ ih ∙ sym (counted-other tr i (λ z. omega arith)))
+      go (joins-it k) ih = rw (op-join i k) (link-no-begin (rank tr (at tr i .second)) (rank tr (at tr i .first)) (begins (orderingAt tr) i) ∙ ih ∙ sym (counted-other tr i (λ z. omega arith)))
       go (nothing x y z) ih = rw (op-other i x y z) (ih ∙ sym (counted-other tr i x))
 
   -- Of a link that a record makes: one that has begun before the record, and one that begins after it.
@@ -218,17 +220,17 @@ module _ {tr : List Record} (a : Acceptable tr) where
       (found-by (at tr i .second) i (omega arith) (waited-found i h k) p r, begun-from (at tr i .first) i b (omega arith) u s)
 
   -- event actions begin in order, and links go from one that has begun to one that has not
-  pub ops-ordered : Ordered (opAt tr) (length tr)
+  pub ops-ordered : Ordered (orderingAt tr) (length tr)
   ops-ordered i h = rw (ops-begins i (omega arith)) (go (said i))
     where
-      go : Said i → Stands (counted tr i) (opAt tr i)
+      go : Said i → Stands (counted tr i) (orderingAt tr i)
       go (begins-it k) = rw (op-begin i h k) refl
       go (forks-it k) = rw (op-fork i k) (fork-stands i h k _ _ refl refl)
       go (joins-it k) = rw (op-join i k) (join-stands i h k _ _ refl refl)
       go (nothing x y z) = rw (op-other i x y z) tt
 
   pub forward-links : Forward (traceLinks tr)
-  forward-links = links-forward (opAt tr) (length tr) ops-ordered
+  forward-links = links-forward (orderingAt tr) (length tr) ops-ordered
 
   -- two events of one rank are one
   pub rank-one : (t u p : ℕ) → rank tr t ≡ suc p → rank tr u ≡ suc p → t ≡ u
@@ -256,8 +258,8 @@ module _ {tr : List Record} (a : Acceptable tr) where
   same-rank : {t u p : ℕ} → t ≡ u → rank tr t ≡ suc p → rank tr u ≡ suc p
   same-rank e r = ap (rank tr) (sym e) ∙ r
 
-  made : (i p u : ℕ) → i < length tr → opAt tr i ≡ link p u → p ∈ traceLinks tr .preds u
-  made i p u h e = linked-exact (opAt tr) (length tr) p u .1 (i, h, e)
+  made : (i p u : ℕ) → i < length tr → orderingAt tr i ≡ link p u → p ∈ traceLinks tr .preds u
+  made i p u h e = linked-exact (orderingAt tr) (length tr) p u .1 (i, h, e)
 
   pub link-ranked : {t u : ℕ} → Link tr t u → Ranked t u
   link-ranked {t} {u} (fork i h k e f b) =
@@ -296,17 +298,17 @@ module _ {tr : List Record} (a : Acceptable tr) where
   link-parts (suc x) zero p u e = let z : _≡_ {A = ℕ} 0 1 = cc in absurd (omega arith)
   link-parts (suc x) (suc y) p u e = let q : x ≡ p = cc in let r : y ≡ u = cc in (ap suc q, ap suc r)
 
-  not-link : (o : Op) (p u : ℕ) → o ≡ other → o ≡ link p u → ⊥
+  not-link : (o : Ordering) (p u : ℕ) → o ≡ Nothing → o ≡ link p u → ⊥
   not-link o p u e f = let z : _≡_ {A = ℕ} 0 1 = cc in omega arith
 
-  not-begin : (o : Op) (b p u : ℕ) → o ≡ begin b → o ≡ link p u → ⊥
+  not-begin : (o : Ordering) (b p u : ℕ) → o ≡ Begin b → o ≡ link p u → ⊥
   not-begin o b p u e f = let z : _≡_ {A = ℕ} 0 1 = cc in omega arith
 
-  op-named : (i p u : ℕ) → i < length tr → opAt tr i ≡ link p u → Named p u
+  op-named : (i p u : ℕ) → i < length tr → orderingAt tr i ≡ link p u → Named p u
   op-named i p u h e = go (said i)
     where
       go : Said i → Named p u
-      go (begins-it k) = absurd (not-begin (opAt tr i) (counted tr i) p u (op-begin i h k) e)
+      go (begins-it k) = absurd (not-begin (orderingAt tr i) (counted tr i) p u (op-begin i h k) e)
       go (forks-it k) =
           let q = link-parts (rank tr (at tr i .first)) (rank tr (at tr i .second)) p u (sym (op-fork i k) ∙ e) in
           record {
@@ -325,10 +327,10 @@ module _ {tr : List Record} (a : Acceptable tr) where
             to-rank = q .1;
             linked = join i h (subst T (sym (eq-eqb (at tr i .kind) 4 k)) tt) refl refl;
           }
-      go (nothing x y z) = absurd (not-link (opAt tr i) p u (op-other i x y z) e)
+      go (nothing x y z) = absurd (not-link (orderingAt tr i) p u (op-other i x y z) e)
 
   pub linked-named : (p u : ℕ) → p ∈ traceLinks tr .preds u → Named p u
-  linked-named p u m = let r = linked-exact (opAt tr) (length tr) p u .0 m in op-named (r .0) p u (r .1) (r .2)
+  linked-named p u m = let r = linked-exact (orderingAt tr) (length tr) p u .0 m in op-named (r .0) p u (r .1) (r .2)
 
   -- happens-before by event number is happens-before by rank
   pub up : {t u : ℕ} (p : ℕ) → rank tr t ≡ suc p → HappensBefore tr t u → (q : ℕ) × (rank tr u ≡ suc q) × (traceLinks tr ⊢ p ≼ q)
@@ -392,16 +394,16 @@ module _ {tr : List Record} (a : Acceptable tr) where
   decides t u = (before-happens t u, happens-before t u)
 
   -- the first record begins the first event action
-  pub first-begins : 0 < length tr → opAt tr 0 ≡ begin 0
+  pub first-begins : 0 < length tr → orderingAt tr 0 ≡ Begin 0
   first-begins h = go (ℕ-discrete (at tr 0 .kind) 1) (ℕ-discrete (at tr 0 .kind) 4)
     where
-      go : Dec (at tr 0 .kind ≡ 1) → Dec (at tr 0 .kind ≡ 4) → opAt tr 0 ≡ begin 0
-      go (yes k) d = op-begin 0 h k ∙ ap begin (counted-zero tr)
+      go : Dec (at tr 0 .kind ≡ 1) → Dec (at tr 0 .kind ≡ 4) → orderingAt tr 0 ≡ Begin 0
+      go (yes k) d = op-begin 0 h k ∙ ap Begin (counted-zero tr)
       go (no x) (yes k) = absurd (omega (arith, waited-found 0 h k .earlier))
       go (no x) (no y) = absurd (omega (arith, body-after-begin a 0 h x y .earlier))
 
   -- the later end of a link begins in the trace
-  pub link-target : (i p u : ℕ) → i < length tr → opAt tr i ≡ link p u → u < begins (opAt tr) (length tr)
+  pub link-target : (i p u : ℕ) → i < length tr → orderingAt tr i ≡ link p u → u < begins (orderingAt tr) (length tr)
   link-target i p u h e =
       let n = op-named i p u h e in
       let b = some-rank (n .to-event) u (n .to-rank) in
@@ -409,19 +411,19 @@ module _ {tr : List Record} (a : Acceptable tr) where
       omega (arith, begins-rank b, n .to-rank, ops-begins (length tr) (omega arith))
 
   -- only a begin begins
-  pub op-kind : (i u : ℕ) → opAt tr i ≡ begin u → at tr i .kind ≡ 1
+  pub op-kind : (i u : ℕ) → orderingAt tr i ≡ Begin u → at tr i .kind ≡ 1
   op-kind i u e = go (said i)
     where
-      link-begins : (x y : ℕ) → linkOf x y ≡ begin u → ⊥
+      link-begins : (x y : ℕ) → linkOf x y ≡ Begin u → ⊥
       link-begins zero y q = let z : _≡_ {A = ℕ} 0 1 = cc in omega arith
       link-begins (suc x) zero q = let z : _≡_ {A = ℕ} 0 1 = cc in omega arith
       link-begins (suc x) (suc y) q = let z : _≡_ {A = ℕ} 0 1 = cc in omega arith
 
-      other-begins : (o : Op) → o ≡ other → o ≡ begin u → ⊥
+      other-begins : (o : Ordering) → o ≡ Nothing → o ≡ Begin u → ⊥
       other-begins o p q = let z : _≡_ {A = ℕ} 0 1 = cc in omega arith
 
       go : Said i → at tr i .kind ≡ 1
       go (begins-it k) = k
       go (forks-it k) = absurd (link-begins (rank tr (at tr i .first)) (rank tr (at tr i .second)) (sym (op-fork i k) ∙ e))
       go (joins-it k) = absurd (link-begins (rank tr (at tr i .second)) (rank tr (at tr i .first)) (sym (op-join i k) ∙ e))
-      go (nothing x y z) = absurd (other-begins (opAt tr i) (op-other i x y z) e)
+      go (nothing x y z) = absurd (other-begins (orderingAt tr i) (op-other i x y z) e)

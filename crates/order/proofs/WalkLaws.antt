@@ -14,12 +14,14 @@ use lib.Seq.{getD-set-same, getD-set-other}
 use Rattle.records.specs.declared.Record.{Record}
 use Rattle.records.specs.Records.{at, leading}
 use Rattle.records.proofs.Leading.{leading-le, leading-accesses, leading-over}
-use Rattle.ranks.specs.Said.{Op, link, begin, other, opOf}
+use Rattle.ranks.specs.declared.Ordering.{Ordering}
+use Rattle.ranks.specs.declared.Ordering.the-variants.{Link, Begin, Nothing}
+use Rattle.ranks.specs.OrderingOf.{orderingOf}
 use Rattle.clocks.specs.Rows.{mergeRow}
 use Rattle.order.specs.Links.{Links, _∈_}
 use Rattle.order.specs.Clocks.{largest, flat}
 use Rattle.order.specs.Schedule.{begins, linked, Ordered, Makes}
-use Rattle.order.specs.loops.Walk.{Walked, stops, mergedBy, walkOn, walk, opBy, walkFrom}
+use Rattle.order.specs.loops.Walk.{Walked, stops, mergedBy, walkOn, walk, orderingBy, walkFrom}
 use Rattle.slices.proofs.Tests.{decide-eq, decide-lt}
 use Rattle.order.proofs.SetLaws.{largest-in, largest-le}
 use Rattle.order.proofs.ScheduleLaws.{begins-zero, begins-suc, linked-suc, begins-mono, linked-exact, begin-next, link-between, link-after}
@@ -33,13 +35,13 @@ largest-same ps qs f there back =
     omega arith
 
 -- the links to an event action after one record more
-module _ (op : ℕ → Op) where
-  linked-own : (i p v : ℕ) (g : ℕ → ℕ) → op i ≡ link p v → largest (linked op (suc i) v) g ≡ max (largest (linked op i v) g) (g p)
+module _ (op : ℕ → Ordering) where
+  linked-own : (i p v : ℕ) (g : ℕ → ℕ) → op i ≡ Link p v → largest (linked op (suc i) v) g ≡ max (largest (linked op i v) g) (g p)
   unfolding largest
-  linked-own i p v g e = rw (linked-suc op i v (link p v) e, eq-eqb v v refl) (max-comm (g p) (largest (linked op i v) g))
+  linked-own i p v g e = rw (linked-suc op i v (Link p v) e, eq-eqb v v refl) (max-comm (g p) (largest (linked op i v) g))
 
-  linked-apart : (i p v u : ℕ) → op i ≡ link p v → u ≢ v → linked op (suc i) u ≡ linked op i u
-  linked-apart i p v u e h = rw (linked-suc op i u (link p v) e, ne-eqb v u (λ j. h (sym j)))
+  linked-apart : (i p v u : ℕ) → op i ≡ Link p v → u ≢ v → linked op (suc i) u ≡ linked op i u
+  linked-apart i p v u e h = rw (linked-suc op i u (Link p v) e, ne-eqb v u (λ j. h (sym j)))
 
   pub linked-zero : (u : ℕ) → linked op 0 u ≡ []
   unfolding linked
@@ -48,24 +50,24 @@ module _ (op : ℕ → Op) where
   -- at its begin an event action has the links of all of its direct predecessors
   module _ (n : ℕ) (w : Ordered op n) (l : Links) (makes : Makes op n l) where
     -- a link from each of its direct predecessors came before it
-    pub pred-linked : (i v : ℕ) → i < n → op i ≡ begin v → (p : ℕ) → p ∈ l .preds v → (j : ℕ) × (j < i) × (op j ≡ link p v)
+    pub pred-linked : (i v : ℕ) → i < n → op i ≡ Begin v → (p : ℕ) → p ∈ l .preds v → (j : ℕ) × (j < i) × (op j ≡ Link p v)
     pred-linked i v h e p m = (r .0, early (decide-lt (r .0) i), r .2)
       where
         begun : v < begins op n
-        begun = omega (arith, begin-next op n w i v h e, begins-suc op i (begin v) e, begins-mono op (suc i) n h)
+        begun = omega (arith, begin-next op n w i v h e, begins-suc op i (Begin v) e, begins-mono op (suc i) n h)
 
-        r : (j : ℕ) × (j < n) × (op j ≡ link p v)
+        r : (j : ℕ) × (j < n) × (op j ≡ Link p v)
         r = makes p v begun .0 m
 
         early : (r .0 < i) ⊎ (i ≤ r .0) → r .0 < i
         early (inl k) = k
         early (inr k) = absurd (omega (arith, link-after op n w i v e (r .0) p v k (r .1) (r .2)))
 
-    pub linked-all : (i v : ℕ) (g : ℕ → ℕ) → i < n → op i ≡ begin v → largest (linked op i v) g ≡ largest (l .preds v) g
+    pub linked-all : (i v : ℕ) (g : ℕ → ℕ) → i < n → op i ≡ Begin v → largest (linked op i v) g ≡ largest (l .preds v) g
     linked-all i v g h e = largest-same (linked op i v) (l .preds v) g there back
       where
         begun : v < begins op n
-        begun = omega (arith, begin-next op n w i v h e, begins-suc op i (begin v) e, begins-mono op (suc i) n h)
+        begun = omega (arith, begin-next op n w i v h e, begins-suc op i (Begin v) e, begins-mono op (suc i) n h)
 
         there : (p : ℕ) → p ∈ linked op i v → p ∈ l .preds v
         there p m = let r = linked-exact op i p v .0 m in makes p v begun .1 (r .0, omega (arith, r .1), r .2)
@@ -87,20 +89,20 @@ module _ (op : ℕ → Op) where
       coming = λ u c h. rw (linked-zero u) (omega (arith, e u c));
     }
 
-    pub along-other : (i : ℕ) (rows : ℕ → ℕ → ℕ) → op i ≡ other → Along i rows → Along (suc i) rows
+    pub along-other : (i : ℕ) (rows : ℕ → ℕ → ℕ) → op i ≡ Nothing → Along i rows → Along (suc i) rows
     along-other i rows e f =
-        let b = begins-suc op i other e in
-        record { done = λ u c h. f .done u c (omega arith); coming = λ u c h. rw (linked-suc op i u other e) (f .coming u c (omega arith)) }
+        let b = begins-suc op i Nothing e in
+        record { done = λ u c h. f .done u c (omega arith); coming = λ u c h. rw (linked-suc op i u Nothing e) (f .coming u c (omega arith)) }
 
     module _ (n : ℕ) (w : Ordered op n) where
-      pub along-link : (i p v : ℕ) (rows : ℕ → ℕ → ℕ) → i < n → op i ≡ link p v → Along i rows → Along (suc i) (mergeInto rows p v)
+      pub along-link : (i p v : ℕ) (rows : ℕ → ℕ → ℕ) → i < n → op i ≡ Link p v → Along i rows → Along (suc i) (mergeInto rows p v)
       along-link i p v rows h e f = record {
         done = λ u c k. into-other rows p v u c (omega (arith, b, between .1)) ∙ f .done u c (omega (arith, b));
         coming = λ u c k. coming u c (decide-eq u v) (omega (arith, b));
       }
         where
           b : begins op (suc i) ≡ begins op i
-          b = begins-suc op i (link p v) e
+          b = begins-suc op i (Link p v) e
 
           between : (p < begins op i) × (begins op i ≤ v)
           between = link-between op n w i p v h e
@@ -111,18 +113,18 @@ module _ (op : ℕ → Op) where
 
       -- from the begin of v on, with its row final
       pub along-begin :
-          (i v : ℕ) (rows rows′ : ℕ → ℕ → ℕ) → i < n → op i ≡ begin v → Along i rows →
+          (i v : ℕ) (rows rows′ : ℕ → ℕ → ℕ) → i < n → op i ≡ Begin v → Along i rows →
           ((u c : ℕ) → u ≢ v → rows′ u c ≡ rows u c) → ((c : ℕ) → rows′ v c ≡ R v c) → Along (suc i) rows′
       along-begin i v rows rows′ h e f same own = record {
         done = λ u c k. done u c (omega (arith, b)) (decide-eq u v);
-        coming = λ u c k. same u c (omega (arith, b)) ∙ rw (linked-suc op i u (begin v) e) (f .coming u c (omega (arith, b, next)));
+        coming = λ u c k. same u c (omega (arith, b)) ∙ rw (linked-suc op i u (Begin v) e) (f .coming u c (omega (arith, b, next)));
       }
         where
           next : v ≡ begins op i
           next = begin-next op n w i v h e
 
           b : begins op (suc i) ≡ suc v
-          b = begins-suc op i (begin v) e ∙ ap suc (sym next)
+          b = begins-suc op i (Begin v) e ∙ ap suc (sym next)
 
           done : (u c : ℕ) → u < suc v → (u ≡ v) ⊎ (u ≢ v) → rows′ u c ≡ R u c
           done u c k (inl j) = rw j (own c)
@@ -131,24 +133,24 @@ module _ (op : ℕ → Op) where
       -- at its begin a row has been merged with the rows of all of its direct predecessors
       module _ (l : Links) (makes : Makes op n l) where
         pub along-merged :
-            (i v : ℕ) (rows : ℕ → ℕ → ℕ) → i < n → op i ≡ begin v → Along i rows →
+            (i v : ℕ) (rows : ℕ → ℕ → ℕ) → i < n → op i ≡ Begin v → Along i rows →
             (c : ℕ) → rows v c ≡ max (B v c) (largest (l .preds v) (λ p. R p c))
         along-merged i v rows h e f c =
             f .coming v c (omega (arith, begin-next op n w i v h e)) ∙ ap (max (B v c)) (linked-all n w l makes i v (λ p. R p c) h e)
 
 -- The walk from record i on, in flat clocks of all rows: up to the next begin, with the rows along.
-module _ (op : ℕ → Op) (n : ℕ) (B R : ℕ → ℕ → ℕ) (w : ℕ) (rest : List ℕ) where
+module _ (op : ℕ → Ordering) (n : ℕ) (B R : ℕ → ℕ → ℕ) (w : ℕ) (rest : List ℕ) where
   pub record Arrives (i : ℕ) (r : Walked) : Type 0 where
     pub later : i ≤ r .position
     pub inside : r .position ≤ n
     pub none-begun : begins op (r .position) ≡ begins op i
-    pub at-begin : r .position < n → op (r .position) ≡ begin (begins op i)
+    pub at-begin : r .position < n → op (r .position) ≡ Begin (begins op i)
     pub rows : ℕ → ℕ → ℕ
     pub clocks-are : r .clocks ≡ flat w (begins op n) rows ++ rest
     pub along : Along op B R (r .position) rows
 
   pub arrives-here :
-      (i : ℕ) (rows : ℕ → ℕ → ℕ) → i ≤ n → (i < n → op i ≡ begin (begins op i)) → Along op B R i rows →
+      (i : ℕ) (rows : ℕ → ℕ → ℕ) → i ≤ n → (i < n → op i ≡ Begin (begins op i)) → Along op B R i rows →
       Arrives i (record { position = i; clocks = flat w (begins op n) rows ++ rest })
   arrives-here i rows h k f = record {
     later = omega arith;
@@ -166,18 +168,18 @@ module _ (op : ℕ → Op) (n : ℕ) (B R : ℕ → ℕ → ℕ) (w : ℕ) (rest
     later = omega (arith, a .later);
     inside = a .inside;
     none-begun = a .none-begun ∙ b;
-    at-begin = λ h. a .at-begin h ∙ ap begin b;
+    at-begin = λ h. a .at-begin h ∙ ap Begin b;
     rows = a .rows;
     clocks-are = a .clocks-are;
     along = a .along;
   }
 
 -- a row that has begun is 0 where no chain is taken and past its own number
-abbrev pub ZeroPast : (ℕ → Op) → (ℕ → ℕ → ℕ) → ℕ → ℕ → ℕ → Type 0
+abbrev pub ZeroPast : (ℕ → Ordering) → (ℕ → ℕ → ℕ) → ℕ → ℕ → ℕ → Type 0
 ZeroPast op R w chains i = (p c : ℕ) → p < begins op i → c < w → (chains ≤ c) ⊎ (p < c) → R p c ≡ 0
 
 module _
-    (op : ℕ → Op) (n : ℕ) (o : Ordered op n) (within : (i p u : ℕ) → i < n → op i ≡ link p u → u < begins op n)
+    (op : ℕ → Ordering) (n : ℕ) (o : Ordered op n) (within : (i p u : ℕ) → i < n → op i ≡ Link p u → u < begins op n)
     (B R : ℕ → ℕ → ℕ) (w chains : ℕ) (narrow : w ≤ 1024) (rest : List ℕ) where
   -- where k records are left
   pub walked :
@@ -190,22 +192,22 @@ module _
       h : i < n
       h = omega arith
 
-      go : (x : Op) → op i ≡ x →
+      go : (x : Ordering) → op i ≡ x →
           ((rows′ : ℕ → ℕ → ℕ) (cs′ : List ℕ) → cs′ ≡ flat w (begins op n) rows′ ++ rest → Along op B R (suc i) rows′ → ZeroPast op R w chains (suc i) → Arrives op n B R w rest (suc i) (walk op w chains k (suc i) cs′)) →
           Arrives op n B R w rest i (walkOn (stops x) i (mergedBy w chains x cs) (walk op w chains k (suc i)))
-      go (link p u) x next =
-          let b = begins-suc op i (link p u) x in
+      go (Link p u) x next =
+          let b = begins-suc op i (Link p u) x in
           let g = link-between op n o i p u h x in
           let z : (c : ℕ) → c < w → (chains ≤ c) ⊎ (p < c) → rows p c ≡ 0 = λ c a d. f .done p c (g .0) ∙ s p c (g .0) a d in
           let m = ap (mergeRow w chains p u) e ∙ merged-row w (begins op n) rest rows chains p u narrow (omega (arith, g .0, g .1)) (within i p u h x) z in
           arrives-next op n B R w rest i _ b (next (mergeInto rows p u) (mergeRow w chains p u cs) m (along-link op B R n o i p u rows h x f) (λ q c a d j. s q c (omega (arith, b)) d j))
-      go (begin u) x next = rw e (arrives-here op n B R w rest i rows (omega arith) (λ q. x ∙ ap begin (begin-next op n o i u h x)) f)
-      go other x next =
-          let b = begins-suc op i other x in
+      go (Begin u) x next = rw e (arrives-here op n B R w rest i rows (omega arith) (λ q. x ∙ ap Begin (begin-next op n o i u h x)) f)
+      go Nothing x next =
+          let b = begins-suc op i Nothing x in
           arrives-next op n B R w rest i _ b (next rows cs e (along-other op B R i rows x f) (λ q c a d j. s q c (omega (arith, b)) d j))
 
 -- the walk as a loop makes it, from record i up to n
-module _ (op : ℕ → Op) (w chains n i : ℕ) (cs : List ℕ) where
+module _ (op : ℕ → Ordering) (w chains n i : ℕ) (cs : List ℕ) where
   pub walk-over : n ≤ i → walk op w chains (n - i) i cs ≡ record { position = i; clocks = cs }
   unfolding walk
   walk-over h = let e : n - i ≡ 0 = omega arith in rw e
@@ -224,7 +226,7 @@ module _ (op : ℕ → Op) (w chains n i : ℕ) (cs : List ℕ) where
 
 -- past records that say nothing
 pub walk-past :
-    (op : ℕ → Op) (w chains n : ℕ) (cs : List ℕ) (k i : ℕ) → i + k ≤ n → ((j : ℕ) → i ≤ j → j < i + k → op j ≡ other) →
+    (op : ℕ → Ordering) (w chains n : ℕ) (cs : List ℕ) (k i : ℕ) → i + k ≤ n → ((j : ℕ) → i ≤ j → j < i + k → op j ≡ Nothing) →
     walk op w chains (n - i) i cs ≡ walk op w chains (n - (i + k)) (i + k) cs
 walk-past op w chains n cs zero i h f = let e : i + 0 ≡ i = omega arith in rw e
 walk-past op w chains n cs (suc k) i h f =
@@ -235,14 +237,14 @@ walk-past op w chains n cs (suc k) i h f =
     ∙ rw j (walk-past op w chains n cs k (i + 1) (omega arith) (λ x a b. f x (omega arith) (omega arith))))
 
 -- a read or a write says nothing of links and begins
-pub access-other : (ranks : ℕ → ℕ) (r : Record) → 5 ≤ r .kind → opOf ranks r ≡ other
-unfolding opOf
+pub access-other : (ranks : ℕ → ℕ) (r : Record) → 5 ≤ r .kind → orderingOf ranks r ≡ Nothing
+unfolding orderingOf
 access-other ranks r h = rw (ne-eqb (r .kind) 1 (omega arith), ne-eqb (r .kind) 3 (omega arith), ne-eqb (r .kind) 4 (omega arith))
 
 -- the walk starts past the accesses
 pub walk-skips :
     (tr : List Record) (ranks : List ℕ) (w chains from : ℕ) (cs : List ℕ) →
-    walk (opBy tr ranks) w chains (length tr - (from + leading tr (length tr - from) from)) (from + leading tr (length tr - from) from) cs
+    walk (orderingBy tr ranks) w chains (length tr - (from + leading tr (length tr - from) from)) (from + leading tr (length tr - from) from) cs
     ≡ walkFrom tr ranks w chains from cs
 unfolding walkFrom
 walk-skips tr ranks w chains from cs = go (decide-lt (length tr) from)
@@ -250,6 +252,6 @@ walk-skips tr ranks w chains from cs = go (decide-lt (length tr) from)
     k : ℕ
     k = leading tr (length tr - from) from
 
-    go : (length tr < from) ⊎ (from ≤ length tr) → walk (opBy tr ranks) w chains (length tr - (from + k)) (from + k) cs ≡ walk (opBy tr ranks) w chains (length tr - from) from cs
+    go : (length tr < from) ⊎ (from ≤ length tr) → walk (orderingBy tr ranks) w chains (length tr - (from + k)) (from + k) cs ≡ walk (orderingBy tr ranks) w chains (length tr - from) from cs
     go (inl h) = let e : from + k ≡ from = leading-over tr (length tr) from (omega arith) in rw e
-    go (inr h) = sym (walk-past (opBy tr ranks) w chains (length tr) cs k from (omega (arith, leading-le tr (length tr - from) from)) (λ j a b. access-other (λ e. getD ranks e 0) (at tr j) (leading-accesses tr (length tr - from) from j a b)))
+    go (inr h) = sym (walk-past (orderingBy tr ranks) w chains (length tr) cs k from (omega (arith, leading-le tr (length tr - from) from)) (λ j a b. access-other (λ e. getD ranks e 0) (at tr j) (leading-accesses tr (length tr - from) from j a b)))

@@ -22,8 +22,8 @@ module _ (tr : List Record) where
   beginPosition u = first (λ i. isBegin (at tr i) && eqb (begins (past tr i)) u) (length tr)
 
   -- the row of the begin that needs more chains than the width, or the number of event actions
-  unfoldable pub shortRow : ℕ → ℕ
-  shortRow width = needs (leq (traceLinks tr)) width eventsIn
+  unfoldable pub rowPastWidth : ℕ → ℕ
+  rowPastWidth width = needs (leq (traceLinks tr)) width eventsIn
 
   -- "chains used"
   unfoldable pub chainsUsed : ℕ

@@ -9,7 +9,8 @@ use Rattle.records.specs.declared.Record.{Record}
 use Rattle.records.specs.Records.{at, past, isBegin, isFork, isJoin, begins}
 use Rattle.order.specs.Links.{Links, leq}
 use Rattle.order.specs.Schedule.{linksOf}
-use Rattle.ranks.specs.Said.{opOf, Op}
+use Rattle.ranks.specs.declared.Ordering.{Ordering}
+use Rattle.ranks.specs.OrderingOf.{orderingOf}
 
 module _ (tr : List Record) where
   -- e begins in the trace
@@ -37,12 +38,12 @@ rankIn e (r ∷ before) = cond (isBegin r && eqb (r .first) e) (begins before + 
 unfoldable pub rank : List Record → ℕ → ℕ
 rank tr e = rankIn e (past tr (length tr))
 
-unfoldable pub opAt : List Record → ℕ → Op
-opAt tr i = opOf (rank tr) (at tr i)
+unfoldable pub orderingAt : List Record → ℕ → Ordering
+orderingAt tr i = orderingOf (rank tr) (at tr i)
 
 -- the links of a trace, its event actions numbered from 0 in order of begin
 abbrev pub traceLinks : List Record → Links
-traceLinks tr = linksOf (opAt tr) (length tr)
+traceLinks tr = linksOf (orderingAt tr) (length tr)
 
 -- happens-before by rank, where both begin
 abbrev pub leqRanks : Links → ℕ → ℕ → Bool

@@ -10,7 +10,7 @@ use Rattle.records.specs.declared.Trace.{Trace}
 use Rattle.trace.specs.Reply.{Reply, gives, demand, then, unless}
 use Rattle.trace.specs.Reading.{recordsIn, readReply}
 use Rattle.clocks.specs.Rows.{spaceFor}
-use Rattle.order.specs.Fill.{beginPosition, shortRow, chainsUsed, chainTable, noChains, traceClocks}
+use Rattle.order.specs.Fill.{beginPosition, rowPastWidth, chainsUsed, chainTable, noChains, traceClocks}
 
 -- "11: an event asked about has no begin in the trace, or a record asked about is not in it.": the reading of a call that asks about some, and the
 -- test whether they are there
@@ -36,7 +36,7 @@ spaced found width clocks work = then found (λ t. spaces (t .events) width cloc
 
 -- "23: the chain rule needs more chains than the width; place is the begin that needs one"
 unfoldable pub enoughChains : {A : Type 0} → List Record → ℕ → ℕ → Reply A → Reply A
-enoughChains tr events width next = demand (eqb (shortRow tr width) events) 23 (beginPosition tr (shortRow tr width) + 1) next
+enoughChains tr events width next = demand (eqb (rowPastWidth tr width) events) 23 (beginPosition tr (rowPastWidth tr width) + 1) next
 
 -- a call's reply: the trace that it goes on with, 23, and what it answers of that trace
 unfoldable pub onClocks : {A : Type 0} → List ℕ → Reply Trace → ℕ → (Trace → Reply A) → Reply A

@@ -30,17 +30,17 @@ pub record Fills (b : List ℕ) (width : ℕ) (clocks clocks′ : List ℕ) (r :
   pub clocks-after : clocks′ ≡ clocksAfter b (fillReady b width (length clocks)) width clocks
 
 -- the same of an accepted trace's records that the clocks have space for, the chain of each row, and the ranks of all events
-pub record FillsTrace (tr : List Record) (events width : ℕ) (clocks clocks′ : List ℕ) (r : Filling) (of all : List ℕ) : Type 0 where
+pub record FillsTrace (tr : List Record) (events width : ℕ) (clocks clocks′ : List ℕ) (r : Filling) (chosen ranks : List ℕ) : Type 0 where
   pub answer : fillPaper r ≡ enoughChains tr events width (gives (chainsUsed tr))
   pub clocks-after : clocks′ ≡ clocksFilled tr events width clocks
-  pub chains-after : of ≡ chainsFilled tr events width
-  pub ranks-after : all ≡ ranksOf tr
+  pub chains-after : chosen ≡ chainsFilled tr events width
+  pub ranks-after : ranks ≡ ranksOf tr
 
 -- filling for a call that goes on with the trace `ready`: the answer, the trace that it gets, the lent clocks, the chain of each row, and the
 -- ranks of all events
-pub record Prepares (b : List ℕ) (ready : Reply Trace) (width : ℕ) (clocks clocks′ of′ all all′ : List ℕ) (r : Filling) (t : Trace) : Type 0 where
+pub record Prepares (b : List ℕ) (ready : Reply Trace) (width : ℕ) (clocks clocks′ chosen′ ranks ranks′ : List ℕ) (r : Filling) (t : Trace) : Type 0 where
   pub answer : fillPaper r ≡ onClocks b ready width (λ t. gives (chainsUsed (recordsIn b t)))
   pub trace-is : t ≡ unless ready noTrace (λ t. t)
   pub clocks-after : clocks′ ≡ clocksAfter b ready width clocks
-  pub chains-after : of′ ≡ unless ready noChains (λ t. chainsFilled (recordsIn b t) (t .events) width)
-  pub ranks-after : all′ ≡ unless ready all (λ t. ranksOf (recordsIn b t))
+  pub chains-after : chosen′ ≡ unless ready noChains (λ t. chainsFilled (recordsIn b t) (t .events) width)
+  pub ranks-after : ranks′ ≡ unless ready ranks (λ t. ranksOf (recordsIn b t))

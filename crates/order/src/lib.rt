@@ -100,18 +100,25 @@ pub fn prepare(
     width: usize,
     room: usize,
     clocks: &mut [u16],
-    of: &mut [u16; 1024],
-    all: &mut [u16; 1025],
+    chosen: &mut [u16; 1024],
+    ranks: &mut [u16; 1025],
 ) -> Prepared
     ensures { λ r. ⌜ Prepares (now (bytes .entry)) (readWithin (now (bytes .entry)) (lowest .0) (highest .0) width (length (now (clocks .entry))) room)
-        width (now (clocks .entry)) (now (clocks .exit)) (now (of .exit)) (now (all .entry)) (now (all .exit)) (r .answer) (r .trace) ⌝ }
+        width (now (clocks .entry)) (now (clocks .exit)) (now (chosen .exit)) (now (ranks .entry)) (now (ranks .exit)) (r .answer) (r .trace) ⌝ }
 {
-    clear(of, 1024);
+    clear(chosen, 1024);
     let reading = read_within(bytes, lowest.0, highest.0, width, clocks.len(), room);
     let Reading::Accepted(t) = reading else {
         return rows::unfilled(trace::refusal_of(reading));
     };
-    let answer = rows::fill_rows(access::records(bytes, t), t.events, width, clocks, of, all);
+    let answer = rows::fill_rows(
+        access::records(bytes, t),
+        t.events,
+        width,
+        clocks,
+        chosen,
+        ranks,
+    );
     Prepared {
         answer: answer,
         trace: t,
@@ -126,14 +133,14 @@ pub fn fill(bytes: &[u8], width: usize, clocks: &mut [u16]) -> Filling
     let Reading::Accepted(t) = reading else {
         return Filling::Refused(trace::refusal_of(reading));
     };
-    let mut of = numbers_1024();
-    let mut all = numbers_1025();
+    let mut chosen = numbers_1024();
+    let mut ranks = numbers_1025();
     rows::fill_rows(
         access::records(bytes, t),
         t.events,
         width,
         clocks,
-        &mut of,
-        &mut all,
+        &mut chosen,
+        &mut ranks,
     )
 }

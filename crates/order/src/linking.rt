@@ -11,7 +11,7 @@ ghost use lib.Dec.{eqb};
 ghost use lib.ListN.{getD, set};
 ghost use Rattle.records.specs.Bytes.{decode};
 ghost use Rattle.clocks.specs.Rows.{rowsIf, mergeRow, copyRow};
-ghost use Rattle.order.specs.loops.Walk.{opBy, TakesLink, FillWalks};
+ghost use Rattle.order.specs.loops.Walk.{orderingBy, TakesLink, FillWalks};
 
 fn hint_of(c: u16) -> u16
     ensures { λ r. ⌜ r ≡ 1024 - c ⌝ }
@@ -60,7 +60,7 @@ fn pass_record(
     clocks: &mut [u16],
     hints: &mut [u16],
 ) -> bool
-    ensures { λ r. ⌜ TakesLink width chains (opBy (decode (now (recs .entry))) (now (ranks .entry)) i)
+    ensures { λ r. ⌜ TakesLink width chains (orderingBy (decode (now (recs .entry))) (now (ranks .entry)) i)
         (now (clocks .entry)) (now (hints .entry)) (now (clocks .exit)) (now (hints .exit)) r ⌝ }
 {
     let said = ranks::ordering_at(recs, ranks, i);

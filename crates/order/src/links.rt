@@ -3,7 +3,7 @@ use clocks::merge_row;
 use ranks::Ordering;
 use records::access;
 ghost use Rattle.records.specs.Bytes.{decode};
-ghost use Rattle.order.specs.loops.Walk.{opBy, Takes, Walks};
+ghost use Rattle.order.specs.loops.Walk.{orderingBy, Takes, Walks};
 
 // The record at position i: where it is a link, the earlier row is merged into the later one. Is it a begin?
 fn pass_record(
@@ -14,7 +14,7 @@ fn pass_record(
     chains: usize,
     clocks: &mut [u16],
 ) -> bool
-    ensures { λ r. ⌜ Takes width chains (opBy (decode (now (recs .entry))) (now (ranks .entry)) i)
+    ensures { λ r. ⌜ Takes width chains (orderingBy (decode (now (recs .entry))) (now (ranks .entry)) i)
         (now (clocks .entry)) (now (clocks .exit)) r ⌝ }
 {
     let said = ranks::ordering_at(recs, ranks, i);

@@ -52,14 +52,14 @@ fn begin_row(
     width: usize,
     u: usize,
     sizes: &mut [u16],
-    of: &mut [u16],
+    chosen: &mut [u16],
     chains: usize,
 ) -> usize
-    requires { ⌜ RoomToBegin width u (record { clocks = now clocks; sizes = now sizes; of = now of; chains = chains }) ⌝ }
-    ensures { λ r. ⌜ Are (beginRow width u (record { clocks = now (clocks .entry); sizes = now (sizes .entry); of = now (of .entry); chains = chains }))
-        (now (clocks .exit)) (now (sizes .exit)) (now (of .exit)) r ⌝ }
+    requires { ⌜ RoomToBegin width u (record { clocks = now clocks; sizes = now sizes; chosen = now chosen; chains = chains }) ⌝ }
+    ensures { λ r. ⌜ Are (beginRow width u (record { clocks = now (clocks .entry); sizes = now (sizes .entry); chosen = now (chosen .entry); chains = chains }))
+        (now (clocks .exit)) (now (sizes .exit)) (now (chosen .exit)) r ⌝ }
 {
-    let c = choose_hinted(clocks, width, u, sizes, chains, of[u]);
+    let c = choose_hinted(clocks, width, u, sizes, chains, chosen[u]);
     if width <= c {
         return width + 1;
     }
@@ -67,7 +67,7 @@ fn begin_row(
     let e = a + width;
     add_one(&mut clocks[a..e], c);
     sizes[c] += 1;
-    of[u] = c as u16;
+    chosen[u] = c as u16;
     if chains <= c {
         return c + 1;
     }
@@ -75,11 +75,11 @@ fn begin_row(
 }
 
 // Zeros in row u before it begins, where no link came to it.
-fn clear_fresh(clocks: &mut [u16], width: usize, u: usize, of: &[u16])
-    requires { ⌜ (u < length (now of)) × (u < 65536) ⌝ }
-    ensures { λ r. ⌜ now (clocks .exit) ≡ rowsIf (eqb (getD (now (of .entry)) u 0) 0) (clearRow width u (now (clocks .entry))) (now (clocks .entry)) ⌝ }
+fn clear_fresh(clocks: &mut [u16], width: usize, u: usize, chosen: &[u16])
+    requires { ⌜ (u < length (now chosen)) × (u < 65536) ⌝ }
+    ensures { λ r. ⌜ now (clocks .exit) ≡ rowsIf (eqb (getD (now (chosen .entry)) u 0) 0) (clearRow width u (now (clocks .entry))) (now (clocks .entry)) ⌝ }
 {
-    if of[u] == 0 {
+    if chosen[u] == 0 {
         clear_row(clocks, width, u as u16);
     }
 }
@@ -96,18 +96,18 @@ fn pass(
     clocks: &mut [u16],
     width: usize,
     sizes: &mut [u16],
-    of: &mut [u16],
+    chosen: &mut [u16],
 ) -> Passed
-    requires { ⌜ Ready (decode (now recs)) width (now ranks) (now clocks) (now sizes) (now of) ⌝ }
-    ensures { λ r. ⌜ Passes (decode (now (recs .entry))) width (now (clocks .entry)) (now (clocks .exit)) (now (of .exit)) (r .chains) (r .position) ⌝ }
+    requires { ⌜ Ready (decode (now recs)) width (now ranks) (now clocks) (now sizes) (now chosen) ⌝ }
+    ensures { λ r. ⌜ Passes (decode (now (recs .entry))) width (now (clocks .entry)) (now (clocks .exit)) (now (chosen .exit)) (r .chains) (r .position) ⌝ }
 {
     let n = access::count(recs);
     let mut chains = 0;
     let mut u = 0;
     let mut i = 0;
     while i < n {
-        clear_fresh(clocks, width, u, of);
-        let next = begin_row(clocks, width, u, sizes, of, chains);
+        clear_fresh(clocks, width, u, chosen);
+        let next = begin_row(clocks, width, u, sizes, chosen, chains);
         if width < next {
             return Passed {
                 chains: chains,
@@ -115,7 +115,7 @@ fn pass(
             };
         }
         chains = next;
-        i = pass_links(recs, ranks, width, chains, clocks, of, i + 1);
+        i = pass_links(recs, ranks, width, chains, clocks, chosen, i + 1);
         u += 1;
     }
     Passed {
@@ -144,21 +144,21 @@ pub(crate) fn fill_rows(
     events: usize,
     width: usize,
     clocks: &mut [u16],
-    of: &mut [u16],
-    all: &mut [u16; 1025],
+    chosen: &mut [u16],
+    ranks: &mut [u16; 1025],
 ) -> Filling
     requires { ⌜ Acceptable (decode (now recs)) × (events ≡ eventsIn (decode (now recs)))
-        × (spaceFor width events (length (now clocks)) ≡ true) × (now of ≡ noChains) ⌝ }
-    ensures { λ r. ⌜ FillsTrace (decode (now (recs .entry))) events width (now (clocks .entry)) (now (clocks .exit)) r (now (of .exit)) (now (all .exit)) ⌝ }
+        × (spaceFor width events (length (now clocks)) ≡ true) × (now chosen ≡ noChains) ⌝ }
+    ensures { λ r. ⌜ FillsTrace (decode (now (recs .entry))) events width (now (clocks .entry)) (now (clocks .exit)) r (now (chosen .exit)) (now (ranks .exit)) ⌝ }
 {
     let rows = events as u16;
-    ranks::fill_ranks(recs, all);
+    ranks::fill_ranks(recs, ranks);
     let mut sizes = numbers_1024();
-    let passed = pass(recs, all, clocks, width, &mut sizes, of);
+    let passed = pass(recs, ranks, clocks, width, &mut sizes, chosen);
     let position = passed.position;
     if position < access::count(recs) {
         clear_rows(clocks, width, rows);
-        clear(of, 1024);
+        clear(chosen, 1024);
         return Filling::Refused(Refusal {
             number: trace::CHAINS,
             place: Operation((position + 1) as u16),

@@ -24,9 +24,9 @@ use Rattle.order.specs.Links as links
 use Rattle.order.specs.Chains.{firstFrom, pick, put, lasts, chain, used, needs}
 use Rattle.order.specs.Clocks.{largest, table, flat, entry, clocksOf}
 use Rattle.order.specs.Schedule.{linked}
-use Rattle.ranks.specs.Said.{opOf}
-use Rattle.order.specs.HappensBefore.{rankIn, rank, opAt, happensBefore}
-use Rattle.order.specs.Fill.{eventsIn, beginPosition, shortRow, chainsUsed, traceClocks}
+use Rattle.ranks.specs.OrderingOf.{orderingOf}
+use Rattle.order.specs.HappensBefore.{rankIn, rank, orderingAt, happensBefore}
+use Rattle.order.specs.Fill.{eventsIn, beginPosition, rowPastWidth, chainsUsed, traceClocks}
 use Rattle.order.specs.Lent.{asking, spaces, spaced, enoughChains, onClocks, clocksFilled, clocksAfter, fillReady, fillReply}
 use Rattle.coverage.specs.Below.{some, upto, pairs}
 use Rattle.coverage.specs.Race.{before, raceb}
@@ -171,8 +171,8 @@ cases =
 hold : map said cases ≡ map (λ (c : Case). c .expected) cases
 unfolding cases encode trailer recordAt recordsFrom decode past has begun ended records.begins place situation owner numbered wellFormed misplaced again early
     judge rule demand orElse then unless closing walk distance trailerReply frameReply part recordsIn readReply recordsRead within along leq links.some
-    firstFrom pick put lasts chain used needs largest table flat entry clocksOf linked rankIn rank opOf opAt happensBefore eventsIn
-    beginPosition shortRow chainsUsed traceClocks spaceFor asking spaces spaced enoughChains onClocks clocksFilled clocksAfter fillReady fillReply some upto pairs
+    firstFrom pick put lasts chain used needs largest table flat entry clocksOf linked rankIn rank orderingOf orderingAt happensBefore eventsIn
+    beginPosition rowPastWidth chainsUsed traceClocks spaceFor asking spaces spaced enoughChains onClocks clocksFilled clocksAfter fillReady fillReply some upto pairs
     before raceb coversFromb reach leads lastKept entries conflicts writeBetween neighbour allRaces shortList pairsOf shapeOf markOf
     lists.entry numbers listFilled listReady listReply listAfter isRecord areRecords answered pairFilled pairReady
     pairReply keptEntries

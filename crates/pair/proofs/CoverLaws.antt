@@ -23,7 +23,7 @@ use Rattle.coverage.proofs.Theorems.{cover-next}
 use Rattle.coverage.proofs.Leads.{le-leads}
 use Rattle.races.specs.Traces.{settingOf}
 use Rattle.pair.specs.loops.Leading.{mark, Marks}
-use Rattle.races.specs.loops.Filled.{rows, Filled, RowsIn}
+use Rattle.races.specs.loops.FilledClocks.{rows, FilledClocks, RowsIn}
 use Rattle.races.specs.loops.Candidates.{cell}
 use Rattle.records.specs.Search.{leastKind, mayRace, Past, NextAccess}
 use Rattle.pair.specs.Pair.{raceEntry, raceEntries, GivesCover}
@@ -91,11 +91,11 @@ module _ {tr : List Record} (a : Acceptable tr) (b : ℕ) (inside : b < length t
         go (x, y, r, h, l, w) = n x y (later x (omega (arith, r .first)) h) (omega arith) (leading y w) (of-parts t x y r h)
 
 -- the row that the code finds
-pub row-told : {tr : List Record} {ranks of : List ℕ} {width : ℕ} {clocks : List ℕ} (f : Filled tr ranks of width clocks) (x : ℕ) → x < length tr → {r : ℕ} → r ≡ getD ranks (eventOf (at tr x)) 0 - 1 → rowOf tr x ≡ r
+pub row-told : {tr : List Record} {ranks chosen : List ℕ} {width : ℕ} {clocks : List ℕ} (f : FilledClocks tr ranks chosen width clocks) (x : ℕ) → x < length tr → {r : ℕ} → r ≡ getD ranks (eventOf (at tr x)) 0 - 1 → rowOf tr x ≡ r
 row-told f x h e = sym (e ∙ ap (λ (k : ℕ). k - 1) (rank-is f x h))
 
 -- The first record that so races with d, looked for along the accesses of its cell.
-module _ {tr : List Record} {ranks of : List ℕ} {width : ℕ} {clocks : List ℕ} (f : Filled tr ranks of width clocks) (lo t d : ℕ) (inside : d < length tr) where
+module _ {tr : List Record} {ranks chosen : List ℕ} {width : ℕ} {clocks : List ℕ} (f : FilledClocks tr ranks chosen width clocks) (lo t d : ℕ) (inside : d < length tr) where
   abbrev acc : Acceptable tr
   acc = f .acceptable
 
@@ -150,25 +150,25 @@ module _ {tr : List Record} {ranks of : List ℕ} {width : ℕ} {clocks : List �
       row-c : s ≡ rowOf tr c
       row-c = sym (row-told f c inside-c es)
 
-      pub along-rows : t < rows tr → (width ≤ 1024) × (t < 1024) × (s < 1024) × (u < 1024) × (length of ≡ 1024)
+      pub along-rows : t < rows tr → (width ≤ 1024) × (t < 1024) × (s < 1024) × (u < 1024) × (length chosen ≡ 1024)
       along-rows k =
           let m = few-events acc in
           (f .narrow, omega (arith, k, m), omega (arith, row-c, row-low acc c inside-c, m), omega (arith, row-of-d u (n .row-is), row-low acc d inside, m), of-length f)
 
-      told : (y : ℕ) → y < length tr → rowOf tr y ≡ t → racesFrom tr y c d ≡ goesOn of width clocks t s u
+      told : (y : ℕ) → y < length tr → rowOf tr y ≡ t → racesFrom tr y c d ≡ goesOn chosen width clocks t s u
       unfolding racesFrom goesOn
       told y h q = ap₂ _&&_
           (may-race tr acc c d l inside (kind-access acc d inside (n .access)) (may-found tr c d (n .cell-is) (n .least-is) (n .may l)) ∙ sym (unordered-told f c d s u inside-c inside row-c (row-of-d u (n .row-is)) l))
           (sym (before-told f y c t s h inside-c (sym q) row-c))
 
-      pub along-found : goesOn of width clocks t s u ≡ true → FirstFrom tr ranks work lo t d c
+      pub along-found : goesOn chosen width clocks t s u ≡ true → FirstFrom tr ranks work lo t d c
       along-found v b y m h q = record { found = λ k. (leading (leads (settingOf tr) b (eventOf (at tr d))) (marked work u (n .row-is) b m), subst T (sym (told y h q ∙ v)) tt); none = λ k. absurd (omega arith) }
         where
           leading : (v : Bool) → getD work u 0 ≡ mark v → T v
           leading true z = tt
           leading false z = absurd (n .marked-is z)
 
-      pub along-next : {r : ℕ} → goesOn of width clocks t s u ≡ false → NextAccess tr least x (c + 1) d r → Along work u x least r
+      pub along-next : {r : ℕ} → goesOn chosen width clocks t s u ≡ false → NextAccess tr least x (c + 1) d r → Along work u x least r
       along-next {r} off p = record { cell-is = n .cell-is; least-is = n .least-is; access = n .access; row-is = n .row-is; marked-is = n .marked-is; high = p .high; may = p .found; none = λ y z h q m k w. go y z h q m k w (lt-or-ge z c) (lt-or-ge c z) }
         where
           go : (y z : ℕ) → y < length tr → rowOf tr y ≡ t → lo ≤ z → z < r → T (racesFrom tr y z d) → (z < c) ⊎ (c ≤ z) → (c < z) ⊎ (z ≤ c) → ⊥

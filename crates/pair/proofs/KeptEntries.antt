@@ -16,7 +16,7 @@ use Rattle.slices.proofs.Tests.{decide-eq, passed}
 use Rattle.coverage.proofs.Leads.{leads-self}
 use Rattle.races.specs.Traces.{settingOf}
 use Rattle.pair.specs.loops.Leading.{mark, Marks}
-use Rattle.races.specs.loops.Filled.{rows}
+use Rattle.races.specs.loops.FilledClocks.{rows}
 use Rattle.pair.specs.loops.Kept.{rowOf}
 use Rattle.pair.specs.Pair.{withEntries, keptEntries}
 use Rattle.pair.specs.loops.PairSearch.{keptBelow, PutsEnd}

@@ -27,7 +27,7 @@ use Rattle.coverage.proofs.Leads.{leads-self, leads-below, leads-race, leads-ah
 use Rattle.coverage.proofs.Steps.{leads-closed}
 use Rattle.races.specs.Traces.{isAccess, cellsOf, settingOf}
 use Rattle.pair.specs.loops.Leading.{mark}
-use Rattle.races.specs.loops.Filled.{rows, Filled}
+use Rattle.races.specs.loops.FilledClocks.{rows, FilledClocks}
 use Rattle.pair.specs.loops.Kept.{rowOf, level, Starts, Split, Block, Accessed, Noted, clashes, OneClashes, Bytes, Merged, Rest, KeptAccess, Below, Kept, MarksKept}
 use Rattle.races.proofs.Instance.{laws, links, access-kind, access-inside}
 use Rattle.races.proofs.CandidateLaws.{cell-low, kind-access}
@@ -201,7 +201,7 @@ noted-bytes {tr} a lo hi cells cells′ h b n = record { size = n .size ∙ b .s
     low c (inr l) = let e : getD cells′ c 0 ≡ 0 = List·getD-eq-default cells′ 0 (omega (arith, n .size)) in omega arith
 
 -- Over filled clocks.
-module _ {tr : List Record} (b : ℕ) (access : T (isAccess (at tr b))) {of : List ℕ} {width : ℕ} {clocks : List ℕ} (f : Filled tr (ranksOf tr) of width clocks) where
+module _ {tr : List Record} (b : ℕ) (access : T (isAccess (at tr b))) {chosen : List ℕ} {width : ℕ} {clocks : List ℕ} (f : FilledClocks tr (ranksOf tr) chosen width clocks) where
   abbrev ev : ℕ → ℕ
   ev i = eventOf (at tr i)
 
@@ -210,10 +210,10 @@ module _ {tr : List Record} (b : ℕ) (access : T (isAccess (at tr b))) {of : Li
 
   -- a row's own entry, and an entry of a row of that chain
   abbrev own : ℕ → ℕ
-  own x = getD clocks (rowOf tr x * width + getD of (rowOf tr x) 0) 0
+  own x = getD clocks (rowOf tr x * width + getD chosen (rowOf tr x) 0) 0
 
   abbrev chain : ℕ → ℕ
-  chain x = getD of (rowOf tr x) 0
+  chain x = getD chosen (rowOf tr x) 0
 
   abbrev a : Acceptable tr
   a = f .acceptable
@@ -229,7 +229,7 @@ module _ {tr : List Record} (b : ℕ) (access : T (isAccess (at tr b))) {of : Li
       e = rows-before f x y (rowOf tr x) (rowOf tr y) h k refl refl
 
   -- One row more: t, whose records stand from lo on, before hi.
-  module _ {t lo hi : ℕ} (s : Block tr t lo hi) {work row cells : List ℕ} (p : Kept tr b of width clocks (suc t) hi work row cells) where
+  module _ {t lo hi : ℕ} (s : Block tr t lo hi) {work row cells : List ℕ} (p : Kept tr b chosen width clocks (suc t) hi work row cells) where
     lo-in : lo < length tr
     lo-in = omega (arith, s .some, s .to .inside)
 
@@ -342,7 +342,7 @@ module _ {tr : List Record} (b : ℕ) (access : T (isAccess (at tr b))) {of : Li
     low-lo = omega (arith, p .low, s .some)
 
     -- it is not kept
-    pub keeps-by : (Leading lo → ⊥) → Kept tr b of width clocks t lo work row cells
+    pub keeps-by : (Leading lo → ⊥) → Kept tr b chosen width clocks t lo work row cells
     keeps-by n = record {
       low = low-lo;
       marks = λ x l k. marks x l k (lt-or-ge x hi);
@@ -365,7 +365,7 @@ module _ {tr : List Record} (b : ℕ) (access : T (isAccess (at tr b))) {of : Li
 
     -- it is kept
     module _ (h : Leading lo) (room : rows tr ≤ length work) (size : length cells ≡ 1025) (work′ row′ cells′ : List ℕ) (marked : work′ ≡ set work t 1) (noted : Noted tr lo hi cells cells′) where
-      keeps : ((x : ℕ) → x < length tr → (own x ≤ getD row′ (chain x) 0) ↔ ((own x ≤ getD row (chain x) 0) ⊎ T (happensBefore tr (ev x) (ev lo)))) → Kept tr b of width clocks t lo work′ row′ cells′
+      keeps : ((x : ℕ) → x < length tr → (own x ≤ getD row′ (chain x) 0) ↔ ((own x ≤ getD row (chain x) 0) ⊎ T (happensBefore tr (ev x) (ev lo)))) → Kept tr b chosen width clocks t lo work′ row′ cells′
       keeps raised = record {
         low = low-lo;
         marks = λ x l k. rw marked (marks x l k (lt-or-ge x hi));
@@ -395,7 +395,7 @@ module _ {tr : List Record} (b : ℕ) (access : T (isAccess (at tr b))) {of : Li
           down x g (inr k) = inr (k .0)
 
       -- by happens-before: the row is as it was
-      pub keeps-below : own lo ≤ getD row (chain lo) 0 → row′ ≡ row → Kept tr b of width clocks t lo work′ row′ cells′
+      pub keeps-below : own lo ≤ getD row (chain lo) 0 → row′ ≡ row → Kept tr b chosen width clocks t lo work′ row′ cells′
       keeps-below l e = keeps (λ x k. rw e (λ m. inl m, back x k))
         where
           back : (x : ℕ) → x < length tr → (own x ≤ getD row (chain x) 0) ⊎ T (happensBefore tr (ev x) (ev lo)) → own x ≤ getD row (chain x) 0
@@ -405,7 +405,7 @@ module _ {tr : List Record} (b : ℕ) (access : T (isAccess (at tr b))) {of : Li
               p .entries x k .1 (record { position = g .position; from = g .from; inside = g .inside; leading = g .leading; before = laws a .le-trans (ev x) (ev lo) (ev (g .position)) m (g .before) })
 
       -- by a conflict: its row is merged
-      pub keeps-merged : {chains : ℕ} → ((x : ℕ) → x < length tr → chain x < chains) → Merged clocks (t * width) chains row row′ → Kept tr b of width clocks t lo work′ row′ cells′
+      pub keeps-merged : {chains : ℕ} → ((x : ℕ) → x < length tr → chain x < chains) → Merged clocks (t * width) chains row row′ → Kept tr b chosen width clocks t lo work′ row′ cells′
       keeps-merged few m = keeps (λ x k. rw (m .tells (chain x) (few x k)) (there x k (lt-or-ge (getD row (chain x) 0) (own x)), back x k))
         where
           e : (x : ℕ) → getD clocks (t * width + chain x) 0 ≡ getD clocks (rowOf tr lo * width + chain x) 0
@@ -436,7 +436,7 @@ module _ {tr : List Record} (b : ℕ) (access : T (isAccess (at tr b))) {of : Li
     leads-own x e = subst (λ (u : ℕ). T (leads (settingOf tr) b u)) (sym e) (leads-self (settingOf tr) (laws a) b)
 
     module _ (work work′ row row′ cells : List ℕ) (room : rows tr ≤ length work) (unmarked : (r : ℕ) → r < rows tr → getD work r 0 ≡ 0) (marked : work′ ≡ set work (rowOf tr b) 1) (noted : Noted tr lo b (zeros 1025) cells) where
-      pub keeps-start : {chains : ℕ} → ((x : ℕ) → x < length tr → chain x < chains) → ((c : ℕ) → getD row c 0 ≡ 0) → Merged clocks (rowOf tr b * width) chains row row′ → Kept tr b of width clocks (rowOf tr b) lo work′ row′ cells
+      pub keeps-start : {chains : ℕ} → ((x : ℕ) → x < length tr → chain x < chains) → ((c : ℕ) → getD row c 0 ≡ 0) → Merged clocks (rowOf tr b * width) chains row row′ → Kept tr b chosen width clocks (rowOf tr b) lo work′ row′ cells
       keeps-start few blank m = record {
         low = s .low;
         marks = λ x l k. rw marked (marks x l k (decide-eq (ev x) (ev b)));
@@ -465,7 +465,7 @@ module _ {tr : List Record} (b : ℕ) (access : T (isAccess (at tr b))) {of : Li
           down x l k = omega (arith, entry x l, entry-before x b l inside .1 (subst (λ (u : ℕ). T (happensBefore tr (ev x) u)) (own-leads (k .position) (k .from) (k .inside) (k .leading)) (k .before)))
 
   -- At the end: the marks of all event actions.
-  pub keeps-end : {hi : ℕ} {work work′ row cells : List ℕ} → Kept tr b of width clocks 0 hi work′ row cells → Split tr 0 hi → rows tr ≤ length work → Rest tr work work′ → MarksKept tr b work work′
+  pub keeps-end : {hi : ℕ} {work work′ row cells : List ℕ} → Kept tr b chosen width clocks 0 hi work′ row cells → Split tr 0 hi → rows tr ≤ length work → Rest tr work work′ → MarksKept tr b work work′
   keeps-end {hi} {work} {work′} p s room rest = record {
     marks = record { acceptable = a; ranks-are = refl; inside = inside; work-is = marks-made a b work′ (omega (arith, rest .size)) (λ x h. p .marks x (from x (lt-or-ge x hi)) h) };
     rest = rest;

@@ -25,9 +25,9 @@ use Rattle.order.proofs.LentLaws.{filled as made}
 use Rattle.order.proofs.PrepareLaws.{prepared}
 use Rattle.slices.proofs.Tests.{both, and, same}
 use Rattle.pair.specs.declared.PairAnswer.{PairAnswer}
-use Rattle.races.specs.loops.Filled as hand
+use Rattle.races.specs.loops.FilledClocks as hand
 use Rattle.pair.specs.Pair.{PairMark, pairPaper, isRecord, areRecords, pairFilled, AnswersFilled, pairReady, pairReply, PairPromise, ListAfter, entriesGiven}
-use Rattle.races.specs.loops.Filled.{Clear}
+use Rattle.races.specs.loops.FilledClocks.{Clear}
 use Rattle.races.proofs.PreparedLaws.{marks-cleared, after-work, fitting, filled-whole, work-clear}
 
 -- the two records are in the trace
@@ -69,16 +69,16 @@ are-asked tr a b n e = same _ _ there back
         and (leb 1 (min a b)) (leb (max a b) n) (le→leb 1 (min a b) (omega arith)) (le→leb (max a b) n (omega arith))
 
 -- the trace was prepared for both records
-pub for-pair : (a b room : ℕ) {bytes : List ℕ} {lo hi w : ℕ} {cs cs′ of all all′ : List ℕ} {f : Filling} {t : Trace} → lo ≡ min a b → hi ≡ max a b
-    → Prepares bytes (readWithin bytes lo hi w (length cs) room) w cs cs′ of all all′ f t → Prepares bytes (pairReady bytes w (length cs) room a b) w cs cs′ of all all′ f t
+pub for-pair : (a b room : ℕ) {bytes : List ℕ} {lo hi w : ℕ} {cs cs′ chosen ranks ranks′ : List ℕ} {f : Filling} {t : Trace} → lo ≡ min a b → hi ≡ max a b
+    → Prepares bytes (readWithin bytes lo hi w (length cs) room) w cs cs′ chosen ranks ranks′ f t → Prepares bytes (pairReady bytes w (length cs) room a b) w cs cs′ chosen ranks ranks′ f t
 unfolding readWithin pairReady
-for-pair a b room {bytes} {lo} {hi} {w} {cs} {cs′} {of} {all} {all′} {f} {t} low high p =
-    subst (λ (x : Reply Trace). Prepares bytes (spaced x w (length cs) (workFor room)) w cs cs′ of all all′ f t)
+for-pair a b room {bytes} {lo} {hi} {w} {cs} {cs′} {chosen} {ranks} {ranks′} {f} {t} low high p =
+    subst (λ (x : Reply Trace). Prepares bytes (spaced x w (length cs) (workFor room)) w cs cs′ chosen ranks ranks′ f t)
     (same-asking bytes _ _ (λ x e. rw (low, high) (are-asked (recordsIn bytes x) a b (x .records) (accepts bytes x e .counts)))) p
 
 -- and then the marks of its event actions were taken away
-module _ (bytes : List ℕ) (a b w : ℕ) (cs cs′ work work′ of list : List ℕ) (f : Filling) (t : Trace) {all all′ : List ℕ}
-    (p : Prepares bytes (pairReady bytes w (length cs) (length work) a b) w cs cs′ of all all′ f t) (clears : work′ ≡ cleared (t .events) work) where
+module _ (bytes : List ℕ) (a b w : ℕ) (cs cs′ work work′ chosen list : List ℕ) (f : Filling) (t : Trace) {ranks ranks′ : List ℕ}
+    (p : Prepares bytes (pairReady bytes w (length cs) (length work) a b) w cs cs′ chosen ranks ranks′ f t) (clears : work′ ≡ cleared (t .events) work) where
   abbrev Promise : List ℕ → List ℕ → PairAnswer → Type 0
   Promise work″ list′ r = PairPromise bytes w cs cs′ work work″ list list′ a b r
 
@@ -106,7 +106,7 @@ module _ (bytes : List ℕ) (a b w : ℕ) (cs cs′ work work′ of list : List 
   -- what asking needs, and what it gives
   module _ (k : ℕ) (z : fillPaper f ≡ gives k) where
     pub record Askable (recs : List ℕ) : Type 0 where
-      pub filled : hand.Filled (decode recs) all′ of w cs′
+      pub filled : hand.FilledClocks (decode recs) ranks′ chosen w cs′
       pub chains-used : k ≡ chainsUsed (decode recs)
       pub both-in : InTrace (decode recs) a b
       pub clear : Clear (decode recs) (t .events) work′

@@ -18,7 +18,7 @@ use Rattle.coverage.specs.Leading.{leads, lastKept, entries}
 use Rattle.slices.proofs.Tests.{both, either, decide, decide-eq, eq→eqb}
 use Rattle.coverage.proofs.Lists.{upto-zero, upto-yes, upto-no}
 use Rattle.races.specs.Traces.{settingOf}
-use Rattle.races.specs.loops.Filled.{rows}
+use Rattle.races.specs.loops.FilledClocks.{rows}
 use Rattle.pair.specs.Pair.{flat, withEntries, keptEntry, keptEntries}
 use Rattle.pair.specs.loops.PairSearch.{entryAt, keptBelow}
 use Rattle.pair.proofs.RecordRows.{rank-rises, rank-some, rank-few}

@@ -18,7 +18,7 @@ use Rattle.coverage.proofs.Order.{race-of}
 use Rattle.pair.specs.declared.PairAnswer.{PairAnswer}
 use Rattle.pair.specs.declared.PairAnswer.the-variants.{Open, Covered}
 use Rattle.races.specs.Traces.{settingOf}
-use Rattle.races.specs.loops.Filled.{Filled, rows, Clear}
+use Rattle.races.specs.loops.FilledClocks.{FilledClocks, rows, Clear}
 use Rattle.pair.specs.loops.Leading.{mark, Marks}
 use Rattle.trace.specs.Reply.{refused, gives, demand}
 use Rattle.pair.specs.Pair.{isOpen, pairPaper, answered, withEntries, keptEntries, pairFilled, GivesCover, AnswersRace, AnswersFilled}
@@ -61,17 +61,17 @@ unfolding raceb
 out-of-order tr a b l = rw (le-ltb a b l)
 
 -- A race over filled clocks: what leads to b is marked, read and taken away again.
-module _ {tr : List Record} {all of : List ℕ} {width : ℕ} {clocks : List ℕ} (f : Filled tr all of width clocks) {events : ℕ} {work : List ℕ} (w : Clear tr events work) (a b : ℕ) (e : raceb (settingOf tr) a b ≡ true) where
+module _ {tr : List Record} {ranks chosen : List ℕ} {width : ℕ} {clocks : List ℕ} (f : FilledClocks tr ranks chosen width clocks) {events : ℕ} {work : List ℕ} (w : Clear tr events work) (a b : ℕ) (e : raceb (settingOf tr) a b ≡ true) where
   race : Race (settingOf tr) a b
   race = race-of (settingOf tr) a b (subst T (sym e) tt)
 
   first-inside : a < length tr
   first-inside = omega (arith, race .first, race .inside)
 
-  filled-by : (all′ : List ℕ) → all′ ≡ ranksOf tr → Filled tr all′ of width clocks
-  filled-by all′ q = record { acceptable = f .acceptable; ranks-are = q; of-are = f .of-are; narrow = f .narrow; enough = f .enough; rest = f .rest; clocks-are = f .clocks-are }
+  filled-by : (ranks′ : List ℕ) → ranks′ ≡ ranksOf tr → FilledClocks tr ranks′ chosen width clocks
+  filled-by ranks′ q = record { acceptable = f .acceptable; ranks-are = q; chosen-are = f .chosen-are; narrow = f .narrow; enough = f .enough; rest = f .rest; clocks-are = f .clocks-are }
 
-  pub markable : {chains : ℕ} → chains ≡ chainsUsed tr → {u : ℕ} → u ≡ getD all (eventOf (at tr b)) 0 - 1 → Markable tr of width chains clocks work all u b
+  pub markable : {chains : ℕ} → chains ≡ chainsUsed tr → {u : ℕ} → u ≡ getD ranks (eventOf (at tr b)) 0 - 1 → Markable tr chosen width chains clocks work ranks u b
   markable k q = record {
     filled = filled-by (ranksOf tr) refl;
     chains-are = k;
@@ -81,7 +81,7 @@ module _ {tr : List Record} {all of : List ℕ} {width : ℕ} {clocks : List ℕ
     row-is = sym (row-told f b (race .inside) q);
   }
 
-  module _ {work′ : List ℕ} (m : MarksKept tr b work work′) {t : ℕ} (q : t ≡ getD all (eventOf (at tr a)) 0 - 1) where
+  module _ {work′ : List ℕ} (m : MarksKept tr b work work′) {t : ℕ} (q : t ≡ getD ranks (eventOf (at tr a)) 0 - 1) where
     mark-of-a : getD work′ t 0 ≡ mark (coveredb (settingOf tr) a b)
     mark-of-a = ap (λ (r : ℕ). getD work′ r 0) (sym (row-told f a first-inside q)) ∙ marks-tell (m .marks) a first-inside
 
@@ -103,8 +103,8 @@ module _ {tr : List Record} {all of : List ℕ} {width : ℕ} {clocks : List ℕ
     room list l = omega (arith, w .events-are)
 
     -- what writing the entries takes, and what it gives
-    pub for-cover : getD work′ t 0 ≡ 1 → (all′ : List ℕ) → all′ ≡ ranksOf tr → (list : List ℕ) → events ≤ length list / 2 → (Filled tr all′ of width clocks × Marks tr all′ work′ b) × (Race (settingOf tr) a b × T (coveredb (settingOf tr) a b) × (2 * rows tr ≤ length list))
-    for-cover z all′ o list l = ((filled-by all′ o, record { acceptable = f .acceptable; ranks-are = o; inside = race .inside; work-is = m .marks .work-is }), (race, subst T (sym (is-covered z)) tt, room list l))
+    pub for-cover : getD work′ t 0 ≡ 1 → (ranks′ : List ℕ) → ranks′ ≡ ranksOf tr → (list : List ℕ) → events ≤ length list / 2 → (FilledClocks tr ranks′ chosen width clocks × Marks tr ranks′ work′ b) × (Race (settingOf tr) a b × T (coveredb (settingOf tr) a b) × (2 * rows tr ≤ length list))
+    for-cover z ranks′ o list l = ((filled-by ranks′ o, record { acceptable = f .acceptable; ranks-are = o; inside = race .inside; work-is = m .marks .work-is }), (race, subst T (sym (is-covered z)) tt, room list l))
 
     pub for-kept : (list : List ℕ) → events ≤ length list / 2 → Marks tr (ranksOf tr) work′ b × (2 * rows tr ≤ length list)
     for-kept list l = (m .marks, room list l)

@@ -16,7 +16,7 @@ use Rattle.trace.proofs.PlaceRule.{Outside, begins, joins, Inside, ends, forks,
 use Rattle.order.specs.HappensBefore.{rank}
 use Rattle.order.proofs.TraceOrder.{record-begins, begins-rank, begins-at, counted-passes, rank-one}
 use Rattle.slices.proofs.Tests.{decide-eq}
-use Rattle.races.specs.loops.Filled.{rows}
+use Rattle.races.specs.loops.FilledClocks.{rows}
 use Rattle.pair.specs.loops.Kept.{rowOf, Starts, Split, Block}
 use Rattle.races.proofs.CoverNumbers.{named, numbered}
 

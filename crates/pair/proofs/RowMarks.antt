@@ -16,7 +16,7 @@ use Rattle.order.proofs.TraceOrder.{counted, counted-zero, counted-begin, count
 use Rattle.coverage.specs.Leading.{leads}
 use Rattle.races.specs.Traces.{settingOf}
 use Rattle.pair.specs.loops.Leading.{mark, marksIn, leadingMarks, Marks}
-use Rattle.races.specs.loops.Filled.{rows}
+use Rattle.races.specs.loops.FilledClocks.{rows}
 use Rattle.pair.specs.loops.Kept.{rowOf}
 use Rattle.pair.proofs.RecordRows.{row-low, row-one}
 

@@ -14,7 +14,7 @@ ghost use Rattle.records.specs.Bytes.{decode};
 ghost use Rattle.coverage.specs.Race.{Race};
 ghost use Rattle.coverage.specs.Leading.{coveredb};
 ghost use Rattle.races.specs.Traces.{settingOf};
-ghost use Rattle.races.specs.loops.Filled.{Filled, RowsIn, rows};
+ghost use Rattle.races.specs.loops.FilledClocks.{FilledClocks, RowsIn, rows};
 ghost use Rattle.pair.specs.Pair.{entryNumbers, GivesCover};
 ghost use Rattle.pair.specs.loops.PairSearch.{goesOn, FirstFrom, Sought, Next};
 ghost use Rattle.pair.specs.loops.Leading.{Marks};
@@ -27,14 +27,14 @@ pub(crate) struct Step {
 }
 
 // Is row c unordered with row d, and does row t happen before it?
-fn leads_on(of: &[u16], width: usize, clocks: &[u16], t: usize, c: usize, d: usize) -> bool
-    requires { ⌜ (width ≤ 1024) × (t < 1024) × (c < 1024) × (d < 1024) × (length (now of) ≡ 1024) ⌝ }
-    ensures { λ r. ⌜ r ≡ goesOn (now (of .entry)) width (now (clocks .entry)) t c d ⌝ }
+fn leads_on(chosen: &[u16], width: usize, clocks: &[u16], t: usize, c: usize, d: usize) -> bool
+    requires { ⌜ (width ≤ 1024) × (t < 1024) × (c < 1024) × (d < 1024) × (length (now chosen) ≡ 1024) ⌝ }
+    ensures { λ r. ⌜ r ≡ goesOn (now (chosen .entry)) width (now (clocks .entry)) t c d ⌝ }
 {
-    if !is_unordered(racing::relate_rows(of, width, clocks, c, d)) {
+    if !is_unordered(racing::relate_rows(chosen, width, clocks, c, d)) {
         return false;
     }
-    is_before(racing::relate_rows(of, width, clocks, t, c))
+    is_before(racing::relate_rows(chosen, width, clocks, t, c))
 }
 
 // The first record from lo on, before d, that races with d and that the event action of row t happens before, where the event action of d is marked; d where
@@ -42,7 +42,7 @@ fn leads_on(of: &[u16], width: usize, clocks: &[u16], t: usize, c: usize, d: usi
 fn find_first(
     recs: &[u8],
     ranks: &[u16],
-    of: &[u16],
+    chosen: &[u16],
     width: usize,
     clocks: &[u16],
     work: &[u8],
@@ -50,7 +50,7 @@ fn find_first(
     t: usize,
     d: usize,
 ) -> usize
-    requires { ⌜ Filled (decode (now recs)) (now ranks) (now of) width (now clocks) ⌝ }
+    requires { ⌜ FilledClocks (decode (now recs)) (now ranks) (now chosen) width (now clocks) ⌝ }
     requires { ⌜ (rows (decode (now recs)) ≤ length (now work)) × (t < rows (decode (now recs))) × (lo ≤ d) × (d < length (decode (now recs))) ⌝ }
     ensures { λ r. ⌜ FirstFrom (decode (now (recs .entry))) (now (ranks .entry)) (now (work .entry)) lo t d r ⌝ }
 {
@@ -66,7 +66,7 @@ fn find_first(
     let least = search::least_kind(kind);
     let mut c = search::next_access(recs, lo, d, x, least);
     while c < d {
-        if leads_on(of, width, clocks, t, row_at(recs, ranks, c), u) {
+        if leads_on(chosen, width, clocks, t, row_at(recs, ranks, c), u) {
             return c;
         }
         c = search::next_access(recs, c + 1, d, x, least);
@@ -79,14 +79,14 @@ fn find_first(
 fn find_race(
     recs: &[u8],
     ranks: &[u16],
-    of: &[u16],
+    chosen: &[u16],
     width: usize,
     clocks: &[u16],
     work: &[u8],
     t: usize,
     b: usize,
 ) -> Step
-    requires { ⌜ Filled (decode (now recs)) (now ranks) (now of) width (now clocks) × Marks (decode (now recs)) (now ranks) (now work) b ⌝ }
+    requires { ⌜ FilledClocks (decode (now recs)) (now ranks) (now chosen) width (now clocks) × Marks (decode (now recs)) (now ranks) (now work) b ⌝ }
     requires { ⌜ Sought (decode (now recs)) b t ⌝ }
     ensures { λ r. ⌜ Next (decode (now (recs .entry))) b t (r .first) (r .second) ⌝ }
 {
@@ -94,7 +94,7 @@ fn find_race(
     let r = row_at(recs, ranks, t);
     let mut d = lo;
     while d < b {
-        let c = find_first(recs, ranks, of, width, clocks, work, lo, r, d);
+        let c = find_first(recs, ranks, chosen, width, clocks, work, lo, r, d);
         if c < d {
             return Step {
                 first: c,
@@ -113,7 +113,7 @@ fn find_race(
 pub(crate) fn put_cover(
     recs: &[u8],
     ranks: &[u16],
-    of: &[u16],
+    chosen: &[u16],
     width: usize,
     clocks: &[u16],
     work: &[u8],
@@ -121,15 +121,15 @@ pub(crate) fn put_cover(
     a: usize,
     b: usize,
 ) -> usize
-    requires { ⌜ Filled (decode (now recs)) (now ranks) (now of) width (now clocks) × Marks (decode (now recs)) (now ranks) (now work) b ⌝ }
+    requires { ⌜ FilledClocks (decode (now recs)) (now ranks) (now chosen) width (now clocks) × Marks (decode (now recs)) (now ranks) (now work) b ⌝ }
     requires { ⌜ Race (settingOf (decode (now recs))) a b × T (coveredb (settingOf (decode (now recs))) a b)
         × (entryNumbers * rows (decode (now recs)) ≤ length (now list)) ⌝ }
     ensures { λ r. ⌜ GivesCover (decode (now (recs .entry))) a b r (now (list .entry)) (now (list .exit)) ⌝ }
 {
     let mut t = a;
     let mut k = 0;
-    while !racing::is_before(recs, ranks, of, width, clocks, t, b) {
-        let step = find_race(recs, ranks, of, width, clocks, work, t, b);
+    while !racing::is_before(recs, ranks, chosen, width, clocks, t, b) {
+        let step = find_race(recs, ranks, chosen, width, clocks, work, t, b);
         crate::put_entry(list, k, (step.first + 1) as u16, (step.second + 1) as u16);
         k += 1;
         t = step.second;

@@ -10,7 +10,7 @@ ghost use lib.Dec.{T};
 ghost use lib.ListN.{length, getD, set};
 ghost use Rattle.records.specs.Bytes.{decode};
 ghost use Rattle.trace.specs.Reading.{Acceptable};
-ghost use Rattle.races.specs.loops.Filled.{rows};
+ghost use Rattle.races.specs.loops.FilledClocks.{rows};
 ghost use Rattle.pair.specs.loops.Kept.{Starts, Split, Block, Noted, clashes, OneClashes, Bytes, Merged};
 ghost use Rattle.pair.specs.loops.Kept.{Passing, Passes, PassesAll, Markable, MarksKept};
 
@@ -114,7 +114,7 @@ fn merge_into(clocks: &[u16], at: usize, row: &mut [u16], chains: usize)
 // Passes row t, whose records stand from lo on, before hi: it is kept where it happens before a kept one, or conflicts with one.
 fn pass_row(
     recs: &[u8],
-    of: &[u16],
+    chosen: &[u16],
     width: usize,
     chains: usize,
     clocks: &[u16],
@@ -125,11 +125,11 @@ fn pass_row(
     lo: usize,
     hi: usize,
 )
-    requires { ⌜ Passing (decode (now recs)) (now of) width chains (now clocks) (now work) (now row) (now cells) × Block (decode (now recs)) t lo hi ⌝ }
-    ensures { λ x. ⌜ Passes (decode (now (recs .entry))) (now (of .entry)) width chains (now (clocks .entry)) (suc t) hi t lo
+    requires { ⌜ Passing (decode (now recs)) (now chosen) width chains (now clocks) (now work) (now row) (now cells) × Block (decode (now recs)) t lo hi ⌝ }
+    ensures { λ x. ⌜ Passes (decode (now (recs .entry))) (now (chosen .entry)) width chains (now (clocks .entry)) (suc t) hi t lo
         (now (work .entry)) (now (row .entry)) (now (cells .entry)) (now (work .exit)) (now (row .exit)) (now (cells .exit)) ⌝ }
 {
-    let c = of[t] as usize;
+    let c = chosen[t] as usize;
     if row[c] < clocks[t * width + c] {
         if !have_conflict(recs, lo, hi, cells) {
             return;
@@ -143,7 +143,7 @@ fn pass_row(
 // Passes all event actions before row u, whose records end before `end`, the last first.
 fn pass_down(
     recs: &[u8],
-    of: &[u16],
+    chosen: &[u16],
     width: usize,
     chains: usize,
     clocks: &[u16],
@@ -153,9 +153,9 @@ fn pass_down(
     u: usize,
     end: usize,
 )
-    requires { ⌜ Passing (decode (now recs)) (now of) width chains (now clocks) (now work) (now row) (now cells) ⌝ }
+    requires { ⌜ Passing (decode (now recs)) (now chosen) width chains (now clocks) (now work) (now row) (now cells) ⌝ }
     requires { ⌜ Split (decode (now recs)) u end × (u ≤ rows (decode (now recs))) ⌝ }
-    ensures { λ x. ⌜ PassesAll (decode (now (recs .entry))) (now (of .entry)) width chains (now (clocks .entry)) u end
+    ensures { λ x. ⌜ PassesAll (decode (now (recs .entry))) (now (chosen .entry)) width chains (now (clocks .entry)) u end
         (now (work .entry)) (now (row .entry)) (now (cells .entry)) (now (work .exit)) (now (row .exit)) (now (cells .exit)) ⌝ }
 {
     let mut t = u;
@@ -163,7 +163,19 @@ fn pass_down(
     while 0 < t {
         t -= 1;
         let lo = block_start(recs, hi - 1);
-        pass_row(recs, of, width, chains, clocks, work, row, cells, t, lo, hi);
+        pass_row(
+            recs,
+            chosen,
+            width,
+            chains,
+            clocks,
+            work,
+            row,
+            cells,
+            t,
+            lo,
+            hi,
+        );
         hi = lo;
     }
 }
@@ -171,7 +183,7 @@ fn pass_down(
 // Marks the event actions that lead to record b, of row u. The row is what happens before them.
 pub(crate) fn mark_leading(
     recs: &[u8],
-    of: &[u16],
+    chosen: &[u16],
     width: usize,
     chains: usize,
     clocks: &[u16],
@@ -180,7 +192,7 @@ pub(crate) fn mark_leading(
     u: usize,
     b: usize,
 )
-    requires { ⌜ Markable (decode (now recs)) (now of) width chains (now clocks) (now work) (now row) u b ⌝ }
+    requires { ⌜ Markable (decode (now recs)) (now chosen) width chains (now clocks) (now work) (now row) u b ⌝ }
     ensures { λ x. ⌜ MarksKept (decode (now (recs .entry))) b (now (work .entry)) (now (work .exit)) ⌝ }
 {
     let mut cells = bytes_1025();
@@ -191,7 +203,7 @@ pub(crate) fn mark_leading(
     work[u] = 1;
     pass_down(
         recs,
-        of,
+        chosen,
         width,
         chains,
         clocks,

@@ -23,7 +23,7 @@ ghost use Rattle.order.specs.Fill.{chainsUsed};
 ghost use Rattle.coverage.specs.Race.{raceb};
 ghost use Rattle.coverage.specs.Leading.{entries};
 ghost use Rattle.races.specs.Traces.{settingOf};
-ghost use Rattle.races.specs.loops.Filled.{Filled, rows, Clear};
+ghost use Rattle.races.specs.loops.FilledClocks.{FilledClocks, rows, Clear};
 ghost use Rattle.pair.specs.Pair.{entryNumbers, pairPaper, withEntries, keptEntries, AnswersFilled, PairPromise};
 ghost use Rattle.pair.specs.loops.PairSearch.{PutsEnd};
 ghost use Rattle.pair.specs.loops.Leading.{Marks};
@@ -83,19 +83,19 @@ fn put_kept(recs: &[u8], work: &[u8], b: usize, list: &mut [u16]) -> usize
 fn is_race_in_order(
     recs: &[u8],
     ranks: &[u16],
-    of: &[u16],
+    chosen: &[u16],
     width: usize,
     clocks: &[u16],
     a: usize,
     b: usize,
 ) -> bool
-    requires { ⌜ Filled (decode (now recs)) (now ranks) (now of) width (now clocks) × (b < length (decode (now recs))) ⌝ }
+    requires { ⌜ FilledClocks (decode (now recs)) (now ranks) (now chosen) width (now clocks) × (b < length (decode (now recs))) ⌝ }
     ensures { λ r. ⌜ r ≡ raceb (settingOf (decode (now (recs .entry)))) a b ⌝ }
 {
     if b <= a {
         return false;
     }
-    racing::is_race(recs, ranks, of, width, clocks, a, b)
+    racing::is_race(recs, ranks, chosen, width, clocks, a, b)
 }
 
 fn refused(number: u16) -> PairAnswer
@@ -111,8 +111,8 @@ fn refused(number: u16) -> PairAnswer
 // to b, and filled again before a cover is looked for.
 fn ask_filled(
     recs: &[u8],
-    all: &mut [u16; 1025],
-    of: &[u16],
+    ranks: &mut [u16; 1025],
+    chosen: &[u16],
     events: usize,
     width: usize,
     chains: usize,
@@ -122,23 +122,23 @@ fn ask_filled(
     a: usize,
     b: usize,
 ) -> PairAnswer
-    requires { ⌜ Filled (decode (now recs)) (now all) (now of) width (now clocks) × (chains ≡ chainsUsed (decode (now recs)))
+    requires { ⌜ FilledClocks (decode (now recs)) (now ranks) (now chosen) width (now clocks) × (chains ≡ chainsUsed (decode (now recs)))
         × (b < length (decode (now recs))) ⌝ }
     requires { ⌜ Clear (decode (now recs)) events (now work) ⌝ }
     ensures { λ r. ⌜ AnswersFilled (decode (now (recs .entry))) events a b (now (list .entry)) (now (list .exit)) r × (now (work .exit) ≡ now (work .entry)) ⌝ }
 {
-    if !is_race_in_order(recs, all, of, width, clocks, a, b) {
+    if !is_race_in_order(recs, ranks, chosen, width, clocks, a, b) {
         return refused(trace::NO_RACE);
     }
     if list.len() / ENTRY_NUMBERS < events {
         return refused(trace::LIST_SPACE);
     }
-    let t = row_at(recs, all, a);
-    let u = row_at(recs, all, b);
-    kept::mark_leading(recs, of, width, chains, clocks, work, all, u, b);
+    let t = row_at(recs, ranks, a);
+    let u = row_at(recs, ranks, b);
+    kept::mark_leading(recs, chosen, width, chains, clocks, work, ranks, u, b);
     if work[t] == 1 {
-        ranks::fill_ranks(recs, all);
-        let count = cover::put_cover(recs, all, of, width, clocks, work, list, a, b);
+        ranks::fill_ranks(recs, ranks);
+        let count = cover::put_cover(recs, ranks, chosen, width, clocks, work, list, a, b);
         clear(work, events);
         return PairAnswer::Covered(count);
     }
@@ -160,8 +160,8 @@ pub fn ask_pair(
     ensures { λ r. ⌜ PairPromise (now (bytes .entry)) width (now (clocks .entry)) (now (clocks .exit))
         (now (work .entry)) (now (work .exit)) (now (list .entry)) (now (list .exit)) (a .0) (b .0) r ⌝ }
 {
-    let mut of = numbers_1024();
-    let mut all = numbers_1025();
+    let mut chosen = numbers_1024();
+    let mut ranks = numbers_1025();
     let lowest = smaller(a.0, b.0);
     let highest = larger(a.0, b.0);
     let prepared = order::prepare(
@@ -171,8 +171,8 @@ pub fn ask_pair(
         width,
         work.len(),
         clocks,
-        &mut of,
-        &mut all,
+        &mut chosen,
+        &mut ranks,
     );
     let t = prepared.trace;
     let events = t.events;
@@ -185,8 +185,8 @@ pub fn ask_pair(
     let j = (b.0 - 1) as usize;
     ask_filled(
         access::records(bytes, t),
-        &mut all,
-        &of,
+        &mut ranks,
+        &chosen,
         events,
         width,
         chains,

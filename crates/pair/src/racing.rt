@@ -14,7 +14,7 @@ ghost use Rattle.order.specs.HappensBefore.{happensBefore};
 ghost use Rattle.coverage.specs.Race.{raceb};
 ghost use Rattle.races.specs.Traces.{isAccess, settingOf, conflict, clash};
 ghost use Rattle.clocks.specs.WayRound.{relationPaper, relateIn};
-ghost use Rattle.races.specs.loops.Filled.{Filled};
+ghost use Rattle.races.specs.loops.FilledClocks.{FilledClocks};
 ghost use Rattle.pair.specs.loops.PairSearch.{wayOf};
 
 pub(crate) fn is_access(r: Record) -> bool
@@ -56,63 +56,76 @@ pub(crate) fn is_clash(recs: &[u8], a: usize, b: usize) -> bool
 }
 
 // Which way round rows t and u stand.
-pub(crate) fn relate_rows(of: &[u16], width: usize, clocks: &[u16], t: usize, u: usize) -> Relation
-    requires { ⌜ (width ≤ 1024) × (t < 1024) × (u < 1024) × (length (now of) ≡ 1024) ⌝ }
-    ensures { λ r. ⌜ relationPaper r ≡ relateIn (now (clocks .entry)) width t (getD (now (of .entry)) t 0) u (getD (now (of .entry)) u 0) ⌝ }
+pub(crate) fn relate_rows(
+    chosen: &[u16],
+    width: usize,
+    clocks: &[u16],
+    t: usize,
+    u: usize,
+) -> Relation
+    requires { ⌜ (width ≤ 1024) × (t < 1024) × (u < 1024) × (length (now chosen) ≡ 1024) ⌝ }
+    ensures { λ r. ⌜ relationPaper r ≡ relateIn (now (clocks .entry)) width t (getD (now (chosen .entry)) t 0) u (getD (now (chosen .entry)) u 0) ⌝ }
 {
-    relate(clocks, width as u16, t as u16, of[t], u as u16, of[u])
+    relate(
+        clocks,
+        width as u16,
+        t as u16,
+        chosen[t],
+        u as u16,
+        chosen[u],
+    )
 }
 
 // Which way round the event actions of records a and b stand.
 fn relation(
     recs: &[u8],
     ranks: &[u16],
-    of: &[u16],
+    chosen: &[u16],
     width: usize,
     clocks: &[u16],
     a: usize,
     b: usize,
 ) -> Relation
-    requires { ⌜ Filled (decode (now recs)) (now ranks) (now of) width (now clocks) × (a < length (decode (now recs))) × (b < length (decode (now recs))) ⌝ }
+    requires { ⌜ FilledClocks (decode (now recs)) (now ranks) (now chosen) width (now clocks) × (a < length (decode (now recs))) × (b < length (decode (now recs))) ⌝ }
     ensures { λ r. ⌜ relationPaper r ≡ wayOf (decode (now (recs .entry))) a b ⌝ }
 {
     let t = row_at(recs, ranks, a);
     let u = row_at(recs, ranks, b);
-    relate_rows(of, width, clocks, t, u)
+    relate_rows(chosen, width, clocks, t, u)
 }
 
 // Whether the event action of record a happens before that of record b.
 pub(crate) fn is_before(
     recs: &[u8],
     ranks: &[u16],
-    of: &[u16],
+    chosen: &[u16],
     width: usize,
     clocks: &[u16],
     a: usize,
     b: usize,
 ) -> bool
-    requires { ⌜ Filled (decode (now recs)) (now ranks) (now of) width (now clocks) × (a < length (decode (now recs))) × (b < length (decode (now recs))) ⌝ }
+    requires { ⌜ FilledClocks (decode (now recs)) (now ranks) (now chosen) width (now clocks) × (a < length (decode (now recs))) × (b < length (decode (now recs))) ⌝ }
     ensures { λ r. ⌜ r ≡ happensBefore (decode (now (recs .entry))) (eventOf (at (decode (now (recs .entry))) a))
         (eventOf (at (decode (now (recs .entry))) b)) ⌝ }
 {
-    clocks::is_before(relation(recs, ranks, of, width, clocks, a, b))
+    clocks::is_before(relation(recs, ranks, chosen, width, clocks, a, b))
 }
 
 // Whether records a and b are a race, where a stands before b.
 pub(crate) fn is_race(
     recs: &[u8],
     ranks: &[u16],
-    of: &[u16],
+    chosen: &[u16],
     width: usize,
     clocks: &[u16],
     a: usize,
     b: usize,
 ) -> bool
-    requires { ⌜ Filled (decode (now recs)) (now ranks) (now of) width (now clocks) × (a < b) × (b < length (decode (now recs))) ⌝ }
+    requires { ⌜ FilledClocks (decode (now recs)) (now ranks) (now chosen) width (now clocks) × (a < b) × (b < length (decode (now recs))) ⌝ }
     ensures { λ r. ⌜ r ≡ raceb (settingOf (decode (now (recs .entry)))) a b ⌝ }
 {
     if !is_clash(recs, a, b) {
         return false;
     }
-    is_unordered(relation(recs, ranks, of, width, clocks, a, b))
+    is_unordered(relation(recs, ranks, chosen, width, clocks, a, b))
 }

@@ -16,7 +16,7 @@ use Rattle.clocks.specs.Rows.{spaceFor}
 use Rattle.clocks.specs.WayRound.{relateIn}
 use Rattle.order.specs.Clocks.{chainOf}
 use Rattle.order.specs.HappensBefore.{rank, traceLinks}
-use Rattle.order.specs.Fill.{eventsIn, shortRow}
+use Rattle.order.specs.Fill.{eventsIn, rowPastWidth}
 use Rattle.order.specs.Compared.{compared}
 use Rattle.question.specs.loops.ChainPass.{PassesChains}
 use Rattle.trace.specs.Reply.{refused, gives, demand}
@@ -64,17 +64,17 @@ module _ {tr : List Record} (a : Acceptable tr) where
       pub ask-short : position < length tr → orderTrace tr events width clocks t u ≡ refused 23 (position + 1)
       unfolding orderTrace spaces enoughChains demand
       ask-short h =
-          let n : shortRow tr width ≢ eventsIn tr = λ e. omega (arith, p .whole e .2) in
-          rw (begin-both, s, ne-eqb (shortRow tr width) events (λ e. n (e ∙ ee)), ← p .short n .place)
+          let n : rowPastWidth tr width ≢ eventsIn tr = λ e. omega (arith, p .whole e .2) in
+          rw (begin-both, s, ne-eqb (rowPastWidth tr width) events (λ e. n (e ∙ ee)), ← p .short n .place)
 
-      whole : length tr ≤ position → Dec (shortRow tr width ≡ eventsIn tr) → shortRow tr width ≡ eventsIn tr
+      whole : length tr ≤ position → Dec (rowPastWidth tr width ≡ eventsIn tr) → rowPastWidth tr width ≡ eventsIn tr
       whole h (yes e) = e
       whole h (no n) = absurd (omega (arith, p .short n .inside))
 
       pub ask-done : length tr ≤ position → orderTrace tr events width clocks t u ≡ gives (relateIn clocks width (x - 1) c (y - 1) d)
       unfolding orderTrace spaces enoughChains demand compared relatedIn relateIn
       ask-done h =
-          let e = whole h (ℕ-discrete (shortRow tr width) (eventsIn tr)) in
+          let e = whole h (ℕ-discrete (rowPastWidth tr width) (eventsIn tr)) in
           let f : c ≡ chainOf (traceLinks tr) (rank tr t - 1) = p .whole e .0 ∙ rw ex (chain-at a (rank tr t - 1) (rank-row a t (λ z. nx (ex ∙ z)))) in
           let g : d ≡ chainOf (traceLinks tr) (rank tr u - 1) = p .whole e .1 ∙ rw ey (chain-at a (rank tr u - 1) (rank-row a u (λ z. ny (ey ∙ z)))) in
-          rw (begin-both, s, eq-eqb (shortRow tr width) events (e ∙ sym ee), ← same-rows a t u (λ z. nx (ex ∙ z)) (λ z. ny (ey ∙ z)), f, g, ex, ey)
+          rw (begin-both, s, eq-eqb (rowPastWidth tr width) events (e ∙ sym ee), ← same-rows a t u (λ z. nx (ex ∙ z)) (λ z. ny (ey ∙ z)), f, g, ex, ey)

@@ -23,10 +23,11 @@ use Rattle.order.specs.Schedule.{begins}
 use Rattle.slices.specs.Slices.{zeros}
 use Rattle.slices.proofs.Cleared.{zeros-at}
 use Rattle.question.specs.loops.Marking.{marked, marksIn, marksDownIn, markIn}
-use Rattle.ranks.specs.Said.{Op, link, begin, other}
-use Rattle.order.specs.HappensBefore.{opAt, traceLinks}
+use Rattle.ranks.specs.declared.Ordering.{Ordering}
+use Rattle.ranks.specs.declared.Ordering.the-variants.{Link, Begin, Nothing}
+use Rattle.order.specs.HappensBefore.{orderingAt, traceLinks}
 use Rattle.ranks.specs.Ranks.{ranksOf}
-use Rattle.order.specs.Fill.{eventsIn, shortRow, chainTable}
+use Rattle.order.specs.Fill.{eventsIn, rowPastWidth, chainTable}
 use Rattle.order.specs.loops.PassEnds.{Short}
 use Rattle.question.specs.loops.ChainPass.{Members, markedChain, ownChain, enterChain, saidBy, turnMembers, RoomFor, AreMembers, ReadyChains, PassesChains}
 use Rattle.order.proofs.CountLaws.{firstFrom-local}
@@ -39,7 +40,7 @@ use Rattle.order.proofs.TraceOrder.{ops-ordered, forward-links}
 use Rattle.order.proofs.PassLaws.{events-are, few, chains-of, chains-more, begun-below, begin-position}
 
 -- the marks go by what the records say, and so by whatever says the same
-down-same : (f g : ℕ → Op) → ((i : ℕ) → f i ≡ g i) → (i : ℕ) (ms : List ℕ) → marksDownIn f i ms ≡ marksDownIn g i ms
+down-same : (f g : ℕ → Ordering) → ((i : ℕ) → f i ≡ g i) → (i : ℕ) (ms : List ℕ) → marksDownIn f i ms ≡ marksDownIn g i ms
 unfolding marksDownIn
 down-same f g h zero ms = refl
 down-same f g h (suc i) ms = rw (h i) (down-same f g h i (markIn (g i) ms))
@@ -53,17 +54,17 @@ unfolding enterChain
 enter-full x y w u s c h = rw (le-leb w c h)
 
 -- the chain of the row asked for is its entry in the list of chains by row
-own-entry : (asked u c : ℕ) (of : List ℕ) → u < length of → ownChain asked u c (getD of asked 0) ≡ getD (set of u c) asked 0
+own-entry : (asked u c : ℕ) (chosen : List ℕ) → u < length chosen → ownChain asked u c (getD chosen asked 0) ≡ getD (set chosen u c) asked 0
 unfolding ownChain
-own-entry asked u c of h = go (ℕ-discrete u asked)
+own-entry asked u c chosen h = go (ℕ-discrete u asked)
   where
-    go : Dec (u ≡ asked) → cond (eqb u asked) c (getD of asked 0) ≡ getD (set of u c) asked 0
-    go (yes e) = rw (← e, eq-eqb u u refl) (sym (getD-set-same of u c 0 h))
-    go (no n) = rw (ne-eqb u asked n) (sym (getD-set-other of u asked c 0 (λ e. n (sym e))))
+    go : Dec (u ≡ asked) → cond (eqb u asked) c (getD chosen asked 0) ≡ getD (set chosen u c) asked 0
+    go (yes e) = rw (← e, eq-eqb u u refl) (sym (getD-set-same chosen u c 0 h))
+    go (no n) = rw (ne-eqb u asked n) (sym (getD-set-other chosen u asked c 0 (λ e. n (sym e))))
 
 module _ {tr : List Record} (a : Acceptable tr) (x y w : ℕ) (narrow : w ≤ 1024) where
-  abbrev op : ℕ → Op
-  op = opAt tr
+  abbrev op : ℕ → Ordering
+  op = orderingAt tr
 
   abbrev n : ℕ
   n = length tr
@@ -96,7 +97,7 @@ module _ {tr : List Record} (a : Acceptable tr) (x y w : ℕ) (narrow : w ≤ 10
 
   module _ (i : ℕ) (s : Members) (h : i < n) (k : Keeping i s) where
     -- the chain found is the chain
-    found : (u : ℕ) → op i ≡ begin u → markedChain (marksIn op i u 1024) (s .lasts) (s .chains) ≡ chain le u
+    found : (u : ℕ) → op i ≡ Begin u → markedChain (marksIn op i u 1024) (s .lasts) (s .chains) ≡ chain le u
     unfolding markedChain
     found u e =
         let b = begun-below a w [] i u h e in
@@ -104,7 +105,7 @@ module _ {tr : List Record} (a : Acceptable tr) (x y w : ℕ) (narrow : w ≤ 10
         (firstFrom-local (λ c. marked (marksIn op i u 1024) (getD (s .lasts) c 0)) (λ c. le (getD (lasts le u) c 0) u) 0 (used le (begins op i)) (each u e (b .0) (b .1))
         ∙ rw (← b .0) (sym (chain-search le u)))
       where
-        each : (u : ℕ) → op i ≡ begin u → u ≡ begins op i → u < begins op n → (c : ℕ) → 0 ≤ c → c < 0 + used le (begins op i) → marked (marksIn op i u 1024) (getD (s .lasts) c 0) ≡ le (getD (lasts le u) c 0) u
+        each : (u : ℕ) → op i ≡ Begin u → u ≡ begins op i → u < begins op n → (c : ℕ) → 0 ≤ c → c < 0 + used le (begins op i) → marked (marksIn op i u 1024) (getD (s .lasts) c 0) ≡ le (getD (lasts le u) c 0) u
         each u e b l c x y =
             marks-list (traceLinks tr) (forward-links a) op n (ops-ordered a) (links-made op n) 1024 u i (few a w []) l h e (getD (s .lasts) c 0)
             ∙ ap (λ t. le t u) (k .lasts-are c (omega arith) ∙ ap (λ v. getD (lasts le v) c 0) (sym b))
@@ -112,19 +113,19 @@ module _ {tr : List Record} (a : Acceptable tr) (x y w : ℕ) (narrow : w ≤ 10
     pub keeping-room : RoomFor (op i) s
     keeping-room = go (op i) refl
       where
-        go : (o : Op) → op i ≡ o → RoomFor o s
-        go (link p u) e = tt
-        go (begin u) e =
+        go : (o : Ordering) → op i ≡ o → RoomFor o s
+        go (Link p u) e = tt
+        go (Begin u) e =
             let b = begun-below a w [] i u h e in
             let f = few a w [] in
             (omega (arith, b .1, f), omega (arith, k .chains-fit), k .lasts-size)
-        go other e = tt
+        go Nothing e = tt
 
     -- row u enters its chain
-    entered : (u : ℕ) → op i ≡ begin u → chain le u < w → Keeping (suc i) (record { lasts = set (s .lasts) (chain le u) u; chains = max (s .chains) (suc (chain le u)); first = ownChain x u (chain le u) (s .first); second = ownChain y u (chain le u) (s .second) })
+    entered : (u : ℕ) → op i ≡ Begin u → chain le u < w → Keeping (suc i) (record { lasts = set (s .lasts) (chain le u) u; chains = max (s .chains) (suc (chain le u)); first = ownChain x u (chain le u) (s .first); second = ownChain y u (chain le u) (s .second) })
     entered u e t =
         let b = begun-below a w [] i u h e in
-        let next = begins-suc op i (begin u) e in
+        let next = begins-suc op i (Begin u) e in
         record {
           lasts-are = λ c l. last c l (ℕ-discrete c (chain le u));
           lasts-size = length-set (s .lasts) (chain le u) u ∙ k .lasts-size;
@@ -141,10 +142,10 @@ module _ {tr : List Record} (a : Acceptable tr) (x y w : ℕ) (narrow : w ≤ 10
         own z =
             let b = begun-below a w [] i u h e in
             own-entry z (begins op i) (chain le (begins op i)) (chains-of a w [] (begins op i)) (omega (arith, size, few a w [], b .0, b .1))
-            ∙ ap (λ of. getD of z 0) (chains-more a w [] (begins op i) (omega (arith, few a w [], b .0, b .1)))
+            ∙ ap (λ chosen. getD chosen z 0) (chains-more a w [] (begins op i) (omega (arith, few a w [], b .0, b .1)))
 
         after : begins op (suc i) ≡ suc u
-        after = begins-suc op i (begin u) e ∙ ap suc (sym (begun-below a w [] i u h e .0))
+        after = begins-suc op i (Begin u) e ∙ ap suc (sym (begun-below a w [] i u h e .0))
 
         last : (c : ℕ) → c < used le (begins op (suc i)) → Dec (c ≡ chain le u) → getD (set (s .lasts) (chain le u) u) c 0 ≡ getD (lasts le (begins op (suc i))) c 0
         last c l (yes d) = rw (after, d, getD-set-same (s .lasts) (chain le u) u 0 (omega (arith, k .lasts-size))) (sym (last-own le u))
@@ -157,7 +158,7 @@ module _ {tr : List Record} (a : Acceptable tr) (x y w : ℕ) (narrow : w ≤ 10
       said : (j : ℕ) → saidBy ranks tr j ≡ op j
       said j = rw r (ops-are a j)
 
-      turned : (u : ℕ) → op i ≡ begin u → markedChain (marksIn (saidBy ranks tr) i u 1024) (s .lasts) (s .chains) ≡ chain le u
+      turned : (u : ℕ) → op i ≡ Begin u → markedChain (marksIn (saidBy ranks tr) i u 1024) (s .lasts) (s .chains) ≡ chain le u
       turned u e = ap (λ m. markedChain m (s .lasts) (s .chains)) (down-same (saidBy ranks tr) op said i _) ∙ found u e
 
       abbrev turnedBy : Members
@@ -167,11 +168,11 @@ module _ {tr : List Record} (a : Acceptable tr) (x y w : ℕ) (narrow : w ≤ 10
       unfolding turnMembers
       keeping-next l = rw (said i) (go (op i) refl (rw (said i) at l))
         where
-          begun : (u : ℕ) → op i ≡ begin u → (chain le u < w) ⊎ (w ≤ chain le u) → enterChain x y w u s (chain le u) .chains ≤ w → Keeping (suc i) (enterChain x y w u s (chain le u))
+          begun : (u : ℕ) → op i ≡ Begin u → (chain le u < w) ⊎ (w ≤ chain le u) → enterChain x y w u s (chain le u) .chains ≤ w → Keeping (suc i) (enterChain x y w u s (chain le u))
           begun u e (inl t) l = rw (enter-room x y w u s (chain le u) t) (entered u e t)
           begun u e (inr t) l = absurd (omega (arith, l, ap (λ m. m .chains) (enter-full x y w u s (chain le u) t)))
 
-          stays : (o : Op) → op i ≡ o → begins op (suc i) ≡ begins op i → Keeping (suc i) s
+          stays : (o : Ordering) → op i ≡ o → begins op (suc i) ≡ begins op i → Keeping (suc i) s
           stays o e q = record {
             lasts-are = rw q (k .lasts-are);
             lasts-size = k .lasts-size;
@@ -181,16 +182,16 @@ module _ {tr : List Record} (a : Acceptable tr) (x y w : ℕ) (narrow : w ≤ 10
             second-is = rw q (k .second-is);
           }
 
-          go : (o : Op) → op i ≡ o → turnMembers ranks tr x y w i o s .chains ≤ w → Keeping (suc i) (turnMembers ranks tr x y w i o s)
-          go (link p u) e l = stays (link p u) e (begins-suc op i (link p u) e)
-          go (begin u) e l = rw (turned u e) (begun u e (lt-or-ge (chain le u) w) (rw (turned u e) at l))
-          go other e l = stays other e (begins-suc op i other e)
+          go : (o : Ordering) → op i ≡ o → turnMembers ranks tr x y w i o s .chains ≤ w → Keeping (suc i) (turnMembers ranks tr x y w i o s)
+          go (Link p u) e l = stays (Link p u) e (begins-suc op i (Link p u) e)
+          go (Begin u) e l = rw (turned u e) (begun u e (lt-or-ge (chain le u) w) (rw (turned u e) at l))
+          go Nothing e l = stays Nothing e (begins-suc op i Nothing e)
 
-      pub keeping-stop : w < turnedBy .chains → (shortRow tr w ≢ eventsIn tr) × Short tr w i
-      unfolding turnMembers shortRow
+      pub keeping-stop : w < turnedBy .chains → (rowPastWidth tr w ≢ eventsIn tr) × Short tr w i
+      unfolding turnMembers rowPastWidth
       keeping-stop l = go (op i) refl (rw (said i) at l)
         where
-          stops : (u : ℕ) → op i ≡ begin u → (chain le u < w) ⊎ (w ≤ chain le u) → w < enterChain x y w u s (chain le u) .chains → (needs le w (eventsIn tr) ≢ eventsIn tr) × Short tr w i
+          stops : (u : ℕ) → op i ≡ Begin u → (chain le u < w) ⊎ (w ≤ chain le u) → w < enterChain x y w u s (chain le u) .chains → (needs le w (eventsIn tr) ≢ eventsIn tr) × Short tr w i
           stops u e (inl t) l = absurd (omega (arith, l, ap (λ m. m .chains) (enter-room x y w u s (chain le u) t), k .chains-fit))
           stops u e (inr t) l =
               let b = begun-below a w [] i u h e in
@@ -198,13 +199,13 @@ module _ {tr : List Record} (a : Acceptable tr) (x y w : ℕ) (narrow : w ≤ 10
               let q : needs le w (eventsIn tr) ≡ u = needs-at le w (eventsIn tr) u (omega (arith, b .1, v)) (omega (arith, k .chains-are, k .chains-fit, ap (used le) (b .0))) t in
               (λ z. omega (arith, q, z, b .1, v), record { place = rw q (sym (begin-position a w [] i u h e)); inside = h })
 
-          go : (o : Op) → op i ≡ o → w < turnMembers ranks tr x y w i o s .chains → (needs le w (eventsIn tr) ≢ eventsIn tr) × Short tr w i
-          go (link p u) e l = absurd (omega (arith, l, k .chains-fit))
-          go (begin u) e l = stops u e (lt-or-ge (chain le u) w) (rw (turned u e) at l)
-          go other e l = absurd (omega (arith, l, k .chains-fit))
+          go : (o : Ordering) → op i ≡ o → w < turnMembers ranks tr x y w i o s .chains → (needs le w (eventsIn tr) ≢ eventsIn tr) × Short tr w i
+          go (Link p u) e l = absurd (omega (arith, l, k .chains-fit))
+          go (Begin u) e l = stops u e (lt-or-ge (chain le u) w) (rw (turned u e) at l)
+          go Nothing e l = absurd (omega (arith, l, k .chains-fit))
 
-  pub keeping-end : (s : Members) → Keeping n s → (shortRow tr w ≡ eventsIn tr) × (s .first ≡ getD (chainTable tr) x 0) × (s .second ≡ getD (chainTable tr) y 0)
-  unfolding shortRow chainTable
+  pub keeping-end : (s : Members) → Keeping n s → (rowPastWidth tr w ≡ eventsIn tr) × (s .first ≡ getD (chainTable tr) x 0) × (s .second ≡ getD (chainTable tr) y 0)
+  unfolding rowPastWidth chainTable
   keeping-end s k =
       let v = events-are a w [] in
       (needs-none le w (eventsIn tr) .1 (omega (arith, k .chains-are, k .chains-fit, ap (used le) v)), rw (← v) (k .first-is), rw (← v) (k .second-is))

@@ -26,12 +26,12 @@ use Rattle.coverage.specs.Race.{raceb}
 use Rattle.coverage.specs.Neighbours.{conflicts}
 use Rattle.slices.proofs.Tests.{decide, both, and, either, or-left, or-right, eq→eqb}
 use Rattle.races.specs.Traces.{isAccess, cellsOf, settingOf}
-use Rattle.races.specs.loops.Candidates.{cell, accesses, writes, startOf, Upto, lastWrite, Seen, Tables, orderedIn, seenAfter, wayFrom}
+use Rattle.races.specs.loops.Candidates.{cell, accesses, writes, startOf, Upto, lastWrite, Seen, Tables, orderedIn, seenAfter, firstsFrom}
 use Rattle.records.specs.Search.{leastKind, mayRace, Past, NextAccess}
 use Rattle.clocks.specs.WayRound.{relateIn, saysBefore}
 use Rattle.order.specs.HappensBefore.{rank, happensBefore}
 use Rattle.order.proofs.TraceOrder.{counted, counted-zero, counted-begin, counted-other, ranked, record-begins, begins-rank}
-use Rattle.races.specs.loops.Filled.{Filled, BothIn}
+use Rattle.races.specs.loops.FilledClocks.{FilledClocks, BothIn}
 use Rattle.races.proofs.FilledLaws.{before-told, rows-both}
 use Rattle.races.proofs.Instance.{laws, access-kind}
 
@@ -169,8 +169,8 @@ module _ (tr : List Record) where
       go true e = omega arith
       go false e = e
 
-  pub from-start-is : (short : Bool) (c i : ℕ) → wayFrom short (lastWrite tr c i) ≡ startOf tr short c i
-  unfolding wayFrom
+  pub from-start-is : (short : Bool) (c i : ℕ) → firstsFrom short (lastWrite tr c i) ≡ startOf tr short c i
+  unfolding firstsFrom
   from-start-is true c i = sym (last-start c i)
   from-start-is false c i = sym (start-all c i)
 
@@ -291,15 +291,15 @@ module _ {tr : List Record} (acc : Acceptable tr) (b u : ℕ) (inside : b < leng
         go false f = seen-lost short
 
 -- What the number of b's cell says over filled clocks.
-module _ {tr : List Record} {ranks of : List ℕ} {width : ℕ} {clocks : List ℕ} (f : Filled tr ranks of width clocks) (short : Bool) (b u v : ℕ) (inside : b < length tr) (row : u ≡ rank tr (eventOf (at tr b)) - 1) (w : Seen tr short (cell tr b) b v) where
-  pub seen-rows : v ≢ 0 → v ≤ 1024 → BothIn of width clocks (v - 1) u
+module _ {tr : List Record} {ranks chosen : List ℕ} {width : ℕ} {clocks : List ℕ} (f : FilledClocks tr ranks chosen width clocks) (short : Bool) (b u v : ℕ) (inside : b < length tr) (row : u ≡ rank tr (eventOf (at tr b)) - 1) (w : Seen tr short (cell tr b) b v) where
+  pub seen-rows : v ≢ 0 → v ≤ 1024 → BothIn chosen width clocks (v - 1) u
   seen-rows n h = let (y, l, e, _) = w .upto n h in rows-both f y b (v - 1) u (omega arith) inside (ap (λ k. k - 1) e) row
 
-  pub ordered-upto : orderedIn of width clocks v u ≡ true → Upto tr short (cell tr b) b (eventOf (at tr b))
+  pub ordered-upto : orderedIn chosen width clocks v u ≡ true → Upto tr short (cell tr b) b (eventOf (at tr b))
   unfolding orderedIn
   ordered-upto g = go (eqb v 0) refl (ltb 1024 v) refl g
     where
-      go : (p : Bool) → eqb v 0 ≡ p → (q : Bool) → ltb 1024 v ≡ q → cond p true (cond q false (saysBefore (relateIn clocks width (v - 1) (getD of (v - 1) 0) u (getD of u 0)))) ≡ true → Upto tr short (cell tr b) b (eventOf (at tr b))
+      go : (p : Bool) → eqb v 0 ≡ p → (q : Bool) → ltb 1024 v ≡ q → cond p true (cond q false (saysBefore (relateIn clocks width (v - 1) (getD chosen (v - 1) 0) u (getD chosen u 0)))) ≡ true → Upto tr short (cell tr b) b (eventOf (at tr b))
       go true d q e g = record { tells = λ x l k t. absurd (w .none (eqb→eq v 0 (subst T (sym d) tt)) x k t) }
       go false d true e g = absurd (subst T (sym g) tt)
       go false d false e g =

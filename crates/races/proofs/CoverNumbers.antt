@@ -132,10 +132,10 @@ module _ {tr : List Record} (a : Acceptable tr) where
 
   module _ (e : ℕ → ℕ → Bool) (es : Edges (settingOf tr) (Tested tr e)) where
     firsts : (u b : ℕ) → u < events tr → b < length tr → at tr b .first ≡ nameOf tr u → Firsts (settingOf tr) (nameOf tr) (Tested tr e) u b (firstsOf tr e b)
-    firsts u b h k own = record { earlier = λ v m. earlier v (of v m); edges = λ v m. edges v (of v m); all = all }
+    firsts u b h k own = record { earlier = λ v m. earlier v (chosen v m); edges = λ v m. edges v (chosen v m); all = all }
       where
-        of : (v : ℕ) → List·Memᴰ v (map (number tr) (upto b (λ c. e c b))) → (c : ℕ) × (c < b) × T (e c b) × (v ≡ number tr c)
-        of v m =
+        chosen : (v : ℕ) → List·Memᴰ v (map (number tr) (upto b (λ c. e c b))) → (c : ℕ) × (c < b) × T (e c b) × (v ≡ number tr c)
+        chosen v m =
             let (c, n, q) = in-map (number tr) (upto b (λ c. e c b)) m in
             let (x, y) = in-upto b (λ c. e c b) n in
             (c, x, y, q)

@@ -16,9 +16,9 @@ use Rattle.coverage.specs.Race.{raceb}
 use Rattle.ranks.specs.Ranks.{ranksOf}
 use Rattle.order.proofs.TraceOrder.{counted}
 use Rattle.races.specs.Traces.{isAccess, settingOf}
-use Rattle.races.specs.loops.Filled.{Filled}
+use Rattle.races.specs.loops.FilledClocks.{FilledClocks}
 use Rattle.races.specs.Lists.{shapeOf}
-use Rattle.races.specs.loops.Candidates.{cell, Upto, Seen, Tables, orderedIn, seenAfter, wayFrom, wayTo, Range}
+use Rattle.races.specs.loops.Candidates.{cell, Upto, Seen, Tables, orderedIn, seenAfter, firstsFrom, firstsTo, Range}
 use Rattle.races.specs.loops.ListPass.{fromOf, firsts, withSecond, pairsBelow, raw, raws, entryIf, Second, OneWrites, RoomIf, Writes, WritesAll, Ranges}
 use Rattle.races.proofs.CandidateLaws.{racing, cell-low, access-rank, tables-next, seen-after, ordered-upto}
 use Rattle.races.proofs.ListLaws.{firsts-start, firsts-yes, firsts-no, firsts-grow, firsts-skip, firsts-empty, firsts-length, below-none, below-more, below-length, quiet, way-found}
@@ -249,16 +249,16 @@ module _ {writing : Bool} {tr : List Record} {short : Bool} {list₀ list : List
       record { count = w .next-is ∙ ap (λ i. length (pairsBelow tr short i)) e; list-is = w .list-is ∙ ap (λ i. cond writing (sets list₀ 0 (raws tr (pairsBelow tr short i))) list₀) e }
 
 -- a second access, by the begins before it
-module _ {tr : List Record} {ranks of : List ℕ} {width : ℕ} {clocks : List ℕ} (f : Filled tr ranks of width clocks) where
-  pub second-at : {b begun : ℕ} → b < length tr → T (isAccess (at tr b)) → begun ≡ counted tr b → Second tr ranks of width clocks b (begun - 1)
+module _ {tr : List Record} {ranks chosen : List ℕ} {width : ℕ} {clocks : List ℕ} (f : FilledClocks tr ranks chosen width clocks) where
+  pub second-at : {b begun : ℕ} → b < length tr → T (isAccess (at tr b)) → begun ≡ counted tr b → Second tr ranks chosen width clocks b (begun - 1)
   second-at {b} h t e = record { filled = f; inside = h; access = t; row = ap (λ x. x - 1) (e ∙ sym (access-rank (f .acceptable) b h t)) }
 
-  pub own-ranks : Filled tr (ranksOf tr) of width clocks
-  own-ranks = subst (λ r. Filled tr r of width clocks) (f .ranks-are) f
+  pub own-ranks : FilledClocks tr (ranksOf tr) chosen width clocks
+  own-ranks = subst (λ r. FilledClocks tr r chosen width clocks) (f .ranks-are) f
 
 -- One access: what its cell's numbers say, and what becomes of them.
-module _ {tr : List Record} {ranks of : List ℕ} {width : ℕ} {clocks : List ℕ} {b u : ℕ} (s : Second tr ranks of width clocks b u) {short : Bool} {seen written : List ℕ} (w : Tables tr short b seen written)
-    {kind c : ℕ} {ordered : Bool} (ek : kind ≡ at tr b .kind) (ec : c ≡ cell tr b) (eo : ordered ≡ orderedIn of width clocks (getD seen c 0) u) where
+module _ {tr : List Record} {ranks chosen : List ℕ} {width : ℕ} {clocks : List ℕ} {b u : ℕ} (s : Second tr ranks chosen width clocks b u) {short : Bool} {seen written : List ℕ} (w : Tables tr short b seen written)
+    {kind c : ℕ} {ordered : Bool} (ek : kind ≡ at tr b .kind) (ec : c ≡ cell tr b) (eo : ordered ≡ orderedIn chosen width clocks (getD seen c 0) u) where
   low : cell tr b < 1025
   low = cell-low (s .filled .acceptable) b (s .inside)
 
@@ -279,5 +279,5 @@ module _ {tr : List Record} {ranks of : List ℕ} {width : ℕ} {clocks : List �
     firsts-are = firsts-empty tr (fromOf tr short b) b b (quiet tr (s .filled .acceptable) short (all-before h)) ∙ sym (firsts-empty tr b b b (λ x l k t. omega arith));
   }
 
-  pub access-way : (from to : ℕ) → from ≡ wayFrom short (getD written c 0) → to ≡ wayTo kind (getD written c 0) b → Ranges tr short b from to
-  access-way from to p q = let e = ap (λ x. getD written x 0) ec ∙ w .last (cell tr b) low in way-found tr b kind ek short from to (p ∙ ap (wayFrom short) e) (q ∙ ap (λ x. wayTo kind x b) e)
+  pub access-way : (from to : ℕ) → from ≡ firstsFrom short (getD written c 0) → to ≡ firstsTo kind (getD written c 0) b → Ranges tr short b from to
+  access-way from to p q = let e = ap (λ x. getD written x 0) ec ∙ w .last (cell tr b) low in way-found tr b kind ek short from to (p ∙ ap (firstsFrom short) e) (q ∙ ap (λ x. firstsTo kind x b) e)

@@ -19,7 +19,7 @@ use Rattle.clocks.proofs.WayLaws.{says-before, says-unordered}
 use Rattle.order.specs.Clocks.{table, chainOf}
 use Rattle.order.specs.HappensBefore.{rank, traceLinks, happensBefore}
 use Rattle.order.specs.Links.{leq}
-use Rattle.order.specs.Fill.{eventsIn, shortRow, chainTable, traceClocks}
+use Rattle.order.specs.Fill.{eventsIn, rowPastWidth, chainTable, traceClocks}
 use Rattle.order.specs.Compared.{compared}
 use Rattle.order.proofs.RankLaws.{ranks-are}
 use Rattle.order.proofs.ChainLaws.{chain-below, needs-none}
@@ -32,9 +32,9 @@ use Rattle.coverage.specs.Race.{before, raceb}
 use Rattle.coverage.specs.Neighbours.{conflicts}
 use Rattle.races.specs.Traces.{cellsOf, settingOf, conflict, clash}
 use Rattle.slices.proofs.Tests.{eq→eqb}
-use Rattle.races.specs.loops.Filled.{Filled, RowsIn, BothIn}
+use Rattle.races.specs.loops.FilledClocks.{FilledClocks, RowsIn, BothIn}
 
-module _ {tr : List Record} {ranks of : List ℕ} {width : ℕ} {clocks : List ℕ} (f : Filled tr ranks of width clocks) where
+module _ {tr : List Record} {ranks chosen : List ℕ} {width : ℕ} {clocks : List ℕ} (f : FilledClocks tr ranks chosen width clocks) where
   abbrev ev : ℕ → ℕ
   ev x = eventOf (at tr x)
 
@@ -51,28 +51,28 @@ module _ {tr : List Record} {ranks of : List ℕ} {width : ℕ} {clocks : List �
     pub row-inside : rank tr (ev x) - 1 < eventsIn tr
     row-inside = rank-row (f .acceptable) (ev x) has-rank
 
-  pub of-length : length of ≡ 1024
+  pub of-length : length chosen ≡ 1024
   unfolding chainTable
-  of-length = omega (arith, ap length (f .of-are), length-append (table (eventsIn tr) (chainOf (traceLinks tr))) (replicate (1024 - eventsIn tr) 0), table-length (eventsIn tr) (chainOf (traceLinks tr)), length-replicate {A = ℕ} (1024 - eventsIn tr) 0, events-few (f .acceptable))
+  of-length = omega (arith, ap length (f .chosen-are), length-append (table (eventsIn tr) (chainOf (traceLinks tr))) (replicate (1024 - eventsIn tr) 0), table-length (eventsIn tr) (chainOf (traceLinks tr)), length-replicate {A = ℕ} (1024 - eventsIn tr) 0, events-few (f .acceptable))
 
   pub ranks-length : length ranks ≡ 1025
   ranks-length = ap length (f .ranks-are) ∙ ranks-many tr
 
-  pub row-room : (x : ℕ) → x < length tr → getD ranks (ev x) 0 - 1 < length of
+  pub row-room : (x : ℕ) → x < length tr → getD ranks (ev x) 0 - 1 < length chosen
   row-room x h = omega (arith, rank-is x h, row-inside x h, events-few (f .acceptable), of-length)
 
   pub before-is : (a b : ℕ) → a < length tr → b < length tr
-      → compareIn clocks width (getD of (getD ranks (ev a) 0 - 1) 0) (getD ranks (ev a) 0 - 1) (getD ranks (ev b) 0 - 1) ≡ happensBefore tr (ev a) (ev b)
+      → compareIn clocks width (getD chosen (getD ranks (ev a) 0 - 1) 0) (getD ranks (ev a) 0 - 1) (getD ranks (ev b) 0 - 1) ≡ happensBefore tr (ev a) (ev b)
   unfolding compared
   before-is a b h k =
-      let c : getD of (rank tr (ev a) - 1) 0 ≡ chainOf (traceLinks tr) (rank tr (ev a) - 1) = ap (λ o. getD o (rank tr (ev a) - 1) 0) (f .of-are) ∙ chain-at (f .acceptable) (rank tr (ev a) - 1) (row-inside a h) in
+      let c : getD chosen (rank tr (ev a) - 1) 0 ≡ chainOf (traceLinks tr) (rank tr (ev a) - 1) = ap (λ o. getD o (rank tr (ev a) - 1) 0) (f .chosen-are) ∙ chain-at (f .acceptable) (rank tr (ev a) - 1) (row-inside a h) in
       rw (rank-is a h, rank-is b k, c, f .clocks-are) (compared-before (f .acceptable) width (f .enough) (f .rest) (ev a) (ev b) (has-rank a h) (has-rank b k))
 
   -- the chain of a row has its place in the width
-  pub chain-fits : (r : ℕ) → r < eventsIn tr → getD of r 0 < width
-  unfolding shortRow
+  pub chain-fits : (r : ℕ) → r < eventsIn tr → getD chosen r 0 < width
+  unfolding rowPastWidth
   chain-fits r h =
-      let c : getD of r 0 ≡ chainOf (traceLinks tr) r = ap (λ o. getD o r 0) (f .of-are) ∙ chain-at (f .acceptable) r h in
+      let c : getD chosen r 0 ≡ chainOf (traceLinks tr) r = ap (λ o. getD o r 0) (f .chosen-are) ∙ chain-at (f .acceptable) r h in
       let u = needs-none (leq (traceLinks tr)) width (eventsIn tr) .0 (f .enough) in
       omega (arith, chain-below (leq (traceLinks tr)) r (eventsIn tr) h)
 
@@ -81,20 +81,20 @@ module _ {tr : List Record} {ranks of : List ℕ} {width : ℕ} {clocks : List �
   clocks-hold = omega (arith, ap length (f .clocks-are), length-append (traceClocks tr width) (f .rest), clocks-length (traceLinks tr) width (eventsIn tr))
 
   -- rows that have begun stand in the clocks
-  pub rows-in : (t u : ℕ) → t < eventsIn tr → u < eventsIn tr → RowsIn of width clocks t u
+  pub rows-in : (t u : ℕ) → t < eventsIn tr → u < eventsIn tr → RowsIn chosen width clocks t u
   rows-in t u h k = record {
     known = omega (arith, of-length, events-few (f .acceptable));
-    own = omega (arith, clocks-hold, place width (eventsIn tr) t (getD of t 0) h (chain-fits t h));
-    other = omega (arith, clocks-hold, place width (eventsIn tr) u (getD of t 0) k (chain-fits t h));
+    own = omega (arith, clocks-hold, place width (eventsIn tr) t (getD chosen t 0) h (chain-fits t h));
+    other = omega (arith, clocks-hold, place width (eventsIn tr) u (getD chosen t 0) k (chain-fits t h));
   }
 
   -- over filled clocks rows say what happens before what
-  pub rows-before : (a b t u : ℕ) → a < length tr → b < length tr → t ≡ rank tr (ev a) - 1 → u ≡ rank tr (ev b) - 1 → compareIn clocks width (getD of t 0) t u ≡ happensBefore tr (ev a) (ev b)
+  pub rows-before : (a b t u : ℕ) → a < length tr → b < length tr → t ≡ rank tr (ev a) - 1 → u ≡ rank tr (ev b) - 1 → compareIn clocks width (getD chosen t 0) t u ≡ happensBefore tr (ev a) (ev b)
   rows-before a b t u h k d e = rw (d, e) (rw (rank-is a h, rank-is b k) at (before-is a b h k))
 
   -- and the reply of two rows is that of their event actions
   pub rows-told : (a b t u : ℕ) → a < length tr → b < length tr → t ≡ rank tr (ev a) - 1 → u ≡ rank tr (ev b) - 1
-      → relateIn clocks width t (getD of t 0) u (getD of u 0) ≡ wayRound (eqb (ev a) (ev b)) (happensBefore tr (ev a) (ev b)) (happensBefore tr (ev b) (ev a))
+      → relateIn clocks width t (getD chosen t 0) u (getD chosen u 0) ≡ wayRound (eqb (ev a) (ev b)) (happensBefore tr (ev a) (ev b)) (happensBefore tr (ev b) (ev a))
   unfolding relateIn
   rows-told a b t u h k d e = rw (same, rows-before a b t u h k d e, rows-before b a u t k h e d) refl
     where
@@ -105,10 +105,10 @@ module _ {tr : List Record} {ranks of : List ℕ} {width : ℕ} {clocks : List �
     same-before : T (eqb (ev a) (ev b)) → T (happensBefore tr (ev a) (ev b))
     same-before s = subst (λ (v : ℕ). T (happensBefore tr (ev a) v)) (eqb→eq (ev a) (ev b) s) (le-refl (f .acceptable) (ev a))
 
-    pub before-told : saysBefore (relateIn clocks width t (getD of t 0) u (getD of u 0)) ≡ happensBefore tr (ev a) (ev b)
+    pub before-told : saysBefore (relateIn clocks width t (getD chosen t 0) u (getD chosen u 0)) ≡ happensBefore tr (ev a) (ev b)
     before-told = rw (rows-told a b t u h k d e) (says-before (eqb (ev a) (ev b)) (happensBefore tr (ev a) (ev b)) (happensBefore tr (ev b) (ev a)) same-before)
 
-    pub rows-both : BothIn of width clocks t u
+    pub rows-both : BothIn chosen width clocks t u
     rows-both =
         let i : t < eventsIn tr = omega (arith, row-inside a h) in
         let j : u < eventsIn tr = omega (arith, row-inside b k) in
@@ -123,7 +123,7 @@ module _ {tr : List Record} {ranks of : List ℕ} {width : ℕ} {clocks : List �
           go (yes q) = sym q
           go (no n) = absurd (omega (arith, forward (f .acceptable) b a k h s n))
 
-      pub unordered-told : saysUnordered (relateIn clocks width t (getD of t 0) u (getD of u 0)) ≡ not (happensBefore tr (ev a) (ev b))
+      pub unordered-told : saysUnordered (relateIn clocks width t (getD chosen t 0) u (getD chosen u 0)) ≡ not (happensBefore tr (ev a) (ev b))
       unordered-told = rw (rows-told a b t u h k d e) (says-unordered (eqb (ev a) (ev b)) (happensBefore tr (ev a) (ev b)) (happensBefore tr (ev b) (ev a)) same-before (λ s. eq→eqb (ev a) (ev b) (not-after s)))
 
 -- a race, by its parts

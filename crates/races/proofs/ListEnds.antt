@@ -33,7 +33,7 @@ use Rattle.races.specs.Paper.{listPaper, Lists, ListsFilled}
 use Rattle.races.specs.loops.ListPass.{pairsBelow, raws, WritesAll, Ample, Counts, ListsAll}
 use Rattle.races.specs.loops.Raising.{Unmarked, MarksList}
 use Rattle.races.proofs.EntryStores.{raws-length}
-use Rattle.races.specs.loops.Filled.{Filled}
+use Rattle.races.specs.loops.FilledClocks.{FilledClocks}
 use Rattle.races.specs.Traces.{cellsOf, settingOf}
 use Rattle.coverage.proofs.Total.{short-total}
 use Rattle.races.proofs.ListLaws.{pairs-below, below-few}
@@ -167,14 +167,14 @@ module _ (tr : List Record) (short : Bool) (events : ℕ) (list list₁ : List �
         go (q ∷ ps) e = absurd (omega arith)
 
 -- no record is asked about
-pub for-list : (room : ℕ) {b : List ℕ} {w : ℕ} {cs cs′ of all all′ : List ℕ} {f : Filling} {t : Trace} → Prepares b (readWithin b 1 0 w (length cs) room) w cs cs′ of all all′ f t
-    → Prepares b (listReady b w (length cs) room) w cs cs′ of all all′ f t
+pub for-list : (room : ℕ) {b : List ℕ} {w : ℕ} {cs cs′ chosen ranks ranks′ : List ℕ} {f : Filling} {t : Trace} → Prepares b (readWithin b 1 0 w (length cs) room) w cs cs′ chosen ranks ranks′ f t
+    → Prepares b (listReady b w (length cs) room) w cs cs′ chosen ranks ranks′ f t
 unfolding listReady
-for-list room {b} {w} {cs} {cs′} {of} {all} {all′} {f} {t} p = subst (λ (x : Reply Trace). Prepares b x w cs cs′ of all all′ f t) (none-asked b w (length cs) room) p
+for-list room {b} {w} {cs} {cs′} {chosen} {ranks} {ranks′} {f} {t} p = subst (λ (x : Reply Trace). Prepares b x w cs cs′ chosen ranks ranks′ f t) (none-asked b w (length cs) room) p
 
 -- the trace was prepared, and then the marks of its event actions were taken away
-module _ (b : List ℕ) (short : Bool) (w : ℕ) (cs cs′ work work′ of list : List ℕ) (f : Filling) (t : Trace) {all all′ : List ℕ}
-    (p : Prepares b (listReady b w (length cs) (length work)) w cs cs′ of all all′ f t) (clears : work′ ≡ cleared (t .events) work) where
+module _ (b : List ℕ) (short : Bool) (w : ℕ) (cs cs′ work work′ chosen list : List ℕ) (f : Filling) (t : Trace) {ranks ranks′ : List ℕ}
+    (p : Prepares b (listReady b w (length cs) (length work)) w cs cs′ chosen ranks ranks′ f t) (clears : work′ ≡ cleared (t .events) work) where
   -- the promise, by the reply
   lists-by : (cs″ list′ : List ℕ) (r : Listing) (x : Reply Summary) → listReply short b w (length cs) (length work) (length list) ≡ x → listPaper r ≡ x → cs″ ≡ cs′
       → list′ ≡ listAfter (recordsRead b) x (pairsOf (recordsRead b) short) list → Lists short b w cs cs″ work work′ list list′ r
@@ -192,7 +192,7 @@ module _ (b : List ℕ) (short : Bool) (w : ℕ) (cs cs′ work work′ of list 
   -- what writing the list asks for, and what it gives
   module _ (chains : ℕ) (z : fillPaper f ≡ gives chains) (recs : List ℕ) (y : recs ≡ part b (t .start) (t .records)) where
     pub record Listable : Type 0 where
-      pub filled : Filled (decode recs) all′ of w cs′
+      pub filled : FilledClocks (decode recs) ranks′ chosen w cs′
       pub events-are : t .events ≡ eventsIn (decode recs)
       pub chains-used : chains ≡ chainsUsed (decode recs)
       pub done : (cs″ list′ : List ℕ) (r : Listing) → ListsFilled short (decode recs) (t .events) cs′ cs″ list list′ r → Lists short b w cs cs″ work work′ list list′ r

@@ -25,10 +25,10 @@ use Rattle.coverage.proofs.Below.{found, find}
 use Rattle.coverage.proofs.Lists.{upto-ext, upto-zero, upto-yes, upto-no, upto-empty}
 use Rattle.races.specs.Traces.{isAccess, cellsOf, settingOf, conflict}
 use Rattle.races.specs.Lists.{pairsOf}
-use Rattle.races.specs.loops.Candidates.{cell, accesses, writes, Upto, lastWrite, wayFrom, wayTo}
+use Rattle.races.specs.loops.Candidates.{cell, accesses, writes, Upto, lastWrite, firstsFrom, firstsTo}
 use Rattle.records.specs.Search.{leastKind, mayRace}
 use Rattle.races.specs.loops.ListPass.{fromOf, firsts, withSecond, pairsBelow, Ranges, OneRoom}
-use Rattle.races.specs.loops.Filled.{BothIn}
+use Rattle.races.specs.loops.FilledClocks.{BothIn}
 use Rattle.coverage.proofs.Order.{race-of, race-not-le}
 use Rattle.clocks.specs.WayRound.{relateIn, saysUnordered}
 use Rattle.order.specs.HappensBefore.{rank, happensBefore}
@@ -172,20 +172,20 @@ module _ (tr : List Record) where
             let y = eqb→eq (at tr b .kind) 6 t in
             absurd (omega arith)
 
-    from-before : (short : Bool) (last : ℕ) → wayFrom short last ≤ last
-    unfolding wayFrom
+    from-before : (short : Bool) (last : ℕ) → firstsFrom short last ≤ last
+    unfolding firstsFrom
     from-before true last = omega arith
     from-before false last = omega arith
 
     abbrev last : ℕ
     last = lastWrite tr (cell tr b) b
 
-    way-ends : (r : Bool) → eqb kind 5 ≡ r → (short : Bool) → (wayFrom short last ≤ wayTo kind last b) × (wayTo kind last b ≤ b) × ((x : ℕ) → wayTo kind last b ≤ x → x < b → T (race x b) → ⊥)
-    unfolding wayTo
+    way-ends : (r : Bool) → eqb kind 5 ≡ r → (short : Bool) → (firstsFrom short last ≤ firstsTo kind last b) × (firstsTo kind last b ≤ b) × ((x : ℕ) → firstsTo kind last b ≤ x → x < b → T (race x b) → ⊥)
+    unfolding firstsTo
     way-ends true f s = rw f (from-before s last, last-high tr (cell tr b) b, λ x l k t. last-after tr (cell tr b) b x l k (read-write f x t))
     way-ends false f s = rw f (omega (arith, from-before s last, last-high tr (cell tr b) b), omega arith, λ x l k t. omega arith)
 
-    pub way-found : (short : Bool) (from to : ℕ) → from ≡ wayFrom short (lastWrite tr (cell tr b) b) → to ≡ wayTo kind (lastWrite tr (cell tr b) b) b → Ranges tr short b from to
+    pub way-found : (short : Bool) (from to : ℕ) → from ≡ firstsFrom short (lastWrite tr (cell tr b) b) → to ≡ firstsTo kind (lastWrite tr (cell tr b) b) b → Ranges tr short b from to
     way-found short from to p q =
         let (l, h, n) = way-ends (eqb kind 5) refl short in
         record {
@@ -280,17 +280,17 @@ module _ (tr : List Record) where
       omega (arith, ap length (firsts-yes from b a h e), length-append (upto a (test from b)) (a ∷ []), rw q at more)
 
 -- The test of one pair of records by their rows.
-module _ {writing : Bool} {tr : List Record} {ranks of : List ℕ} {width : ℕ} {clocks : List ℕ} {a b u k : ℕ} {list : List ℕ} (r : OneRoom writing tr ranks of width clocks a b u k list) (t : ℕ) (e : t ≡ getD ranks (eventOf (at tr a)) 0 - 1) where
+module _ {writing : Bool} {tr : List Record} {ranks chosen : List ℕ} {width : ℕ} {clocks : List ℕ} {a b u k : ℕ} {list : List ℕ} (r : OneRoom writing tr ranks chosen width clocks a b u k list) (t : ℕ) (e : t ≡ getD ranks (eventOf (at tr a)) 0 - 1) where
   first-inside : a < length tr
   first-inside = omega (arith, r .earlier, r .second .inside)
 
   row-is : t ≡ rank tr (eventOf (at tr a)) - 1
   row-is = e ∙ ap (λ x. x - 1) (rank-is (r .second .filled) a first-inside)
 
-  pub race-rows : BothIn of width clocks t u
+  pub race-rows : BothIn chosen width clocks t u
   race-rows = rows-both (r .second .filled) a b t u first-inside (r .second .inside) row-is (r .second .row)
 
-  pub race-told : (v : Bool) → v ≡ saysUnordered (relateIn clocks width t (getD of t 0) u (getD of u 0)) → raceb (settingOf tr) a b ≡ v
+  pub race-told : (v : Bool) → v ≡ saysUnordered (relateIn clocks width t (getD chosen t 0) u (getD chosen u 0)) → raceb (settingOf tr) a b ≡ v
   race-told v q =
       may-race tr (r .second .filled .acceptable) a b (r .earlier) (r .second .inside) (r .second .access) (r .may)
       ∙ sym (q ∙ unordered-told (r .second .filled) a b t u first-inside (r .second .inside) row-is (r .second .row) (r .earlier))

@@ -17,12 +17,12 @@ use Rattle.coverage.specs.Leading.{coveredb}
 use Rattle.order.specs.Clocks.{chainOf, entry, flat, clocksOf}
 use Rattle.order.specs.Fill.{eventsIn, traceClocks}
 use Rattle.order.specs.Schedule.{begins}
-use Rattle.order.specs.HappensBefore.{opAt, traceLinks}
+use Rattle.order.specs.HappensBefore.{orderingAt, traceLinks}
 use Rattle.order.proofs.RankLaws.{ranks-are}
 use Rattle.order.proofs.RowLaws.{flat-length, place}
 use Rattle.order.proofs.FlatLaws.{flat-read}
 use Rattle.order.proofs.TableLaws.{events-few}
-use Rattle.races.specs.loops.Filled.{Filled, RowsIn}
+use Rattle.races.specs.loops.FilledClocks.{FilledClocks, RowsIn}
 use Rattle.races.specs.Traces.{settingOf}
 use Rattle.races.specs.Lists.{markOf}
 use Rattle.races.specs.loops.Marking.{first, second, Remarked}
@@ -38,11 +38,11 @@ use Rattle.races.proofs.StandLaws.{Standing, NoEdge, stand-marks}
 use Rattle.races.proofs.ClimbLaws.{Shows, Climbed, climbed}
 use Rattle.races.proofs.PlaceLaws.{events-in, events-are, chain-place, Raises, raises-start, raises-goes}
 
-module _ {tr : List Record} {ranks of : List ℕ} {w : ℕ} {clocks₀ list₀ : List ℕ} {count : ℕ} (f : Filled tr ranks of w clocks₀) (un : Unmarked tr list₀ count) where
+module _ {tr : List Record} {ranks chosen : List ℕ} {w : ℕ} {clocks₀ list₀ : List ℕ} {count : ℕ} (f : FilledClocks tr ranks chosen w clocks₀) (un : Unmarked tr list₀ count) where
   -- the clocks hold rows, and after them what they held
   pub record Left (clocks : List ℕ) : Type 0 where
     pub rows : ℕ → ℕ → ℕ
-    pub clocks-are : clocks ≡ flat w (begins (opAt tr) (length tr)) rows ++ f .rest
+    pub clocks-are : clocks ≡ flat w (begins (orderingAt tr) (length tr)) rows ++ f .rest
 
   -- raising stands before entry k
   pub record Before (k row position chains : ℕ) (clocks : List ℕ) : Type 0 where
@@ -59,7 +59,7 @@ module _ {tr : List Record} {ranks of : List ℕ} {w : ℕ} {clocks₀ list₀ :
 
   same-size : {clocks clocks′ : List ℕ} → Left clocks → Left clocks′ → length clocks ≡ length clocks′
   same-size l r =
-      let m = begins (opAt tr) (length tr) in
+      let m = begins (orderingAt tr) (length tr) in
       omega (arith, ap length (l .clocks-are), ap length (r .clocks-are), length-append (flat w m (l .rows)) (f .rest), length-append (flat w m (r .rows)) (f .rest), flat-length w m (l .rows), flat-length w m (r .rows))
 
   pub left-start : Left clocks₀
@@ -72,8 +72,8 @@ module _ {tr : List Record} {ranks of : List ℕ} {w : ℕ} {clocks₀ list₀ :
   -- what is past the rows stays
   past-rows : {clocks : List ℕ} → Left clocks → drop (eventsIn tr * w) clocks ≡ f .rest
   past-rows l =
-      let e : begins (opAt tr) (length tr) ≡ eventsIn tr = events-are (f .acceptable) ∙ sym (events-in tr) in
-      rw (← e, l .clocks-are) (drop-at (flat w (begins (opAt tr) (length tr)) (l .rows)) (f .rest) (begins (opAt tr) (length tr) * w) (flat-length w (begins (opAt tr) (length tr)) (l .rows)))
+      let e : begins (orderingAt tr) (length tr) ≡ eventsIn tr = events-are (f .acceptable) ∙ sym (events-in tr) in
+      rw (← e, l .clocks-are) (drop-at (flat w (begins (orderingAt tr) (length tr)) (l .rows)) (f .rest) (begins (orderingAt tr) (length tr) * w) (flat-length w (begins (orderingAt tr) (length tr)) (l .rows)))
 
   pub left-rest : {clocks : List ℕ} → Left clocks → drop (eventsIn tr * w) clocks ≡ drop (eventsIn tr * w) clocks₀
   left-rest l = past-rows l ∙ sym (past-rows left-start)
@@ -96,14 +96,14 @@ module _ {tr : List Record} {ranks of : List ℕ} {w : ℕ} {clocks₀ list₀ :
   row-of : (x : ℕ) → rowIn tr ranks x ≡ number tr x
   row-of x = rw (f .ranks-are, ranks-are (f .acceptable) (at tr x .first)) refl
 
-  chain-fits : (t : ℕ) → t < events tr → (getD of t 0 ≡ chainOf (traceLinks tr) t) × (chainOf (traceLinks tr) t < w)
-  chain-fits t h = chain-place (f .acceptable) of w (f .of-are) (f .enough) t (omega (arith, events-in tr))
+  chain-fits : (t : ℕ) → t < events tr → (getD chosen t 0 ≡ chainOf (traceLinks tr) t) × (chainOf (traceLinks tr) t < w)
+  chain-fits t h = chain-place (f .acceptable) chosen w (f .chosen-are) (f .enough) t (omega (arith, events-in tr))
 
   -- two rows in the clocks, and their comparison
-  rows-in : {clocks : List ℕ} (l : Left clocks) (t u : ℕ) → t < events tr → u < events tr → RowsIn of w clocks t u
+  rows-in : {clocks : List ℕ} (l : Left clocks) (t u : ℕ) → t < events tr → u < events tr → RowsIn chosen w clocks t u
   rows-in l t u h k =
       let (e, c) = chain-fits t h in
-      let m = begins (opAt tr) (length tr) in
+      let m = begins (orderingAt tr) (length tr) in
       let q = events-are (f .acceptable) in
       let n = omega-length l in
       record {
@@ -112,14 +112,14 @@ module _ {tr : List Record} {ranks of : List ℕ} {w : ℕ} {clocks₀ list₀ :
         other = rw e (omega (arith, n, place w m u (chainOf (traceLinks tr) t) (omega arith) c));
       }
     where
-      omega-length : {clocks : List ℕ} (l : Left clocks) → begins (opAt tr) (length tr) * w ≤ length clocks
-      omega-length l = omega (arith, ap length (l .clocks-are), length-append (flat w (begins (opAt tr) (length tr)) (l .rows)) (f .rest), flat-length w (begins (opAt tr) (length tr)) (l .rows))
+      omega-length : {clocks : List ℕ} (l : Left clocks) → begins (orderingAt tr) (length tr) * w ≤ length clocks
+      omega-length l = omega (arith, ap length (l .clocks-are), length-append (flat w (begins (orderingAt tr) (length tr)) (l .rows)) (f .rest), flat-length w (begins (orderingAt tr) (length tr)) (l .rows))
 
-  compared : {clocks : List ℕ} (l : Left clocks) (t u : ℕ) → t < events tr → u < events tr → compareIn clocks w (getD of t 0) t u ≡ leb (l .rows t (chainOf (traceLinks tr) t)) (l .rows u (chainOf (traceLinks tr) t))
+  compared : {clocks : List ℕ} (l : Left clocks) (t u : ℕ) → t < events tr → u < events tr → compareIn clocks w (getD chosen t 0) t u ≡ leb (l .rows t (chainOf (traceLinks tr) t)) (l .rows u (chainOf (traceLinks tr) t))
   unfolding compareIn
   compared {clocks} l t u h k =
       let (e, c) = chain-fits t h in
-      let m = begins (opAt tr) (length tr) in
+      let m = begins (orderingAt tr) (length tr) in
       let q = events-are (f .acceptable) in
       rw (e, l .clocks-are) (ap₂ leb (flat-read w m (f .rest) (l .rows) t (chainOf (traceLinks tr) t) (omega arith) c) (flat-read w m (f .rest) (l .rows) u (chainOf (traceLinks tr) t) (omega arith) c))
 
@@ -153,7 +153,7 @@ module _ {tr : List Record} {ranks of : List ℕ} {w : ℕ} {clocks₀ list₀ :
       reached : row ≤ u
       reached = omega (arith, row-is, p .behind (secondAt tr (un .short) k) (p .split .from k (omega arith) (in-list k h)) (race-at k h .inside))
 
-      pub may-go : MayGo tr of row position u
+      pub may-go : MayGo tr chosen row position u
       may-go =
           let o = of-length f in
           let q = events-few (f .acceptable) in
@@ -162,7 +162,7 @@ module _ {tr : List Record} {ranks of : List ℕ} {w : ℕ} {clocks₀ list₀ :
           let s = p .raises .standing .inside in
           record { ahead = reached; known = omega arith; low = omega arith; inside = omega arith }
 
-      pub arrived : {row′ position′ chains′ : ℕ} {clocks′ : List ℕ} → Went tr ranks of w row position chains clocks u row′ position′ chains′ clocks′ → (row′ ≡ u) × Arrived k u position′ chains′ clocks′
+      pub arrived : {row′ position′ chains′ : ℕ} {clocks′ : List ℕ} → Went tr ranks chosen w row position chains clocks u row′ position′ chains′ clocks′ → (row′ ≡ u) × Arrived k u position′ chains′ clocks′
       arrived {row′} {position′} {chains′} {clocks′} v =
           let s : Place = record { row = row; position = position; chains = chains; clocks = clocks } in
           let r = p .raises in
@@ -196,16 +196,16 @@ module _ {tr : List Record} {ranks of : List ℕ} {w : ℕ} {clocks₀ list₀ :
           told : (number tr (firstAt tr (un .short) i) < u) × (leb (s .raises .rows (number tr (firstAt tr (un .short) i)) (chainOf (traceLinks tr) (number tr (firstAt tr (un .short) i)))) (s .raises .rows u (chainOf (traceLinks tr) (number tr (firstAt tr (un .short) i)))) ≡ coveredb (settingOf tr) (firstAt tr (un .short) i) (secondAt tr (un .short) k))
           told = stand-marks (f .acceptable) (edge tr (un .short)) (list-edges tr (un .short) (f .acceptable)) (s .raises .standing) (secondAt tr (un .short) k) (s .row-is) (s .split .from k (omega arith) (in-list k h)) (split-next tr (un .short) (s .split) (in-list k h)) (firstAt tr (un .short) i) (subst (Race (settingOf tr) (firstAt tr (un .short) i)) same-second (race-at i l))
 
-          entry-rows : RowsIn of w clocks′ (rowIn tr ranks (first list i - 1)) u
+          entry-rows : RowsIn chosen w clocks′ (rowIn tr ranks (first list i - 1)) u
           entry-rows = rw row-at (rows-in left-of (number tr (firstAt tr (un .short) i)) u (omega (arith, told .0, known)) known)
 
-          entry-mark : markIn of w clocks′ (rowIn tr ranks (first list i - 1)) u ≡ markOf tr (first list i - 1) (second list i - 1)
+          entry-mark : markIn chosen w clocks′ (rowIn tr ranks (first list i - 1)) u ≡ markOf tr (first list i - 1) (second list i - 1)
           entry-mark =
               let z : second list i - 1 ≡ secondAt tr (un .short) k = omega (arith, q, second-at) in
               rw (row-at, first-at, z, mark-of tr (firstAt tr (un .short) i) (secondAt tr (un .short) k))
               (ap (λ (x : Bool). cond x 0 1) (compared left-of (number tr (firstAt tr (un .short) i)) u (omega (arith, told .0, known)) known ∙ told .1))
 
-        pub markable : Markable tr ranks of w clocks′ u list k count
+        pub markable : Markable tr ranks chosen w clocks′ u list k count
         markable = record {
           room = list-room un (g .remarked);
           some = h;
@@ -252,10 +252,10 @@ module _ {tr : List Record} {ranks of : List ℕ} {w : ℕ} {clocks₀ list₀ :
                 inside : secondAt tr (un .short) k < length tr
                 inside = race-at k h .inside
 
-                c : Climbed tr (un .short) w (begins (opAt tr) (length tr)) (f .rest) (secondAt tr (un .short) k) k e u (s .raises .rows u) (s .raises .rows) (raiseDown tr ranks w chains′ u list′ k (e - k) (flat w (begins (opAt tr) (length tr)) (s .raises .rows) ++ f .rest))
-                c = climbed (f .acceptable) (un .short) ranks (f .ranks-are) w chains′ (begins (opAt tr) (length tr)) (f .rest) (f .narrow) (events-are (f .acceptable)) list′ group shows u known inside (s .row-is) (omega (arith, s .raises .chains-are)) (s .raises .rows) (old .done)
+                c : Climbed tr (un .short) w (begins (orderingAt tr) (length tr)) (f .rest) (secondAt tr (un .short) k) k e u (s .raises .rows u) (s .raises .rows) (raiseDown tr ranks w chains′ u list′ k (e - k) (flat w (begins (orderingAt tr) (length tr)) (s .raises .rows) ++ f .rest))
+                c = climbed (f .acceptable) (un .short) ranks (f .ranks-are) w chains′ (begins (orderingAt tr) (length tr)) (f .rest) (f .narrow) (events-are (f .acceptable)) list′ group shows u known inside (s .row-is) (omega (arith, s .raises .chains-are)) (s .raises .rows) (old .done)
 
-                clocks-now : clocks″ ≡ flat w (begins (opAt tr) (length tr)) (c .raised) ++ f .rest
+                clocks-now : clocks″ ≡ flat w (begins (orderingAt tr) (length tr)) (c .raised) ++ f .rest
                 clocks-now = z ∙ ap (raiseDown tr ranks w chains′ u list′ k (e - k)) (s .raises .clocks-are) ∙ c .clocks-are
 
                 before : Before e u position′ chains′ clocks″

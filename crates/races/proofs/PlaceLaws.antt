@@ -9,20 +9,20 @@ use native.Mathlib.Numerals.{add-one}
 use lib.ListN.{length, getD}
 use Rattle.records.specs.declared.Record.{Record}
 use Rattle.trace.specs.Reading.{Acceptable}
-use Rattle.ranks.specs.Said.{begin}
+use Rattle.ranks.specs.declared.Ordering.the-variants.{Begin}
 use Rattle.order.specs.Links.{leq}
 use Rattle.order.specs.Chains.{used}
 use Rattle.order.specs.Clocks.{chainOf, entry, flat, clocksOf}
-use Rattle.order.specs.Fill.{eventsIn, shortRow, chainTable, traceClocks}
+use Rattle.order.specs.Fill.{eventsIn, rowPastWidth, chainTable, traceClocks}
 use Rattle.order.specs.Schedule.{begins}
-use Rattle.order.specs.HappensBefore.{opAt, traceLinks}
+use Rattle.order.specs.HappensBefore.{orderingAt, traceLinks}
 use Rattle.order.specs.loops.Walk.{walkFrom}
 use Rattle.order.proofs.ChainLaws.{used-zero, used-suc, used-mono, chain-le-used, chain-below, needs-none}
 use Rattle.order.proofs.ScheduleLaws.{begins-zero, begins-suc, begins-mono, begin-next}
 use Rattle.order.proofs.TraceOrder.{ops-begins, ops-ordered, first-begins}
 use Rattle.order.proofs.TableLaws.{chain-at}
 use Rattle.order.proofs.WalkLaws.{Along, along-start, Arrives}
-use Rattle.races.specs.loops.Filled.{Filled}
+use Rattle.races.specs.loops.FilledClocks.{FilledClocks}
 use Rattle.races.specs.loops.Raising.{Place, onward, goes}
 use Rattle.races.proofs.CoverNumbers.{events}
 use Rattle.races.proofs.RaisedRows.{final, final-short}
@@ -35,20 +35,20 @@ unfolding eventsIn
 events-in tr = refl
 
 module _ {tr : List Record} (a : Acceptable tr) where
-  pub events-are : begins (opAt tr) (length tr) ≡ events tr
+  pub events-are : begins (orderingAt tr) (length tr) ≡ events tr
   events-are = ops-begins a (length tr) (omega arith)
 
   -- the chain of a row, by the list, has its place in every row
-  pub chain-place : (of : List ℕ) (w : ℕ) → of ≡ chainTable tr → shortRow tr w ≡ eventsIn tr → (t : ℕ) → t < eventsIn tr → (getD of t 0 ≡ chainOf (traceLinks tr) t) × (chainOf (traceLinks tr) t < w)
-  unfolding shortRow
-  chain-place of w e s t h = (ap (λ (o : List ℕ). getD o t 0) e ∙ chain-at a t h, omega (arith, chain-below (leq (traceLinks tr)) t (eventsIn tr) h, needs-none (leq (traceLinks tr)) w (eventsIn tr) .0 s))
+  pub chain-place : (chosen : List ℕ) (w : ℕ) → chosen ≡ chainTable tr → rowPastWidth tr w ≡ eventsIn tr → (t : ℕ) → t < eventsIn tr → (getD chosen t 0 ≡ chainOf (traceLinks tr) t) × (chainOf (traceLinks tr) t < w)
+  unfolding rowPastWidth
+  chain-place chosen w e s t h = (ap (λ (o : List ℕ). getD o t 0) e ∙ chain-at a t h, omega (arith, chain-below (leq (traceLinks tr)) t (eventsIn tr) h, needs-none (leq (traceLinks tr)) w (eventsIn tr) .0 s))
 
-module _ {tr : List Record} {ranks of : List ℕ} {w : ℕ} {clocks₀ : List ℕ} (f : Filled tr ranks of w clocks₀) (short : Bool) where
+module _ {tr : List Record} {ranks chosen : List ℕ} {w : ℕ} {clocks₀ : List ℕ} (f : FilledClocks tr ranks chosen w clocks₀) (short : Bool) where
   -- the rows in the clocks, with the edges before y merged
   pub record Raises (y : ℕ) (s : Place) : Type 0 where
     pub rows : ℕ → ℕ → ℕ
     pub standing : Standing tr (edge tr short) (s .position) (s .row) y rows
-    pub clocks-are : s .clocks ≡ flat w (begins (opAt tr) (length tr)) rows ++ f .rest
+    pub clocks-are : s .clocks ≡ flat w (begins (orderingAt tr) (length tr)) rows ++ f .rest
     pub chains-are : s .chains ≡ used (leq (traceLinks tr)) (suc (s .row))
 
   pub raises-start : 0 < length tr → Raises 0 (record { row = 0; position = 0; chains = 1; clocks = clocks₀ })
@@ -56,9 +56,9 @@ module _ {tr : List Record} {ranks of : List ℕ} {w : ℕ} {clocks₀ : List �
   raises-start h =
       let a = f .acceptable in
       let b = first-begins a h in
-      let l = along-start (opAt tr) (entry (traceLinks tr)) (final tr) (entry (traceLinks tr)) (λ u c. refl) in
-      let z = begins-zero (opAt tr) in
-      let n : 0 < events tr = omega (arith, events-are a, begins-suc (opAt tr) 0 (begin 0) b, begins-mono (opAt tr) 1 (length tr) h) in
+      let l = along-start (orderingAt tr) (entry (traceLinks tr)) (final tr) (entry (traceLinks tr)) (λ u c. refl) in
+      let z = begins-zero (orderingAt tr) in
+      let n : 0 < events tr = omega (arith, events-are a, begins-suc (orderingAt tr) 0 (Begin 0) b, begins-mono (orderingAt tr) 1 (length tr) h) in
       record {
         rows = entry (traceLinks tr);
         standing = stand-arrive a (edge tr short) (list-edges tr short a) 0 0 0 (entry (traceLinks tr)) h b n (λ d k. absurd (omega arith)) (λ v c k. absurd (omega arith)) (λ v c k. l .coming v c (omega arith));
@@ -67,7 +67,7 @@ module _ {tr : List Record} {ranks of : List ℕ} {w : ℕ} {clocks₀ : List �
       }
 
   -- on to the next row
-  pub raises-onward : {y : ℕ} (s : Place) → Raises y s → NoEdge (f .acceptable) (edge tr short) (list-edges tr short (f .acceptable)) (s .row) y → suc (s .row) < events tr → Raises y (onward tr ranks of w s)
+  pub raises-onward : {y : ℕ} (s : Place) → Raises y s → NoEdge (f .acceptable) (edge tr short) (list-edges tr short (f .acceptable)) (s .row) y → suc (s .row) < events tr → Raises y (onward tr ranks chosen w s)
   unfolding onward
   raises-onward {y} s r n h = record {
     rows = v .rows;
@@ -88,35 +88,35 @@ module _ {tr : List Record} {ranks of : List ℕ} {w : ℕ} {clocks₀ : List �
       z : Standing tr (edge tr short) (s .position) (s .row) y (r .rows)
       z = r .standing
 
-      b : begins (opAt tr) (suc (s .position)) ≡ suc (s .row)
-      b = begins-suc (opAt tr) i (begin t) (z .begins-it) ∙ ap suc (sym (begin-next (opAt tr) (length tr) (ops-ordered a) i t (z .inside) (z .begins-it)))
+      b : begins (orderingAt tr) (suc (s .position)) ≡ suc (s .row)
+      b = begins-suc (orderingAt tr) i (Begin t) (z .begins-it) ∙ ap suc (sym (begin-next (orderingAt tr) (length tr) (ops-ordered a) i t (z .inside) (z .begins-it)))
 
-      along : Along (opAt tr) (entry (traceLinks tr)) (final tr) (suc (s .position)) (r .rows)
+      along : Along (orderingAt tr) (entry (traceLinks tr)) (final tr) (suc (s .position)) (r .rows)
       along = record {
         done = λ u c k. stand-leave a (edge tr short) (list-edges tr short a) z n u c (omega (arith, b));
         coming = λ u c k. z .coming u c (omega (arith, b));
       }
 
-      v : Arrives (opAt tr) (length tr) (entry (traceLinks tr)) (final tr) w (f .rest) (suc (s .position)) (walkFrom tr ranks w (s .chains) (s .position + 1) (s .clocks))
+      v : Arrives (orderingAt tr) (length tr) (entry (traceLinks tr)) (final tr) w (f .rest) (suc (s .position)) (walkFrom tr ranks w (s .chains) (s .position + 1) (s .clocks))
       v = trace-walk a ranks (f .ranks-are) (entry (traceLinks tr)) (final tr) w (s .chains) (f .rest) (f .narrow) i (r .rows) (s .clocks) (z .inside) (r .clocks-are) along (λ p c k q o. final-short tr p c (s .chains) (omega (arith, r .chains-are, used-mono (leq (traceLinks tr)) (suc p) (suc t) (omega (arith, b)))) o)
 
       j : ℕ
       j = walkFrom tr ranks w (s .chains) (s .position + 1) (s .clocks) .position
 
-      begun : begins (opAt tr) (walkFrom tr ranks w (s .chains) (s .position + 1) (s .clocks) .position) ≡ suc (s .row)
+      begun : begins (orderingAt tr) (walkFrom tr ranks w (s .chains) (s .position + 1) (s .clocks) .position) ≡ suc (s .row)
       begun = v .none-begun ∙ b
 
       inside : walkFrom tr ranks w (s .chains) (s .position + 1) (s .clocks) .position < length tr
       inside =
-          let g : j ≡ length tr → ⊥ = λ (e : j ≡ length tr). omega (arith, events-are a, begun, ap (begins (opAt tr)) e) in
+          let g : j ≡ length tr → ⊥ = λ (e : j ≡ length tr). omega (arith, events-are a, begun, ap (begins (orderingAt tr)) e) in
           omega (arith, g, v .inside)
 
-      begins-it : opAt tr (walkFrom tr ranks w (s .chains) (s .position + 1) (s .clocks) .position) ≡ begin (suc (s .row))
-      begins-it = v .at-begin inside ∙ ap begin b
+      begins-it : orderingAt tr (walkFrom tr ranks w (s .chains) (s .position + 1) (s .clocks) .position) ≡ Begin (suc (s .row))
+      begins-it = v .at-begin inside ∙ ap Begin b
 
-      more : max (s .chains) (getD of (s .row + 1) 0 + 1) ≡ used (leq (traceLinks tr)) (suc (s .row + 1))
+      more : max (s .chains) (getD chosen (s .row + 1) 0 + 1) ≡ used (leq (traceLinks tr)) (suc (s .row + 1))
       more =
-          let c : getD of (s .row + 1) 0 ≡ chainOf (traceLinks tr) (s .row + 1) = chain-place a of w (f .of-are) (f .enough) (s .row + 1) (omega (arith, events-in tr)) .0 in
+          let c : getD chosen (s .row + 1) 0 ≡ chainOf (traceLinks tr) (s .row + 1) = chain-place a chosen w (f .chosen-are) (f .enough) (s .row + 1) (omega (arith, events-in tr)) .0 in
           let k = r .chains-are in
           let u = used-suc (leq (traceLinks tr)) (s .row + 1) in
           let e : s .row + 1 ≡ suc (s .row) = add-one (s .row) in
@@ -124,9 +124,9 @@ module _ {tr : List Record} {ranks of : List ℕ} {w : ℕ} {clocks₀ : List �
           omega arith
 
   -- and on, over rows that no edge leads into any more
-  pub raises-goes : {y : ℕ} (k : ℕ) (s : Place) → Raises y s → ((v : ℕ) → s .row ≤ v → v < s .row + k → NoEdge (f .acceptable) (edge tr short) (list-edges tr short (f .acceptable)) v y) → s .row + k < events tr → Raises y (goes tr ranks of w k s) × (goes tr ranks of w k s .row ≡ s .row + k)
+  pub raises-goes : {y : ℕ} (k : ℕ) (s : Place) → Raises y s → ((v : ℕ) → s .row ≤ v → v < s .row + k → NoEdge (f .acceptable) (edge tr short) (list-edges tr short (f .acceptable)) v y) → s .row + k < events tr → Raises y (goes tr ranks chosen w k s) × (goes tr ranks chosen w k s .row ≡ s .row + k)
   unfolding goes onward
   raises-goes zero s r n h = (r, omega arith)
   raises-goes (suc k) s r n h =
-      let (p, q) = raises-goes k (onward tr ranks of w s) (raises-onward s r (n (s .row) (omega arith) (omega arith)) (omega arith)) (λ v x y. n v (omega arith) (omega arith)) (omega arith) in
+      let (p, q) = raises-goes k (onward tr ranks chosen w s) (raises-onward s r (n (s .row) (omega arith) (omega arith)) (omega arith)) (λ v x y. n v (omega arith) (omega arith)) (omega arith) in
       (p, q ∙ omega arith)

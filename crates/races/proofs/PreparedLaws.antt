@@ -11,7 +11,7 @@ use Rattle.slices.proofs.Cleared.{cleared-within}
 use Rattle.trace.specs.Reply.{Reply, refused, gives, unless}
 use Rattle.trace.specs.Reading.{recordsIn, Accepts}
 use Rattle.trace.proofs.Accepted.{accepts}
-use Rattle.order.specs.Fill.{eventsIn, shortRow}
+use Rattle.order.specs.Fill.{eventsIn, rowPastWidth}
 use Rattle.order.specs.Lent.{workFor, spaced, workAfter}
 use Rattle.order.specs.Paper.{fillPaper, Prepares}
 use Rattle.order.specs.declared.Filling.{Filling}
@@ -20,10 +20,10 @@ use Rattle.order.proofs.SpaceLaws.{cleared as cleared-zeros}
 use Rattle.order.proofs.LentLaws.{Fits, fits}
 use Rattle.order.proofs.FilledTrace.{events-of}
 use Rattle.order.proofs.PrepareLaws.{none-ready, is-ready, prepared}
-use Rattle.races.specs.loops.Filled.{Filled, Clear}
+use Rattle.races.specs.loops.FilledClocks.{FilledClocks, Clear}
 
-module _ (work : List ℕ) (found : Reply Trace) {b : List ℕ} {w : ℕ} {cs cs′ of all all′ : List ℕ} {f : Filling} {t : Trace}
-    (p : Prepares b (spaced found w (length cs) (workFor (length work))) w cs cs′ of all all′ f t) where
+module _ (work : List ℕ) (found : Reply Trace) {b : List ℕ} {w : ℕ} {cs cs′ chosen ranks ranks′ : List ℕ} {f : Filling} {t : Trace}
+    (p : Prepares b (spaced found w (length cs) (workFor (length work))) w cs cs′ chosen ranks ranks′ f t) where
   abbrev ready : Reply Trace
   ready = spaced found w (length cs) (workFor (length work))
 
@@ -58,15 +58,15 @@ module _ (work : List ℕ) (found : Reply Trace) {b : List ℕ} {w : ℕ} {cs cs
     fitting = fits found w (length cs) _ t (prepared p k z .ready-is)
 
     module _ (e : Accepts b t) where
-      pub filled-whole : Filled (recordsIn b t) all′ of w cs′
+      pub filled-whole : FilledClocks (recordsIn b t) ranks′ chosen w cs′
       filled-whole =
           let g = prepared p k z in
           record {
             acceptable = accepts b t e .acceptable;
             ranks-are = g .ranks-are;
-            of-are = g .of-are;
+            chosen-are = g .chosen-are;
             narrow = has-room w (t .events) (length cs) (fitting .has-space) .narrow;
-            enough = eqb-true (shortRow (recordsIn b t) w) (t .events) (g .enough) ∙ events-of b t e;
+            enough = eqb-true (rowPastWidth (recordsIn b t) w) (t .events) (g .enough) ∙ events-of b t e;
             rest = drop (t .events * w) cs;
             clocks-are = g .clocks-are;
           }

@@ -9,7 +9,7 @@ use lib.ListN.{length, set}
 use Rattle.records.specs.declared.Record.{Record}
 use Rattle.slices.proofs.Tests.{decide-eq}
 use Rattle.races.specs.Lists.{markOf}
-use Rattle.races.specs.loops.Filled.{RowsIn}
+use Rattle.races.specs.loops.FilledClocks.{RowsIn}
 use Rattle.races.specs.loops.Marking.{first, second, Remarked}
 use Rattle.races.specs.loops.Raising.{rowIn, markIn, Markable, MarksSecond}
 use Rattle.races.proofs.MarkingLaws.{remarked-none, remarked-on, remarked-one}
@@ -22,7 +22,7 @@ pub record MarkingSecond (tr : List Record) (list₀ : List ℕ) (k count : ℕ)
   pub same : (i : ℕ) → k ≤ i → i < e → second list₀ i ≡ second list₀ k
   pub remarked : Remarked tr k e list₀ list
 
-pub marking-start : {tr : List Record} {ranks of clocks list : List ℕ} {width u k count : ℕ} → Markable tr ranks of width clocks u list k count → MarkingSecond tr list k count list k
+pub marking-start : {tr : List Record} {ranks chosen clocks list : List ℕ} {width u k count : ℕ} → Markable tr ranks chosen width clocks u list k count → MarkingSecond tr list k count list k
 marking-start {tr} {list = list} {k = k} m = let s = m .some in record { from = omega arith; within = omega arith; room = m .room; same = λ i h l. absurd (omega arith); remarked = remarked-none tr k list }
 
 module _ {tr : List Record} {list₀ list : List ℕ} {k count e : ℕ} (s : MarkingSecond tr list₀ k count list e) (h : e < count) (x : ℕ) (x-is : x ≡ second list₀ k) where
@@ -41,7 +41,7 @@ module _ {tr : List Record} {list₀ list : List ℕ} {k count e : ℕ} (s : Mar
       ahead (inr z) = omega (arith, s .from)
 
   -- one of the same: its first access, the row of that, and its mark
-  module _ {ranks of : List ℕ} {width : ℕ} {clocks : List ℕ} {u : ℕ} (m : Markable tr ranks of width clocks u list₀ k count) where
+  module _ {ranks chosen : List ℕ} {width : ℕ} {clocks : List ℕ} {u : ℕ} (m : Markable tr ranks chosen width clocks u list₀ k count) where
     pub marking-number : 0 < first list e
     marking-number = rw (s .remarked .firsts e) (m .numbers e (s .from) h)
 
@@ -49,10 +49,10 @@ module _ {tr : List Record} {list₀ list : List ℕ} {k count e : ℕ} (s : Mar
       same-second : second list₀ e ≡ second list₀ k
       same-second = sym (s .remarked .seconds e) ∙ q ∙ x-is
 
-      pub marking-rows : (t : ℕ) → t ≡ rowIn tr ranks (first list e - 1) → RowsIn of width clocks t u
+      pub marking-rows : (t : ℕ) → t ≡ rowIn tr ranks (first list e - 1) → RowsIn chosen width clocks t u
       marking-rows t z = rw (z, s .remarked .firsts e) (m .rows e (s .from) h same-second)
 
-      pub marking-next : (t v : ℕ) → t ≡ rowIn tr ranks (first list e - 1) → v ≡ markIn of width clocks t u → MarkingSecond tr list₀ k count (set list (5 * e + 4) v) (e + 1)
+      pub marking-next : (t v : ℕ) → t ≡ rowIn tr ranks (first list e - 1) → v ≡ markIn chosen width clocks t u → MarkingSecond tr list₀ k count (set list (5 * e + 4) v) (e + 1)
       marking-next t v z y = record {
         from = omega (arith, s .from);
         within = omega arith;
@@ -71,5 +71,5 @@ module _ {tr : List Record} {list₀ list : List ℕ} {k count e : ℕ} (s : Mar
           same i l w (inl j) = rw j same-second
           same i l w (inr j) = s .same i l (omega arith)
 
-pub marking-end : {tr : List Record} {ranks of clocks list₀ list : List ℕ} {width u k count e : ℕ} → Markable tr ranks of width clocks u list₀ k count → MarkingSecond tr list₀ k count list e → count ≤ e → MarksSecond tr list₀ list k count e
+pub marking-end : {tr : List Record} {ranks chosen clocks list₀ list : List ℕ} {width u k count e : ℕ} → Markable tr ranks chosen width clocks u list₀ k count → MarkingSecond tr list₀ k count list e → count ≤ e → MarksSecond tr list₀ list k count e
 marking-end m s h = record { ahead = omega (arith, m .some); within = s .within; same = s .same; else = λ l z. omega arith; remarked = s .remarked }

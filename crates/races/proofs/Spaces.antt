@@ -13,7 +13,7 @@ use Rattle.clocks.specs.Rows.{spaceFor}
 use Rattle.order.specs.Lent.{workFor}
 use Rattle.coverage.proofs.Total.{short-total}
 use Rattle.races.specs.Traces.{cellsOf, settingOf}
-use Rattle.races.specs.loops.Filled.{rows}
+use Rattle.races.specs.loops.FilledClocks.{rows}
 use Rattle.races.specs.Lists.{pairsOf, listFor}
 
 module _ {tr : List Record} (a : Acceptable tr) where

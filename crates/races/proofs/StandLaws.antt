@@ -11,7 +11,7 @@ use lib.ListN.{length}
 use Rattle.records.specs.declared.Record.{Record}
 use Rattle.records.specs.Records.{at}
 use Rattle.trace.specs.Reading.{Acceptable}
-use Rattle.ranks.specs.Said.{begin}
+use Rattle.ranks.specs.declared.Ordering.the-variants.{Begin}
 use Rattle.coverage.specs.Race.{Race}
 use Rattle.coverage.specs.Leading.{coveredb}
 use Rattle.coverage.specs.loops.Whole.{Edges}
@@ -19,7 +19,7 @@ use Rattle.slices.proofs.Tests.{decide-eq, same as equal-tests}
 use Rattle.order.specs.loops.Sets.{index}
 use Rattle.order.specs.Schedule.{linked}
 use Rattle.order.specs.Clocks.{chainOf, entry, largest}
-use Rattle.order.specs.HappensBefore.{opAt, traceLinks}
+use Rattle.order.specs.HappensBefore.{orderingAt, traceLinks}
 use Rattle.order.proofs.ScheduleLaws.{linked-suc, links-made}
 use Rattle.order.proofs.WalkLaws.{linked-all}
 use Rattle.order.proofs.TraceOrder.{ops-ordered}
@@ -33,11 +33,11 @@ module _ (tr : List Record) (e : ℕ → ℕ → Bool) where
   -- at row t, whose begin is record i; the edges with a second before y are merged
   pub record Standing (i t y : ℕ) (rows : ℕ → ℕ → ℕ) : Type 0 where
     pub inside : i < length tr
-    pub begins-it : opAt tr i ≡ begin t
+    pub begins-it : orderingAt tr i ≡ Begin t
     pub known : t < events tr
     pub done : (v c : ℕ) → v < t → rows v c ≡ final tr v c
     pub row : Raised tr e t y (rows t)
-    pub coming : (v c : ℕ) → t < v → rows v c ≡ max (entry (traceLinks tr) v c) (largest (linked (opAt tr) (suc i) v) (λ p. final tr p c))
+    pub coming : (v c : ℕ) → t < v → rows v c ≡ max (entry (traceLinks tr) v c) (largest (linked (orderingAt tr) (suc i) v) (λ p. final tr p c))
     pub seen : (d : ℕ) → d < y → number tr d ≤ t
 
 module _ {tr : List Record} (a : Acceptable tr) where
@@ -55,14 +55,14 @@ module _ {tr : List Record} (a : Acceptable tr) where
         go (inr q) = s .done v c (omega arith)
 
     -- and where the next begin is met
-    pub stand-arrive : (j t y : ℕ) (rows : ℕ → ℕ → ℕ) → j < length tr → opAt tr j ≡ begin t → t < events tr → ((d : ℕ) → d < y → number tr d < t) → ((v c : ℕ) → v < t → rows v c ≡ final tr v c) → ((v c : ℕ) → t ≤ v → rows v c ≡ max (entry (traceLinks tr) v c) (largest (linked (opAt tr) j v) (λ p. final tr p c))) → Standing tr e j t y rows
+    pub stand-arrive : (j t y : ℕ) (rows : ℕ → ℕ → ℕ) → j < length tr → orderingAt tr j ≡ Begin t → t < events tr → ((d : ℕ) → d < y → number tr d < t) → ((v c : ℕ) → v < t → rows v c ≡ final tr v c) → ((v c : ℕ) → t ≤ v → rows v c ≡ max (entry (traceLinks tr) v c) (largest (linked (orderingAt tr) j v) (λ p. final tr p c))) → Standing tr e j t y rows
     stand-arrive j t y rows h b k s f g = record {
       inside = h;
       begins-it = b;
       known = k;
       done = f;
-      row = raised-start a e es t k y first (rows t) (λ c. g t c (omega arith) ∙ ap (max (entry (traceLinks tr) t c)) (linked-all (opAt tr) (length tr) (ops-ordered a) (traceLinks tr) (links-made (opAt tr) (length tr)) j t (λ p. final tr p c) h b));
-      coming = λ v c l. rw (linked-suc (opAt tr) j v (begin t) b) (g v c (omega arith));
+      row = raised-start a e es t k y first (rows t) (λ c. g t c (omega arith) ∙ ap (max (entry (traceLinks tr) t c)) (linked-all (orderingAt tr) (length tr) (ops-ordered a) (traceLinks tr) (links-made (orderingAt tr) (length tr)) j t (λ p. final tr p c) h b));
+      coming = λ v c l. rw (linked-suc (orderingAt tr) j v (Begin t) b) (g v c (omega arith));
       seen = λ d l. omega (arith, s d l);
     }
       where

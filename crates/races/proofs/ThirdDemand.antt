@@ -19,7 +19,7 @@ use Rattle.trace.proofs.ReplyLaws.{not-both, same-given, passed}
 use Rattle.clocks.specs.Rows.{spaceFor}
 use Rattle.order.specs.Links.{leq}
 use Rattle.order.specs.HappensBefore.{traceLinks}
-use Rattle.order.specs.Fill.{eventsIn, shortRow, chainsUsed}
+use Rattle.order.specs.Fill.{eventsIn, rowPastWidth, chainsUsed}
 use Rattle.order.proofs.ChainLaws.{needs-none}
 use Rattle.order.proofs.SpaceLaws.{has-room}
 use Rattle.order.specs.Lent.{workFor}
@@ -50,9 +50,9 @@ module _ {tr : List Record} {width clocks work needed entries : ℕ} (s : Suffic
   pub passes-22 : leb (eventsIn tr) work ≡ true
   passes-22 = le-leb (eventsIn tr) work (s .work-space)
 
-  pub passes-23 : eqb (shortRow tr width) (eventsIn tr) ≡ true
-  unfolding shortRow chainsUsed
-  passes-23 = eq-eqb (shortRow tr width) (eventsIn tr) (needs-none (leq (traceLinks tr)) width (eventsIn tr) .1 (s .enough-chains))
+  pub passes-23 : eqb (rowPastWidth tr width) (eventsIn tr) ≡ true
+  unfolding rowPastWidth chainsUsed
+  passes-23 = eq-eqb (rowPastWidth tr width) (eventsIn tr) (needs-none (leq (traceLinks tr)) width (eventsIn tr) .1 (s .enough-chains))
 
   pub passes-24 : leb needed entries ≡ true
   passes-24 = le-leb needed entries (s .list-space)
@@ -69,8 +69,8 @@ made bytes t e width clocks work list short s =
 
 -- a call that no test refuses passes them all
 pub suffices : (tr : List Record) (width clocks work entries needed : ℕ) → spaceFor width (eventsIn tr) clocks ≡ true → leb (eventsIn tr) work ≡ true
-    → eqb (shortRow tr width) (eventsIn tr) ≡ true → leb needed entries ≡ true → Suffices tr width clocks work entries needed
-unfolding shortRow chainsUsed
+    → eqb (rowPastWidth tr width) (eventsIn tr) ≡ true → leb needed entries ≡ true → Suffices tr width clocks work entries needed
+unfolding rowPastWidth chainsUsed
 suffices tr width clocks work entries needed p q r s =
     let h = has-room width (eventsIn tr) clocks p in
     record {

@@ -1,5 +1,5 @@
 -- What loops compute, for contracts inside the crates: no promise to a caller rests on these.
-pub mod Filled
+pub mod FilledClocks
 pub mod Candidates
 pub mod ListPass
 pub mod Marking

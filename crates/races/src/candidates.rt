@@ -9,17 +9,17 @@ ghost use Prim.Native.Nat.{_+_, _-_, _≤_, _<_};
 ghost use lib.Dec.{eqb};
 ghost use lib.ListN.{length, set};
 ghost use Rattle.records.specs.Bytes.{decode};
-ghost use Rattle.races.specs.loops.Filled.{BothIn};
+ghost use Rattle.races.specs.loops.FilledClocks.{BothIn};
 ghost use Rattle.ranks.specs.Ranks.{ranksOf};
-ghost use Rattle.races.specs.loops.Candidates.{orderedIn, seenAfter, wayFrom, wayTo, Tables};
+ghost use Rattle.races.specs.loops.Candidates.{orderedIn, seenAfter, firstsFrom, firstsTo, Tables};
 ghost use Rattle.races.specs.loops.ListPass.{Second, Ranges};
 ghost use Rattle.records.specs.Search.{leastKind, mayRace, NextAccess};
 
 // By the number of a cell: do all its accesses from the start on happen before row u, or belong to it? It is 0 where there are none, and above 1,024
 // where no such row is known.
-fn is_ordered(of: &[u16], width: usize, clocks: &[u16], seen: u16, u: usize) -> bool
-    requires { ⌜ (seen ≢ 0 → seen ≤ 1024 → BothIn (now of) width (now clocks) (seen - 1) u) ⌝ }
-    ensures { λ r. ⌜ r ≡ orderedIn (now (of .entry)) width (now (clocks .entry)) seen u ⌝ }
+fn is_ordered(chosen: &[u16], width: usize, clocks: &[u16], seen: u16, u: usize) -> bool
+    requires { ⌜ (seen ≢ 0 → seen ≤ 1024 → BothIn (now chosen) width (now clocks) (seen - 1) u) ⌝ }
+    ensures { λ r. ⌜ r ≡ orderedIn (now (chosen .entry)) width (now (clocks .entry)) seen u ⌝ }
 {
     if seen == 0 {
         return true;
@@ -27,7 +27,7 @@ fn is_ordered(of: &[u16], width: usize, clocks: &[u16], seen: u16, u: usize) -> 
     if 1024 < seen {
         return false;
     }
-    is_before(relation(of, width, clocks, (seen - 1) as usize, u))
+    is_before(relation(chosen, width, clocks, (seen - 1) as usize, u))
 }
 
 // The number of a cell after an access of row u: in the short list a write is its start.
@@ -69,8 +69,8 @@ fn note_access(
 }
 
 // From where on first accesses are looked for, where the last write of the cell has the number `last`: in the short list from there.
-fn way_from(short: bool, last: usize) -> usize
-    ensures { λ r. ⌜ r ≡ wayFrom short last ⌝ }
+fn firsts_from(short: bool, last: usize) -> usize
+    ensures { λ r. ⌜ r ≡ firstsFrom short last ⌝ }
 {
     if !short {
         return 0;
@@ -82,8 +82,8 @@ fn way_from(short: bool, last: usize) -> usize
 }
 
 // Up to where those of an access b of that kind are looked for: a read races with none past the last write.
-fn way_to(kind: u8, last: usize, b: usize) -> usize
-    ensures { λ r. ⌜ r ≡ wayTo kind last b ⌝ }
+fn firsts_to(kind: u8, last: usize, b: usize) -> usize
+    ensures { λ r. ⌜ r ≡ firstsTo kind last b ⌝ }
 {
     if kind == 5 {
         return last;
@@ -92,7 +92,7 @@ fn way_to(kind: u8, last: usize, b: usize) -> usize
 }
 
 // The way to a second access: first accesses that may race with it are looked for from one record on, before another.
-pub(crate) struct Way {
+pub(crate) struct Firsts {
     pub from: usize,
     pub to: usize,
 }
@@ -100,7 +100,7 @@ pub(crate) struct Way {
 // The way to the access b of row u, with nothing on it where all accesses of its cell are ordered before it. Takes the access into account.
 pub(crate) fn take_access(
     recs: &[u8],
-    of: &[u16],
+    chosen: &[u16],
     width: usize,
     clocks: &[u16],
     seen: &mut [u16],
@@ -109,7 +109,7 @@ pub(crate) fn take_access(
     u: usize,
     short: bool,
 ) -> Way
-    requires { ⌜ Second (decode (now recs)) (ranksOf (decode (now recs))) (now of) width (now clocks) b u ⌝ }
+    requires { ⌜ Second (decode (now recs)) (ranksOf (decode (now recs))) (now chosen) width (now clocks) b u ⌝ }
     requires { ⌜ Tables (decode (now recs)) short b (now seen) (now writes) ⌝ }
     ensures { λ r. ⌜ Ranges (decode (now (recs .entry))) short b (r .from) (r .to) ⌝ }
     ensures { λ r. ⌜ Tables (decode (now (recs .entry))) short (b + 1) (now (seen .exit)) (now (writes .exit)) ⌝ }
@@ -117,13 +117,13 @@ pub(crate) fn take_access(
     let kind = access::kind_at(recs, b);
     let c = access::cell_at(recs, b).0 as usize;
     let last = writes[c] as usize;
-    let ordered = is_ordered(of, width, clocks, seen[c], u);
+    let ordered = is_ordered(chosen, width, clocks, seen[c], u);
     note_access(seen, writes, c, kind, ordered, short, b, u);
     if ordered {
-        return Way { from: b, to: b };
+        return Firsts { from: b, to: b };
     }
-    Way {
-        from: way_from(short, last),
-        to: way_to(kind, last, b),
+    Firsts {
+        from: firsts_from(short, last),
+        to: firsts_to(kind, last, b),
     }
 }

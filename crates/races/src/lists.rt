@@ -29,7 +29,7 @@ ghost use Rattle.races.specs.Lists.{entryNumbers, shapeOf};
 ghost use Rattle.races.specs.Paper.{listPaper, ListsFilled, Lists};
 ghost use Rattle.races.specs.loops.ListPass.{pairsBelow, raw, Second, OneRoom, OneWrites, RoomIf, Writes, WritesAll, Ample, Counts, ListsAll};
 ghost use Rattle.races.specs.loops.Candidates.{Range};
-ghost use Rattle.races.specs.loops.Filled.{Filled};
+ghost use Rattle.races.specs.loops.FilledClocks.{FilledClocks};
 
 // 1 for ww, 2 for wr, 3 for rw.
 fn shape_of(recs: &[u8], a: usize, b: usize) -> u16
@@ -61,7 +61,7 @@ fn put_entry(recs: &[u8], a: usize, b: usize, list: &mut [u16], k: usize)
 fn list_race(
     recs: &[u8],
     ranks: &[u16],
-    of: &[u16],
+    chosen: &[u16],
     width: usize,
     clocks: &[u16],
     a: usize,
@@ -71,10 +71,10 @@ fn list_race(
     k: usize,
     writing: bool,
 ) -> usize
-    requires { ⌜ OneRoom writing (decode (now recs)) (now ranks) (now of) width (now clocks) a b u k (now list) ⌝ }
+    requires { ⌜ OneRoom writing (decode (now recs)) (now ranks) (now chosen) width (now clocks) a b u k (now list) ⌝ }
     ensures { λ r. ⌜ OneWrites writing (decode (now (recs .entry))) a b k (now (list .entry)) (now (list .exit)) r ⌝ }
 {
-    if !is_unordered(relation(of, width, clocks, row_at(recs, ranks, a), u)) {
+    if !is_unordered(relation(chosen, width, clocks, row_at(recs, ranks, a), u)) {
         return k;
     }
     if writing {
@@ -85,33 +85,45 @@ fn list_race(
 }
 
 // The races on the way to b, of row u, from entry k on, written or only counted.
-fn list_way(
+fn list_firsts(
     recs: &[u8],
     ranks: &[u16],
-    of: &[u16],
+    chosen: &[u16],
     width: usize,
     clocks: &[u16],
-    way: Way,
+    firsts: Way,
     b: usize,
     u: usize,
     list: &mut [u16],
     k: usize,
     writing: bool,
 ) -> usize
-    requires { ⌜ Second (decode (now recs)) (now ranks) (now of) width (now clocks) b u × Range (decode (now recs)) b (way .from) (way .to) ⌝ }
-    requires { ⌜ RoomIf writing (decode (now recs)) b (way .from) k (now list) ⌝ }
-    ensures { λ r. ⌜ Writes writing (decode (now (recs .entry))) b (way .from) k (now (list .entry)) (now (list .exit)) r ⌝ }
+    requires { ⌜ Second (decode (now recs)) (now ranks) (now chosen) width (now clocks) b u × Range (decode (now recs)) b (firsts .from) (firsts .to) ⌝ }
+    requires { ⌜ RoomIf writing (decode (now recs)) b (firsts .from) k (now list) ⌝ }
+    ensures { λ r. ⌜ Writes writing (decode (now (recs .entry))) b (firsts .from) k (now (list .entry)) (now (list .exit)) r ⌝ }
 {
-    if way.to <= way.from {
+    if firsts.to <= firsts.from {
         return k;
     }
     let c = access::cell_at(recs, b);
     let least = search::least_kind(access::kind_at(recs, b));
     let mut next = k;
-    let mut a = search::next_access(recs, way.from, way.to, c, least);
-    while a < way.to {
-        next = list_race(recs, ranks, of, width, clocks, a, b, u, list, next, writing);
-        a = search::next_access(recs, a + 1, way.to, c, least);
+    let mut a = search::next_access(recs, firsts.from, firsts.to, c, least);
+    while a < firsts.to {
+        next = list_race(
+            recs,
+            ranks,
+            chosen,
+            width,
+            clocks,
+            a,
+            b,
+            u,
+            list,
+            next,
+            writing,
+        );
+        a = search::next_access(recs, a + 1, firsts.to, c, least);
     }
     next
 }
@@ -131,14 +143,14 @@ fn begun_after(kind: u8, begun: usize) -> usize
 fn list_all(
     recs: &[u8],
     ranks: &[u16],
-    of: &[u16],
+    chosen: &[u16],
     width: usize,
     clocks: &[u16],
     list: &mut [u16],
     short: bool,
     writing: bool,
 ) -> usize
-    requires { ⌜ Filled (decode (now recs)) (now ranks) (now of) width (now clocks) ×
+    requires { ⌜ FilledClocks (decode (now recs)) (now ranks) (now chosen) width (now clocks) ×
         (T writing → entryNumbers * length (pairsBelow (decode (now recs)) short (length (decode (now recs)))) ≤ length (now list)) ⌝ }
     ensures { λ r. ⌜ WritesAll writing (decode (now (recs .entry))) short (now (list .entry)) (now (list .exit)) r ⌝ }
 {
@@ -156,8 +168,30 @@ fn list_all(
             continue;
         }
         let u = begun - 1;
-        let way = take_access(recs, of, width, clocks, &mut seen, &mut writes, b, u, short);
-        k = list_way(recs, ranks, of, width, clocks, way, b, u, list, k, writing);
+        let firsts = take_access(
+            recs,
+            chosen,
+            width,
+            clocks,
+            &mut seen,
+            &mut writes,
+            b,
+            u,
+            short,
+        );
+        k = list_firsts(
+            recs,
+            ranks,
+            chosen,
+            width,
+            clocks,
+            firsts,
+            b,
+            u,
+            list,
+            k,
+            writing,
+        );
         b += 1;
     }
     k
@@ -184,38 +218,38 @@ fn is_ample(short: bool, records: usize, space: usize) -> bool
 fn count_all(
     recs: &[u8],
     ranks: &[u16],
-    of: &[u16],
+    chosen: &[u16],
     width: usize,
     clocks: &[u16],
     list: &mut [u16],
     short: bool,
 ) -> usize
-    requires { ⌜ Filled (decode (now recs)) (now ranks) (now of) width (now clocks) ⌝ }
+    requires { ⌜ FilledClocks (decode (now recs)) (now ranks) (now chosen) width (now clocks) ⌝ }
     ensures { λ r. ⌜ Counts (decode (now (recs .entry))) short (length (now (list .entry))) r × (now (list .exit) ≡ now (list .entry)) ⌝ }
 {
     if is_ample(short, access::count(recs), list.len()) {
         return 1;
     }
-    list_all(recs, ranks, of, width, clocks, list, short, false)
+    list_all(recs, ranks, chosen, width, clocks, list, short, false)
 }
 
 // Writes all entries and marks them; their number. The clocks are as before.
 fn write_all(
     recs: &[u8],
     ranks: &[u16],
-    of: &[u16],
+    chosen: &[u16],
     events: usize,
     width: usize,
     clocks: &mut [u16],
     list: &mut [u16],
     short: bool,
 ) -> usize
-    requires { ⌜ Filled (decode (now recs)) (now ranks) (now of) width (now clocks) × (events ≡ eventsIn (decode (now recs))) ⌝ }
+    requires { ⌜ FilledClocks (decode (now recs)) (now ranks) (now chosen) width (now clocks) × (events ≡ eventsIn (decode (now recs))) ⌝ }
     requires { ⌜ entryNumbers * length (pairsBelow (decode (now recs)) short (length (decode (now recs)))) ≤ length (now list) ⌝ }
     ensures { λ r. ⌜ ListsAll (decode (now (recs .entry))) short (now (list .entry)) (now (list .exit)) r × (now (clocks .exit) ≡ now (clocks .entry)) ⌝ }
 {
-    let found = list_all(recs, ranks, of, width, clocks, list, short, true);
-    raising::mark_list(recs, ranks, of, events, width, clocks, list, found);
+    let found = list_all(recs, ranks, chosen, width, clocks, list, short, true);
+    raising::mark_list(recs, ranks, chosen, events, width, clocks, list, found);
     found
 }
 
@@ -245,18 +279,18 @@ fn list_filled(
     events: usize,
     width: usize,
     clocks: &mut [u16],
-    of: &[u16],
-    all: &[u16],
+    chosen: &[u16],
+    ranks: &[u16],
     chains: usize,
     list: &mut [u16],
     short: bool,
 ) -> Listing
-    requires { ⌜ Filled (decode (now recs)) (now all) (now of) width (now clocks) × (events ≡ eventsIn (decode (now recs))) ×
+    requires { ⌜ FilledClocks (decode (now recs)) (now ranks) (now chosen) width (now clocks) × (events ≡ eventsIn (decode (now recs))) ×
         (chains ≡ chainsUsed (decode (now recs))) ⌝ }
     ensures { λ r. ⌜ ListsFilled short (decode (now (recs .entry))) events (now (clocks .entry)) (now (clocks .exit)) (now (list .entry))
         (now (list .exit)) r ⌝ }
 {
-    let counted = count_all(recs, all, of, width, clocks, list, short);
+    let counted = count_all(recs, ranks, chosen, width, clocks, list, short);
     if list.len() / ENTRY_NUMBERS < counted {
         return refused(trace::LIST_SPACE);
     }
@@ -264,7 +298,7 @@ fn list_filled(
     if counted == 0 {
         return listed(events, records, chains, 0);
     }
-    let found = write_all(recs, all, of, events, width, clocks, list, short);
+    let found = write_all(recs, ranks, chosen, events, width, clocks, list, short);
     listed(events, records, chains, found)
 }
 
@@ -280,8 +314,8 @@ pub(crate) fn list_races(
     ensures { λ r. ⌜ Lists short (now (bytes .entry)) width (now (clocks .entry)) (now (clocks .exit)) (now (work .entry)) (now (work .exit))
         (now (list .entry)) (now (list .exit)) r ⌝ }
 {
-    let mut of = numbers_1024();
-    let mut all = numbers_1025();
+    let mut chosen = numbers_1024();
+    let mut ranks = numbers_1025();
     let prepared = order::prepare(
         bytes,
         Operation(1),
@@ -289,8 +323,8 @@ pub(crate) fn list_races(
         width,
         work.len(),
         clocks,
-        &mut of,
-        &mut all,
+        &mut chosen,
+        &mut ranks,
     );
     let t = prepared.trace;
     let events = t.events;
@@ -300,5 +334,15 @@ pub(crate) fn list_races(
         return Listing::Refused(order::refusal_of(answer));
     };
     let recs = access::records(bytes, t);
-    list_filled(recs, events, width, clocks, &of, &all, chains, list, short)
+    list_filled(
+        recs,
+        events,
+        width,
+        clocks,
+        &chosen,
+        &ranks,
+        chains,
+        list,
+        short,
+    )
 }

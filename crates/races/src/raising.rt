@@ -11,17 +11,17 @@ ghost use Prim.Native.Nat.{ℕ, _+_, _*_, _-_, _≤_, _<_, max};
 ghost use lib.ListN.{length, getD};
 ghost use Rattle.records.specs.Bytes.{decode};
 ghost use Rattle.order.specs.Fill.{eventsIn};
-ghost use Rattle.races.specs.loops.Filled.{Filled, RowsIn};
+ghost use Rattle.races.specs.loops.FilledClocks.{FilledClocks, RowsIn};
 ghost use Rattle.races.specs.Lists.{entryNumbers};
 ghost use Rattle.races.specs.loops.Marking.{first};
 ghost use Rattle.races.specs.loops.Raising.{Unmarked, MarksList, markIn, Markable, MarksSecond, raiseBy, raiseDown, MayGo, Went, MarksAll};
 
 // 0 where row t leads to row u as it stands, else 1.
-fn mark_of(of: &[u16], width: usize, clocks: &[u16], t: usize, u: usize) -> u16
-    requires { ⌜ RowsIn (now of) width (now clocks) t u ⌝ }
-    ensures { λ r. ⌜ r ≡ markIn (now (of .entry)) width (now (clocks .entry)) t u ⌝ }
+fn mark_of(chosen: &[u16], width: usize, clocks: &[u16], t: usize, u: usize) -> u16
+    requires { ⌜ RowsIn (now chosen) width (now clocks) t u ⌝ }
+    ensures { λ r. ⌜ r ≡ markIn (now (chosen .entry)) width (now (clocks .entry)) t u ⌝ }
 {
-    if comes_before(of, width, clocks, t, u) {
+    if comes_before(chosen, width, clocks, t, u) {
         return 0;
     }
     1
@@ -31,7 +31,7 @@ fn mark_of(of: &[u16], width: usize, clocks: &[u16], t: usize, u: usize) -> u16
 fn mark_second(
     recs: &[u8],
     ranks: &[u16],
-    of: &[u16],
+    chosen: &[u16],
     width: usize,
     clocks: &[u16],
     u: usize,
@@ -39,7 +39,7 @@ fn mark_second(
     k: usize,
     count: usize,
 ) -> usize
-    requires { ⌜ Markable (decode (now recs)) (now ranks) (now of) width (now clocks) u (now list) k count ⌝ }
+    requires { ⌜ Markable (decode (now recs)) (now ranks) (now chosen) width (now clocks) u (now list) k count ⌝ }
     ensures { λ r. ⌜ MarksSecond (decode (now (recs .entry))) (now (list .entry)) (now (list .exit)) k count r ⌝ }
 {
     let second = list[ENTRY_NUMBERS * k + 1];
@@ -49,7 +49,7 @@ fn mark_second(
             return e;
         }
         let t = row_at(recs, ranks, (list[ENTRY_NUMBERS * e] - 1) as usize);
-        list[ENTRY_NUMBERS * e + 4] = mark_of(of, width, clocks, t, u);
+        list[ENTRY_NUMBERS * e + 4] = mark_of(chosen, width, clocks, t, u);
         e += 1;
     }
     e
@@ -104,11 +104,11 @@ fn raise(
 }
 
 // The chains taken by row u and those before, where those before took that many.
-fn more_chains(of: &[u16], chains: usize, u: usize) -> usize
-    requires { ⌜ u < length (now of) ⌝ }
-    ensures { λ r. ⌜ r ≡ max chains (getD (now (of .entry)) u 0 + 1) ⌝ }
+fn more_chains(chosen: &[u16], chains: usize, u: usize) -> usize
+    requires { ⌜ u < length (now chosen) ⌝ }
+    ensures { λ r. ⌜ r ≡ max chains (getD (now (chosen .entry)) u 0 + 1) ⌝ }
 {
-    let c = of[u] as usize;
+    let c = chosen[u] as usize;
     if chains <= c {
         return c + 1;
     }
@@ -126,14 +126,14 @@ struct Stand {
 fn go_on(
     recs: &[u8],
     ranks: &[u16],
-    of: &[u16],
+    chosen: &[u16],
     width: usize,
     clocks: &mut [u16],
     s: Stand,
     u: usize,
 ) -> Stand
-    requires { ⌜ MayGo (decode (now recs)) (now of) (s .row) (s .position) u ⌝ }
-    ensures { λ r. ⌜ Went (decode (now (recs .entry))) (now (ranks .entry)) (now (of .entry)) width (s .row) (s .position) (s .chains) (now (clocks .entry)) u
+    requires { ⌜ MayGo (decode (now recs)) (now chosen) (s .row) (s .position) u ⌝ }
+    ensures { λ r. ⌜ Went (decode (now (recs .entry))) (now (ranks .entry)) (now (chosen .entry)) width (s .row) (s .position) (s .chains) (now (clocks .entry)) u
         (r .row) (r .position) (r .chains) (now (clocks .exit)) ⌝ }
 {
     let mut t = s.row;
@@ -142,7 +142,7 @@ fn go_on(
     while t < u {
         i = merge_links(recs, ranks, width, chains, clocks, i + 1);
         t += 1;
-        chains = more_chains(of, chains, t);
+        chains = more_chains(chosen, chains, t);
     }
     Stand {
         row: t,
@@ -155,13 +155,13 @@ fn go_on(
 fn mark_all(
     recs: &[u8],
     ranks: &[u16],
-    of: &[u16],
+    chosen: &[u16],
     width: usize,
     clocks: &mut [u16],
     list: &mut [u16],
     count: usize,
 )
-    requires { ⌜ Filled (decode (now recs)) (now ranks) (now of) width (now clocks) × Unmarked (decode (now recs)) (now list) count ⌝ }
+    requires { ⌜ FilledClocks (decode (now recs)) (now ranks) (now chosen) width (now clocks) × Unmarked (decode (now recs)) (now list) count ⌝ }
     ensures { λ r. ⌜ MarksAll (decode (now (recs .entry))) width (now (clocks .entry)) (now (clocks .exit)) (now (list .entry)) (now (list .exit)) count ⌝ }
 {
     let mut s = Stand {
@@ -172,8 +172,8 @@ fn mark_all(
     let mut k = 0;
     while k < count {
         let u = row_at(recs, ranks, (list[ENTRY_NUMBERS * k + 1] - 1) as usize);
-        s = go_on(recs, ranks, of, width, clocks, s, u);
-        let e = mark_second(recs, ranks, of, width, clocks, u, list, k, count);
+        s = go_on(recs, ranks, chosen, width, clocks, s, u);
+        let e = mark_second(recs, ranks, chosen, width, clocks, u, list, k, count);
         if e < count {
             raise(recs, ranks, width, s.chains, clocks, u, list, k, e);
         }
@@ -185,20 +185,20 @@ fn mark_all(
 pub(crate) fn mark_list(
     recs: &[u8],
     ranks: &[u16],
-    of: &[u16],
+    chosen: &[u16],
     events: usize,
     width: usize,
     clocks: &mut [u16],
     list: &mut [u16],
     count: usize,
 )
-    requires { ⌜ Filled (decode (now recs)) (now ranks) (now of) width (now clocks)
+    requires { ⌜ FilledClocks (decode (now recs)) (now ranks) (now chosen) width (now clocks)
         × Unmarked (decode (now recs)) (now list) count × (events ≡ eventsIn (decode (now recs))) ⌝ }
     ensures { λ r. ⌜ MarksList (decode (now (recs .entry))) (now (clocks .entry)) (now (clocks .exit)) (now (list .entry)) (now (list .exit)) count ⌝ }
 {
     if count == 0 {
         return;
     }
-    mark_all(recs, ranks, of, width, clocks, list, count);
-    refill(recs, ranks, of, events, width, clocks);
+    mark_all(recs, ranks, chosen, width, clocks, list, count);
+    refill(recs, ranks, chosen, events, width, clocks);
 }

@@ -26,12 +26,12 @@ fn add_to_row(clocks: &mut [u16], width: usize, u: usize, c: usize)
 pub(crate) fn refill(
     recs: &[u8],
     ranks: &[u16],
-    of: &[u16],
+    chosen: &[u16],
     events: usize,
     width: usize,
     clocks: &mut [u16],
 )
-    requires { ⌜ Refillable (decode (now recs)) (now ranks) (now of) events width (now clocks) ⌝ }
+    requires { ⌜ Refillable (decode (now recs)) (now ranks) (now chosen) events width (now clocks) ⌝ }
     ensures { λ r. ⌜ now (clocks .exit)
         ≡ traceClocks (decode (now (recs .entry))) width ++ drop (eventsIn (decode (now (recs .entry))) * width) (now (clocks .entry)) ⌝ }
 {
@@ -41,7 +41,7 @@ pub(crate) fn refill(
     let mut u = 0;
     let mut i = 0;
     while i < n {
-        let c = of[u] as usize;
+        let c = chosen[u] as usize;
         add_to_row(clocks, width, u, c);
         if chains <= c {
             chains = c + 1;

@@ -1,2 +1,2 @@
 pub mod RankLaws
-pub mod SaidLaws
+pub mod OrderingLaws

@@ -25,7 +25,7 @@ pub ranks-more : (tr : List Record) (i : ℕ) → ranksUpto tr (i + 1) ≡ rankI
 unfolding ranksUpto
 ranks-more tr i = rw add-one
 
-pub ranks-same : {tr : List Record} {i : ℕ} {all : List ℕ} {found : ℕ} (j : ℕ) → i ≡ j → RanksTo tr i all found → RanksTo tr j all found
+pub ranks-same : {tr : List Record} {i : ℕ} {ranks : List ℕ} {found : ℕ} (j : ℕ) → i ≡ j → RanksTo tr i ranks found → RanksTo tr j ranks found
 ranks-same {tr} j e r = record { ranks-are = r .ranks-are ∙ ap (ranksUpto tr) e; begins-are = r .begins-are ∙ ap (λ (k : ℕ). begins (past tr k)) e }
 
 pub ranks-many : (tr : List Record) → length (ranksOf tr) ≡ 1025

@@ -7,15 +7,6 @@ use lib.ListN.{length, set}
 use Rattle.slices.specs.Slices.{zeros}
 use Rattle.records.specs.declared.Record.{Record}
 use Rattle.records.specs.Records.{at, past, isBegin, begins}
-use Rattle.ranks.specs.declared.Ordering.{Ordering}
-use Rattle.ranks.specs.declared.Ordering.the-variants.{Link, Begin, Nothing}
-use Rattle.ranks.specs.Said.{Op, link, begin, other}
-
--- what the code's answer says of links and begins
-abbrev pub says : Ordering → Op
-says (Link p u) = link p u
-says (Begin u) = begin u
-says Nothing = other
 
 abbrev pub noRanks : List ℕ
 noRanks = zeros 1025
@@ -33,8 +24,8 @@ ranksUpto tr zero = noRanks
 ranksUpto tr (suc i) = rankIf (isBegin (at tr i)) (ranksUpto tr i) (at tr i .first) (begins (past tr i) + 1)
 
 -- a table has them, and there are that many begins
-pub record RanksTo (tr : List Record) (i : ℕ) (all : List ℕ) (found : ℕ) : Type 0 where
-  pub ranks-are : all ≡ ranksUpto tr i
+pub record RanksTo (tr : List Record) (i : ℕ) (ranks : List ℕ) (found : ℕ) : Type 0 where
+  pub ranks-are : ranks ≡ ranksUpto tr i
   pub begins-are : found ≡ begins (past tr i)
 
 unfoldable pub ranksOf : List Record → List ℕ

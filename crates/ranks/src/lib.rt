@@ -9,11 +9,12 @@ ghost use mathlib.Core.Path.{_≡_};
 ghost use lib.ListN.{getD};
 ghost use Rattle.records.specs.Bytes.{decode};
 ghost use Rattle.records.specs.Records.{at};
-ghost use Rattle.ranks.specs.Said.{linkOf, opOf, begin};
+ghost use Rattle.ranks.specs.declared.Ordering.the-variants.{Begin};
+ghost use Rattle.ranks.specs.OrderingOf.{linkOf, orderingOf};
 ghost use mathlib.Core.Bool.{cond};
 ghost use Prim.Native.Nat.{_+_, _-_, _≤_, _<_};
 ghost use lib.Dec.{eqb};
-ghost use Rattle.ranks.specs.Ranks.{withRank, rankIf, ranksUpto, ranksOf, RanksTo, says};
+ghost use Rattle.ranks.specs.Ranks.{withRank, rankIf, ranksUpto, ranksOf, RanksTo};
 
 // What a record says of links and begins, between rows.
 pub enum Ordering {
@@ -41,61 +42,61 @@ fn note_rank(ranks: &mut [u16], kind: u8, e: EventId, found: usize) -> usize
 }
 
 // Record i, where the table has the ranks of those before it: the number of begins after it.
-fn note_record(recs: &[u8], all: &mut [u16], i: usize, found: usize) -> usize
-    requires { ⌜ (found < 9223372036854775807) × RanksTo (decode (now recs)) i (now all) found ⌝ }
-    ensures { λ r. ⌜ RanksTo (decode (now (recs .entry))) (i + 1) (now (all .exit)) r × (r ≤ found + 1) ⌝ }
+fn note_record(recs: &[u8], ranks: &mut [u16], i: usize, found: usize) -> usize
+    requires { ⌜ (found < 9223372036854775807) × RanksTo (decode (now recs)) i (now ranks) found ⌝ }
+    ensures { λ r. ⌜ RanksTo (decode (now (recs .entry))) (i + 1) (now (ranks .exit)) r × (r ≤ found + 1) ⌝ }
 {
     let kind = access::kind_at(recs, i);
     let e = access::event_at(recs, i);
-    note_rank(all, kind, e, found)
+    note_rank(ranks, kind, e, found)
 }
 
 // The same for four records.
-fn note_four(recs: &[u8], all: &mut [u16], i: usize, found: usize) -> usize
-    requires { ⌜ (found ≤ i) × (i < 9223372036854775800) × RanksTo (decode (now recs)) i (now all) found ⌝ }
-    ensures { λ r. ⌜ RanksTo (decode (now (recs .entry))) (i + 4) (now (all .exit)) r × (r ≤ i + 4) ⌝ }
+fn note_four(recs: &[u8], ranks: &mut [u16], i: usize, found: usize) -> usize
+    requires { ⌜ (found ≤ i) × (i < 9223372036854775800) × RanksTo (decode (now recs)) i (now ranks) found ⌝ }
+    ensures { λ r. ⌜ RanksTo (decode (now (recs .entry))) (i + 4) (now (ranks .exit)) r × (r ≤ i + 4) ⌝ }
 {
-    let one = note_record(recs, all, i, found);
-    let two = note_record(recs, all, i + 1, one);
-    let three = note_record(recs, all, i + 2, two);
-    note_record(recs, all, i + 3, three)
+    let one = note_record(recs, ranks, i, found);
+    let two = note_record(recs, ranks, i + 1, one);
+    let three = note_record(recs, ranks, i + 2, two);
+    note_record(recs, ranks, i + 3, three)
 }
 
 // The same for the records from i up to n.
-fn note_last(recs: &[u8], all: &mut [u16], from: usize, n: usize, before: usize)
-    requires { ⌜ (before ≤ from) × (from ≤ n) × (n < 9223372036854775800) × RanksTo (decode (now recs)) from (now all) before ⌝ }
-    ensures { λ u. ⌜ now (all .exit) ≡ ranksUpto (decode (now (recs .entry))) n ⌝ }
+fn note_last(recs: &[u8], ranks: &mut [u16], from: usize, n: usize, before: usize)
+    requires { ⌜ (before ≤ from) × (from ≤ n) × (n < 9223372036854775800) × RanksTo (decode (now recs)) from (now ranks) before ⌝ }
+    ensures { λ u. ⌜ now (ranks .exit) ≡ ranksUpto (decode (now (recs .entry))) n ⌝ }
 {
     let mut found = before;
     let mut i = from;
     while i < n {
-        found = note_record(recs, all, i, found);
+        found = note_record(recs, ranks, i, found);
         i += 1;
     }
 }
 
 // The ranks of all events, by event number, in the lent table; four records at a time.
-pub fn fill_ranks(recs: &[u8], all: &mut [u16; 1025])
-    ensures { λ u. ⌜ now (all .exit) ≡ ranksOf (decode (now (recs .entry))) ⌝ }
+pub fn fill_ranks(recs: &[u8], ranks: &mut [u16; 1025])
+    ensures { λ u. ⌜ now (ranks .exit) ≡ ranksOf (decode (now (recs .entry))) ⌝ }
 {
     let n = access::count(recs);
-    clear(all, 1025);
+    clear(ranks, 1025);
     let mut found = 0;
     let mut i = 0;
     while i + 4 <= n {
-        found = note_four(recs, all, i, found);
+        found = note_four(recs, ranks, i, found);
         i += 4;
     }
-    note_last(recs, all, i, n, found);
+    note_last(recs, ranks, i, n, found);
 }
 
 // The ranks of all events, by event number.
 pub fn ranks(recs: &[u8]) -> [u16; 1025]
     ensures { λ r. ⌜ r ≡ ranksOf (decode (now (recs .entry))) ⌝ }
 {
-    let mut all = numbers_1025();
-    fill_ranks(recs, &mut all);
-    all
+    let mut ranks = numbers_1025();
+    fill_ranks(recs, &mut ranks);
+    ranks
 }
 
 // The rank of event e.
@@ -117,7 +118,7 @@ pub fn row_at(recs: &[u8], ranks: &[u16], i: usize) -> usize
 }
 
 fn link_of(from: u16, to: u16) -> Ordering
-    ensures { λ r. ⌜ says r ≡ linkOf from to ⌝ }
+    ensures { λ r. ⌜ r ≡ linkOf from to ⌝ }
 {
     if from == 0 {
         return Ordering::Nothing;
@@ -129,7 +130,7 @@ fn link_of(from: u16, to: u16) -> Ordering
 }
 
 fn begin_of(rank: u16) -> Ordering
-    ensures { λ r. ⌜ says r ≡ begin (rank - 1) ⌝ }
+    ensures { λ r. ⌜ r ≡ Begin (rank - 1) ⌝ }
 {
     if rank == 0 {
         return Ordering::Begin(0);
@@ -138,7 +139,7 @@ fn begin_of(rank: u16) -> Ordering
 }
 
 pub fn ordering_at(recs: &[u8], ranks: &[u16], i: usize) -> Ordering
-    ensures { λ r. ⌜ says r ≡ opOf (λ e. getD (now (ranks .entry)) e 0) (at (decode (now (recs .entry))) i) ⌝ }
+    ensures { λ r. ⌜ r ≡ orderingOf (λ e. getD (now (ranks .entry)) e 0) (at (decode (now (recs .entry))) i) ⌝ }
 {
     let kind = access::kind_at(recs, i);
     if 4 < kind {

@@ -17,7 +17,7 @@ use Rattle.trace.proofs.Events.{few-events}
 use Rattle.order.specs.Links.{leq}
 use Rattle.order.specs.HappensBefore.{traceLinks}
 use Rattle.order.specs.Chains.{used}
-use Rattle.order.specs.Fill.{eventsIn, beginPosition, shortRow, chainsUsed}
+use Rattle.order.specs.Fill.{eventsIn, beginPosition, rowPastWidth, chainsUsed}
 use Rattle.order.specs.Lent.{workFor, spaces, spaced, enoughChains, onClocks}
 use Rattle.order.proofs.LentLaws.{fits, filling}
 use Rattle.order.proofs.FilledTrace.{events-of}
@@ -90,7 +90,7 @@ list-small b =
     (small-then (readReply b) _ (read-small b) (λ t e. small-demand _ 21 0 _ (omega arith) (omega arith) (small-demand _ 22 0 _ (omega arith) (omega arith) (small-gives t))))
     (λ t e.
     let r = fits (readReply b) 32 32768 (workFor 1024) t e .found-is in
-    let place = position-bound (accepts b t r .acceptable) (shortRow (recordsIn b t) 32) in
+    let place = position-bound (accepts b t r .acceptable) (rowPastWidth (recordsIn b t) 32) in
     small-demand _ 23 _ _ (omega arith) (omega arith) (small-demand _ 24 0 _ (omega arith) (omega arith) (small-gives _)))
 
 -- and the list

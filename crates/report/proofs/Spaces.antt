@@ -9,7 +9,7 @@ use Rattle.trace.specs.Reply.{refused, gives, demand}
 use Rattle.trace.specs.Reading.{recordsIn, readReply}
 use Rattle.trace.proofs.Accepted.{accepts}
 use Rattle.trace.proofs.ReplyLaws.{not-both, then-given}
-use Rattle.order.specs.Fill.{eventsIn, shortRow}
+use Rattle.order.specs.Fill.{eventsIn, rowPastWidth}
 use Rattle.order.specs.Lent.{workFor, enoughChains, onClocks}
 use Rattle.order.proofs.LentLaws.{fitted}
 use Rattle.order.proofs.FilledTrace.{events-of}
@@ -19,7 +19,7 @@ use Rattle.report.specs.Text.{SpacesSuffice}
 
 only-23 : {A : Type 0} (tr : List Record) (m w : ℕ) (a : A) (k p : ℕ) → enoughChains tr m w (gives a) ≡ refused k p → k ≡ 23
 unfolding enoughChains demand
-only-23 tr m w a k p e = go (eqb (shortRow tr w) m) _ e
+only-23 tr m w a k p e = go (eqb (rowPastWidth tr w) m) _ e
   where
     go : (x : Bool) (place : ℕ) → demand x 23 place (gives a) ≡ refused k p → k ≡ 23
     go true place q = absurd (not-both a k p q)

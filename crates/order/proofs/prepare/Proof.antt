@@ -34,7 +34,7 @@ unfilled-requires c κs = search needs
 returns : tie.Need-returns
 returns c =
     let e = sym (c .before .before .before .before .read-within .ensures) ∙ sym (upward (c .before .before .before .before .read-within .result) (c .before .before .before .match .keys2)) in
-    stopped _ _ _ _ _ _ _ _ _ _ (ap fillPaper (c .unfilled .ensures .0) ∙ simp (c .before .refusal-of .ensures)) (c .unfilled .ensures .1) (cleared-whole (now (c .before .before .before .before .before .before .before .before .before .args .of)) (omega arith) (c .before .before .before .before .before .clear .ensures)) e
+    stopped _ _ _ _ _ _ _ _ _ _ (ap fillPaper (c .unfilled .ensures .0) ∙ simp (c .before .refusal-of .ensures)) (c .unfilled .ensures .1) (cleared-whole (now (c .before .before .before .before .before .before .before .before .before .args .chosen)) (omega arith) (c .before .before .before .before .before .clear .ensures)) e
 
 records-requires : tie.Need-records-requires
 records-requires c κs = search needs
@@ -48,7 +48,7 @@ fill-rows-requires c κs =
       read-acceptable b t (g .read) _ (c .before .before .before .records .ensures),
       read-events b t (g .read) _ (c .before .before .before .records .ensures),
       g .has-space,
-      cleared-whole (now (a .of)) (omega arith) (c .before .before .before .before .before .before .before .before .clear .ensures),
+      cleared-whole (now (a .chosen)) (omega arith) (c .before .before .before .before .before .before .before .before .clear .ensures),
     )
 
 same-length : tie.Need-same-length

@@ -29,7 +29,7 @@ pub record Rows : Type 0 where
   -- the members of each chain so far
   pub sizes : List ℕ
   -- the chain of each row that has begun; for any other its hint
-  pub of : List ℕ
+  pub chosen : List ℕ
   -- how many chains are taken; more than the width where the width has none left
   pub chains : ℕ
 
@@ -40,11 +40,11 @@ pickRows false a b = b
 -- row u begins in chain c
 unfoldable pub enterRow : ℕ → ℕ → Rows → ℕ → Rows
 enterRow w u s c = pickRows (leb w c)
-    (record { clocks = s .clocks; sizes = s .sizes; of = s .of; chains = suc w })
+    (record { clocks = s .clocks; sizes = s .sizes; chosen = s .chosen; chains = suc w })
     (record {
       clocks = tick w u c (s .clocks);
       sizes = set (s .sizes) c (getD (s .sizes) c 0 + 1);
-      of = set (s .of) u c;
+      chosen = set (s .chosen) u c;
       chains = max (s .chains) (suc c);
     })
 
@@ -61,15 +61,15 @@ pub record RoomToChoose (w u : ℕ) (cs sizes : List ℕ) (chains : ℕ) : Type 
 pub record RoomToBegin (w u : ℕ) (s : Rows) : Type 0 where
   pub narrow : w ≤ 1024
   pub room : RoomToChoose w u (s .clocks) (s .sizes) (s .chains)
-  pub of-room : u < length (s .of)
+  pub chosen-room : u < length (s .chosen)
   pub few-entries : (c : ℕ) → c < w → getD (s .clocks) (u * w + c) 0 < 65535
   pub few-members : (c : ℕ) → c < w → getD (s .sizes) c 0 < 65535
-  pub hint-low : getD (s .of) u 0 ≤ 1024
-  pub hinted : NoneFull (u * w) (s .clocks) (s .sizes) (min (s .chains) (1024 - getD (s .of) u 0))
+  pub hint-low : getD (s .chosen) u 0 ≤ 1024
+  pub hinted : NoneFull (u * w) (s .clocks) (s .sizes) (min (s .chains) (1024 - getD (s .chosen) u 0))
 
 -- lists and number are those of s
-pub record Are (s : Rows) (clocks sizes of : List ℕ) (chains : ℕ) : Type 0 where
+pub record Are (s : Rows) (clocks sizes chosen : List ℕ) (chains : ℕ) : Type 0 where
   pub clocks-are : clocks ≡ s .clocks
   pub sizes-are : sizes ≡ s .sizes
-  pub of-are : of ≡ s .of
+  pub chosen-are : chosen ≡ s .chosen
   pub chains-are : chains ≡ s .chains

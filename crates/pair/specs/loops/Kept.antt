@@ -14,7 +14,7 @@ use Rattle.order.specs.Fill.{chainsUsed}
 use Rattle.coverage.specs.Leading.{leads}
 use Rattle.races.specs.Traces.{isAccess, settingOf}
 use Rattle.pair.specs.loops.Leading.{mark, Marks}
-use Rattle.races.specs.loops.Filled.{rows, Filled, Clear}
+use Rattle.races.specs.loops.FilledClocks.{rows, FilledClocks, Clear}
 
 module _ (tr : List Record) where
   -- the row of a record's event action
@@ -75,8 +75,8 @@ pub record Merged (clocks : List ℕ) (at chains : ℕ) (row row′ : List ℕ) 
   pub tells : (c : ℕ) → c < chains → getD row′ c 0 ≡ max (getD row c 0) (getD clocks (at + c) 0)
 
 -- What passing a row takes: filled clocks, a byte for each row, an entry for each chain, a byte for each cell.
-pub record Passing (tr : List Record) (of : List ℕ) (width chains : ℕ) (clocks work row cells : List ℕ) : Type 0 where
-  pub filled : Filled tr (ranksOf tr) of width clocks
+pub record Passing (tr : List Record) (chosen : List ℕ) (width chains : ℕ) (clocks work row cells : List ℕ) : Type 0 where
+  pub filled : FilledClocks tr (ranksOf tr) chosen width clocks
   pub chains-are : chains ≡ chainsUsed tr
   pub work-room : rows tr ≤ length work
   pub row-room : 1024 ≤ length row
@@ -104,25 +104,25 @@ module _ (tr : List Record) (b : ℕ) where
 
   -- Kept rows are marked, cells' bytes are the levels of kept accesses, and an own entry is at most the row's just where its event action happens before a
   -- kept one.
-  pub record Kept (of : List ℕ) (width : ℕ) (clocks : List ℕ) (t hi : ℕ) (work row cells : List ℕ) : Type 0 where
+  pub record Kept (chosen : List ℕ) (width : ℕ) (clocks : List ℕ) (t hi : ℕ) (work row cells : List ℕ) : Type 0 where
     pub low : hi ≤ b
     pub marks : (x : ℕ) → hi ≤ x → x < length tr → getD work (rowOf tr x) 0 ≡ mark (leads (settingOf tr) b (eventOf (at tr x)))
     pub zeros : (r : ℕ) → r < t → getD work r 0 ≡ 0
     pub levels : (v c : ℕ) → 0 < v → c < 1025 → (v ≤ getD cells c 0) ↔ KeptAccess v c hi
-    pub entries : (x : ℕ) → x < length tr → (getD clocks (rowOf tr x * width + getD of (rowOf tr x) 0) 0 ≤ getD row (getD of (rowOf tr x) 0) 0) ↔ Below x hi
+    pub entries : (x : ℕ) → x < length tr → (getD clocks (rowOf tr x * width + getD chosen (rowOf tr x) 0) 0 ≤ getD row (getD chosen (rowOf tr x) 0) 0) ↔ Below x hi
 
 -- from the rows passed from t on to those from t′ on, whatever b is
 abbrev pub KeepsOn : List Record → List ℕ → ℕ → List ℕ → ℕ → ℕ → ℕ → ℕ → List ℕ → List ℕ → List ℕ → List ℕ → List ℕ → List ℕ → Type 0
-KeepsOn tr of width clocks t hi t′ hi′ work row cells work′ row′ cells′ =
-    (b : ℕ) → T (isAccess (at tr b)) → Kept tr b of width clocks t hi work row cells → Kept tr b of width clocks t′ hi′ work′ row′ cells′
+KeepsOn tr chosen width clocks t hi t′ hi′ work row cells work′ row′ cells′ =
+    (b : ℕ) → T (isAccess (at tr b)) → Kept tr b chosen width clocks t hi work row cells → Kept tr b chosen width clocks t′ hi′ work′ row′ cells′
 
-module _ (tr : List Record) (of : List ℕ) (width chains : ℕ) (clocks : List ℕ) where
+module _ (tr : List Record) (chosen : List ℕ) (width chains : ℕ) (clocks : List ℕ) where
   -- what passing rows gives
   pub record Passes (t hi t′ hi′ : ℕ) (work row cells work′ row′ cells′ : List ℕ) : Type 0 where
-    pub again : Passing tr of width chains clocks work′ row′ cells′
+    pub again : Passing tr chosen width chains clocks work′ row′ cells′
     pub rest : Rest tr work work′
     pub row-size : length row′ ≡ length row
-    pub keeps : KeepsOn tr of width clocks t hi t′ hi′ work row cells work′ row′ cells′
+    pub keeps : KeepsOn tr chosen width clocks t hi t′ hi′ work row cells work′ row′ cells′
 
   -- what passing all rows before u gives
   pub record PassesAll (u end : ℕ) (work row cells work′ row′ cells′ : List ℕ) : Type 0 where
@@ -131,8 +131,8 @@ module _ (tr : List Record) (of : List ℕ) (width chains : ℕ) (clocks : List 
     pub passes : Passes u end 0 start work row cells work′ row′ cells′
 
 -- What marking takes: b an access, u its row, and a work space that is 0 over one byte for each event action.
-pub record Markable (tr : List Record) (of : List ℕ) (width chains : ℕ) (clocks work row : List ℕ) (u b : ℕ) : Type 0 where
-  pub filled : Filled tr (ranksOf tr) of width clocks
+pub record Markable (tr : List Record) (chosen : List ℕ) (width chains : ℕ) (clocks work row : List ℕ) (u b : ℕ) : Type 0 where
+  pub filled : FilledClocks tr (ranksOf tr) chosen width clocks
   pub chains-are : chains ≡ chainsUsed tr
   pub clear : Clear tr (rows tr) work
   pub row-room : 1024 ≤ length row

@@ -10,7 +10,7 @@ use Rattle.trace.specs.Reading.{Acceptable}
 use Rattle.ranks.specs.Ranks.{ranksOf}
 use Rattle.coverage.specs.Leading.{leads}
 use Rattle.races.specs.Traces.{settingOf}
-use Rattle.races.specs.loops.Filled.{rows}
+use Rattle.races.specs.loops.FilledClocks.{rows}
 
 abbrev pub mark : Bool → ℕ
 mark true = 1

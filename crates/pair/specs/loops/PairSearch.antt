@@ -55,8 +55,8 @@ wayOf tr a b = wayRound (eqb (eventOf (at tr a)) (eventOf (at tr b))) (happensBe
 
 -- row c is unordered with row d, and row t happens before it or is it
 unfoldable pub goesOn : List ℕ → ℕ → List ℕ → ℕ → ℕ → ℕ → Bool
-goesOn of width clocks t c d = saysUnordered (relateIn clocks width c (getD of c 0) d (getD of d 0))
-    && saysBefore (relateIn clocks width t (getD of t 0) c (getD of c 0))
+goesOn chosen width clocks t c d = saysUnordered (relateIn clocks width c (getD chosen c 0) d (getD chosen d 0))
+    && saysBefore (relateIn clocks width t (getD chosen t 0) c (getD chosen c 0))
 
 -- no record before d has such a race
 abbrev pub NoRace : List Record → ℕ → ℕ → ℕ → ℕ → Type 0

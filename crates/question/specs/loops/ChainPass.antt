@@ -11,9 +11,11 @@ use Rattle.records.specs.Records.{at}
 use Rattle.trace.specs.Reading.{Acceptable}
 use Rattle.order.specs.Chains as chains
 use Rattle.question.specs.loops.Marking.{marked, marksIn}
-use Rattle.ranks.specs.Said.{opOf, Op, link, begin, other}
+use Rattle.ranks.specs.declared.Ordering.{Ordering}
+use Rattle.ranks.specs.declared.Ordering.the-variants.{Link, Begin, Nothing}
+use Rattle.ranks.specs.OrderingOf.{orderingOf}
 use Rattle.ranks.specs.Ranks.{ranksOf}
-use Rattle.order.specs.Fill.{eventsIn, shortRow, chainTable}
+use Rattle.order.specs.Fill.{eventsIn, rowPastWidth, chainTable}
 use Rattle.order.specs.loops.PassEnds.{Short}
 
 pub record Members : Type 0 where
@@ -44,19 +46,19 @@ enterChain x y w u s c = pickMembers (leb w c)
     (record { lasts = set (s .lasts) c u; chains = max (s .chains) (suc c); first = ownChain x u c (s .first); second = ownChain y u c (s .second) })
 
 -- what the records say, where ranks are listed by event number
-abbrev pub saidBy : List ℕ → List Record → ℕ → Op
-saidBy ranks tr i = opOf (λ e. getD ranks e 0) (at tr i)
+abbrev pub saidBy : List ℕ → List Record → ℕ → Ordering
+saidBy ranks tr i = orderingOf (λ e. getD ranks e 0) (at tr i)
 
 -- the record at position i, which says `o`
-unfoldable pub turnMembers : List ℕ → List Record → ℕ → ℕ → ℕ → ℕ → Op → Members → Members
-turnMembers ranks tr x y w i (link p u) s = s
-turnMembers ranks tr x y w i (begin u) s = enterChain x y w u s (markedChain (marksIn (saidBy ranks tr) i u 1024) (s .lasts) (s .chains))
-turnMembers ranks tr x y w i other s = s
+unfoldable pub turnMembers : List ℕ → List Record → ℕ → ℕ → ℕ → ℕ → Ordering → Members → Members
+turnMembers ranks tr x y w i (Link p u) s = s
+turnMembers ranks tr x y w i (Begin u) s = enterChain x y w u s (markedChain (marksIn (saidBy ranks tr) i u 1024) (s .lasts) (s .chains))
+turnMembers ranks tr x y w i Nothing s = s
 
-abbrev pub RoomFor : Op → Members → Type 0
-RoomFor (link p u) s = Unit {0}
-RoomFor (begin u) s = (u < 1024) × (s .chains ≤ 1024) × (length (s .lasts) ≡ 1024)
-RoomFor other s = Unit {0}
+abbrev pub RoomFor : Ordering → Members → Type 0
+RoomFor (Link p u) s = Unit {0}
+RoomFor (Begin u) s = (u < 1024) × (s .chains ≤ 1024) × (length (s .lasts) ≡ 1024)
+RoomFor Nothing s = Unit {0}
 
 pub record AreMembers (s : Members) (lasts : List ℕ) (chains first second : ℕ) : Type 0 where
   pub lasts-are : lasts ≡ s .lasts
@@ -71,5 +73,5 @@ pub record ReadyChains (tr : List Record) (w : ℕ) (ranks : List ℕ) : Type 0 
   pub narrow : w ≤ 1024
 
 pub record PassesChains (tr : List Record) (x y w position first second : ℕ) : Type 0 where
-  pub whole : shortRow tr w ≡ eventsIn tr → (first ≡ getD (chainTable tr) x 0) × (second ≡ getD (chainTable tr) y 0) × (position ≡ length tr)
-  pub short : shortRow tr w ≢ eventsIn tr → Short tr w position
+  pub whole : rowPastWidth tr w ≡ eventsIn tr → (first ≡ getD (chainTable tr) x 0) × (second ≡ getD (chainTable tr) y 0) × (position ≡ length tr)
+  pub short : rowPastWidth tr w ≢ eventsIn tr → Short tr w position

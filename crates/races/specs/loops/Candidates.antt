@@ -16,19 +16,19 @@ use Rattle.races.specs.Traces.{isAccess, settingOf}
 
 -- by the number of a cell: do all its accesses from the start on happen before row u, or belong to it?
 unfoldable pub orderedIn : List ℕ → ℕ → List ℕ → ℕ → ℕ → Bool
-orderedIn of width clocks seen u = cond (eqb seen 0) true (cond (ltb 1024 seen) false
-    (saysBefore (relateIn clocks width (seen - 1) (getD of (seen - 1) 0) u (getD of u 0))))
+orderedIn chosen width clocks seen u = cond (eqb seen 0) true (cond (ltb 1024 seen) false
+    (saysBefore (relateIn clocks width (seen - 1) (getD chosen (seen - 1) 0) u (getD chosen u 0))))
 
 -- the number of a cell after an access of row u; in the short list a write is its start
 unfoldable pub seenAfter : Bool → Bool → ℕ → ℕ → ℕ
 seenAfter ordered short kind u = cond (ordered || (short && eqb kind 6)) (u + 1) 1025
 
 -- from where on, and up to where, first accesses of an access b of that kind are looked for, where its cell's last write has the number `last`
-unfoldable pub wayFrom : Bool → ℕ → ℕ
-wayFrom short last = cond short (last - 1) 0
+unfoldable pub firstsFrom : Bool → ℕ → ℕ
+firstsFrom short last = cond short (last - 1) 0
 
-unfoldable pub wayTo : ℕ → ℕ → ℕ → ℕ
-wayTo kind last b = cond (eqb kind 5) last b
+unfoldable pub firstsTo : ℕ → ℕ → ℕ → ℕ
+firstsTo kind last b = cond (eqb kind 5) last b
 
 module _ (tr : List Record) where
   abbrev pub cell : ℕ → ℕ

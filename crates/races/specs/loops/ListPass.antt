@@ -16,7 +16,7 @@ use Rattle.races.specs.Traces.{isAccess, settingOf}
 use Rattle.races.specs.Lists.{entryNumbers, shapeOf, numbers}
 use Rattle.races.specs.loops.Candidates.{cell, startOf, Range}
 use Rattle.records.specs.Search.{leastKind, mayRace}
-use Rattle.races.specs.loops.Filled.{Filled}
+use Rattle.races.specs.loops.FilledClocks.{FilledClocks}
 
 module _ (tr : List Record) where
   -- from where on first accesses of b are looked for: from the start of its cell
@@ -49,15 +49,15 @@ pub record Ranges (tr : List Record) (short : Bool) (b from to : ℕ) : Type 0 w
   pub firsts-are : firsts tr (fromOf tr short b) b b ≡ firsts tr from b b
 
 -- an access b of a trace whose clocks are filled, and its row
-pub record Second (tr : List Record) (ranks of : List ℕ) (width : ℕ) (clocks : List ℕ) (b u : ℕ) : Type 0 where
-  pub filled : Filled tr ranks of width clocks
+pub record Second (tr : List Record) (ranks chosen : List ℕ) (width : ℕ) (clocks : List ℕ) (b u : ℕ) : Type 0 where
+  pub filled : FilledClocks tr ranks chosen width clocks
   pub inside : b < length tr
   pub access : T (isAccess (at tr b))
   pub row : u ≡ rank tr (eventOf (at tr b)) - 1
 
 -- what one pair of records asks for, and what becomes of entry k, written or only counted
-pub record OneRoom (writing : Bool) (tr : List Record) (ranks of : List ℕ) (width : ℕ) (clocks : List ℕ) (a b u k : ℕ) (list : List ℕ) : Type 0 where
-  pub second : Second tr ranks of width clocks b u
+pub record OneRoom (writing : Bool) (tr : List Record) (ranks chosen : List ℕ) (width : ℕ) (clocks : List ℕ) (a b u k : ℕ) (list : List ℕ) : Type 0 where
+  pub second : Second tr ranks chosen width clocks b u
   pub earlier : a < b
   pub may : T (mayRace tr (leastKind (at tr b .kind)) (cell tr b) a)
   pub few : k ≤ 4096 * b + a

@@ -13,7 +13,7 @@ use Rattle.order.specs.loops.Walk.{walkFrom}
 use Rattle.races.specs.Lists.{entryNumbers, pairsOf, markOf, numbers}
 use Rattle.races.specs.loops.ListPass.{raws}
 use Rattle.races.specs.loops.Marking.{first, second, Remarked}
-use Rattle.races.specs.loops.Filled.{RowsIn}
+use Rattle.races.specs.loops.FilledClocks.{RowsIn}
 use Rattle.clocks.specs.Rows.{compareIn, rowsIf, mergeRow}
 
 -- The list has the entries of the short list, or of the list of all races, their marks still 0.
@@ -34,16 +34,16 @@ rowIn tr ranks i = getD ranks (at tr i .first) 0 - 1
 
 -- "mark (open or covered)": 0 where row t leads to row u as it stands, else 1
 abbrev pub markIn : List ℕ → ℕ → List ℕ → ℕ → ℕ → ℕ
-markIn of width clocks t u = cond (compareIn clocks width (getD of t 0) t u) 0 1
+markIn chosen width clocks t u = cond (compareIn clocks width (getD chosen t 0) t u) 0 1
 
 -- the entries from k on that have one second access, whose row u is at hand: their marks are told by the rows
-pub record Markable (tr : List Record) (ranks of : List ℕ) (width : ℕ) (clocks : List ℕ) (u : ℕ) (list : List ℕ) (k count : ℕ) : Type 0 where
+pub record Markable (tr : List Record) (ranks chosen : List ℕ) (width : ℕ) (clocks : List ℕ) (u : ℕ) (list : List ℕ) (k count : ℕ) : Type 0 where
   pub room : entryNumbers * count ≤ length list
   pub some : k < count
   pub numbers : (i : ℕ) → k ≤ i → i < count → 0 < first list i
-  pub rows : (i : ℕ) → k ≤ i → i < count → second list i ≡ second list k → RowsIn of width clocks (rowIn tr ranks (first list i - 1)) u
+  pub rows : (i : ℕ) → k ≤ i → i < count → second list i ≡ second list k → RowsIn chosen width clocks (rowIn tr ranks (first list i - 1)) u
   pub marks : (i : ℕ) → k ≤ i → i < count → second list i ≡ second list k →
-      markIn of width clocks (rowIn tr ranks (first list i - 1)) u ≡ markOf tr (first list i - 1) (second list i - 1)
+      markIn chosen width clocks (rowIn tr ranks (first list i - 1)) u ≡ markOf tr (first list i - 1) (second list i - 1)
 
 -- they are marked, and e is the entry after them
 pub record MarksSecond (tr : List Record) (list list′ : List ℕ) (k count e : ℕ) : Type 0 where
@@ -69,12 +69,12 @@ pub record Place : Type 0 where
   pub chains : ℕ
   pub clocks : List ℕ
 
-module _ (tr : List Record) (ranks of : List ℕ) (width : ℕ) where
+module _ (tr : List Record) (ranks chosen : List ℕ) (width : ℕ) where
   -- on to the next row: rows are merged along the links up to its begin
   unfoldable pub onward : Place → Place
   onward s =
       let r = walkFrom tr ranks width (s .chains) (s .position + 1) (s .clocks) in
-      record { row = s .row + 1; position = r .position; chains = max (s .chains) (getD of (s .row + 1) 0 + 1); clocks = r .clocks }
+      record { row = s .row + 1; position = r .position; chains = max (s .chains) (getD chosen (s .row + 1) 0 + 1); clocks = r .clocks }
 
   -- that many rows on
   unfoldable pub goes : ℕ → Place → Place
@@ -82,9 +82,9 @@ module _ (tr : List Record) (ranks of : List ℕ) (width : ℕ) where
   goes (suc k) s = goes k (onward s)
 
 -- what going on to row u asks for and gives
-pub record MayGo (tr : List Record) (of : List ℕ) (row position u : ℕ) : Type 0 where
+pub record MayGo (tr : List Record) (chosen : List ℕ) (row position u : ℕ) : Type 0 where
   pub ahead : row ≤ u
-  pub known : u < length of
+  pub known : u < length chosen
   pub low : u < 65536
   pub inside : position ≤ length tr
 
@@ -92,9 +92,9 @@ abbrev pub placeAt : ℕ → ℕ → ℕ → List ℕ → Place
 placeAt row position chains clocks = record { row = row; position = position; chains = chains; clocks = clocks }
 
 pub record Went
-    (tr : List Record) (ranks of : List ℕ) (width row position chains : ℕ) (clocks : List ℕ)
+    (tr : List Record) (ranks chosen : List ℕ) (width row position chains : ℕ) (clocks : List ℕ)
     (u row′ position′ chains′ : ℕ) (clocks′ : List ℕ) : Type 0 where
-  pub goes-on : goes tr ranks of width (u - row) (placeAt row position chains clocks) ≡ placeAt row′ position′ chains′ clocks′
+  pub goes-on : goes tr ranks chosen width (u - row) (placeAt row position chains clocks) ≡ placeAt row′ position′ chains′ clocks′
 
 -- all entries are marked, and what is past the rows is as before
 pub record MarksAll (tr : List Record) (width : ℕ) (clocks clocks′ list list′ : List ℕ) (count : ℕ) : Type 0 where

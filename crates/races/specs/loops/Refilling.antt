@@ -6,13 +6,13 @@ use lib.ListN.{length}
 use Rattle.records.specs.declared.Record.{Record}
 use Rattle.trace.specs.Reading.{Acceptable}
 use Rattle.ranks.specs.Ranks.{ranksOf}
-use Rattle.order.specs.Fill.{eventsIn, shortRow, chainTable}
+use Rattle.order.specs.Fill.{eventsIn, rowPastWidth, chainTable}
 
-pub record Refillable (tr : List Record) (ranks of : List ℕ) (events width : ℕ) (clocks : List ℕ) : Type 0 where
+pub record Refillable (tr : List Record) (ranks chosen : List ℕ) (events width : ℕ) (clocks : List ℕ) : Type 0 where
   pub acceptable : Acceptable tr
   pub ranks-are : ranks ≡ ranksOf tr
-  pub of-are : of ≡ chainTable tr
+  pub chosen-are : chosen ≡ chainTable tr
   pub events-are : events ≡ eventsIn tr
   pub narrow : width ≤ 1024
-  pub enough : shortRow tr width ≡ eventsIn tr
+  pub enough : rowPastWidth tr width ≡ eventsIn tr
   pub room : eventsIn tr * width ≤ length clocks

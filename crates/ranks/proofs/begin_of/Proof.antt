@@ -1,6 +1,6 @@
 -- `ranks::begin_of` meets its contract.
 -- Assumes nothing.
-use Rattle.ranks.specs.Said.{begin}
+use Rattle.ranks.specs.declared.Ordering.the-variants.{Begin}
 use native.Mathlib.Omega.{arith}
 use Prim.Native.Nat.{_-_}
 use mathlib.Core.Path.{_≡_, ap}
@@ -11,7 +11,7 @@ use Rattle.ranks.proofs.begin_of.Tie as tie
 returns : tie.Need-returns
 returns c =
     let e : 0 ≡ c .before .args .rank - 1 = omega arith in
-    ap begin e
+    ap Begin e
 
 sub-t3 : tie.Need-sub-t3
 sub-t3 c = search needs

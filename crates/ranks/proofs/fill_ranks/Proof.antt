@@ -14,10 +14,10 @@ use Rattle.ranks.proofs.fill_ranks.Statement.{statement}
 use Rattle.ranks.proofs.fill_ranks.Tie as tie
 
 abbrev Inv-loop : tie.InvT-loop
-Inv-loop recs all₀ n found₀ i₀ all found i = (found ≤ i) × (i ≤ n) × RanksTo (decode recs) i all found
+Inv-loop recs ranks₀ n found₀ i₀ ranks found i = (found ≤ i) × (i ≤ n) × RanksTo (decode recs) i ranks found
 
 abbrev μ-loop : tie.MeasureT-loop
-μ-loop recs all₀ n found₀ i₀ all found i = n - i
+μ-loop recs ranks₀ n found₀ i₀ ranks found i = n - i
 
 count-requires : tie.Need-count-requires Inv-loop μ-loop
 count-requires c κs = search needs
@@ -29,7 +29,7 @@ loop-holds : tie.Need-loop-holds Inv-loop μ-loop
 unfolding ranksUpto begins past
 loop-holds c =
     let start = c .before .before .before .before in
-    (omega arith, omega arith, record { ranks-are = cleared-whole (now (start .args .all)) (omega arith) (c .clear .ensures); begins-are = refl })
+    (omega arith, omega arith, record { ranks-are = cleared-whole (now (start .args .ranks)) (omega arith) (c .clear .ensures); begins-are = refl })
 
 add-loop : tie.Need-add-loop Inv-loop μ-loop
 add-loop c =

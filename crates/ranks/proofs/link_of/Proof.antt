@@ -1,6 +1,7 @@
 -- `ranks::link_of` meets its contract.
 -- Assumes nothing.
-use Rattle.ranks.specs.Said.{linkOf, link, other}
+use Rattle.ranks.specs.declared.Ordering.the-variants.{Link, Nothing}
+use Rattle.ranks.specs.OrderingOf.{linkOf}
 use native.Mathlib.Omega.{arith}
 use mathlib.Core.Path.{_≡_, refl, ap₂}
 use Prim.Native.Nat.{ℕ, zero, suc, _-_}
@@ -8,15 +9,15 @@ use borrow.Author.Needs.{needs}
 use Rattle.ranks.proofs.link_of.Statement.{statement}
 use Rattle.ranks.proofs.link_of.Tie as tie
 
-no-target : (p u : ℕ) → u ≡ 0 → other ≡ linkOf p u
+no-target : (p u : ℕ) → u ≡ 0 → Nothing ≡ linkOf p u
 no-target zero u e = refl
 no-target (suc p) zero e = refl
 no-target (suc p) (suc u) e = absurd (omega arith)
 
-both-ends : (p u : ℕ) → (p ≡ 0 → ⊥) → (u ≡ 0 → ⊥) → link (p - 1) (u - 1) ≡ linkOf p u
+both-ends : (p u : ℕ) → (p ≡ 0 → ⊥) → (u ≡ 0 → ⊥) → Link (p - 1) (u - 1) ≡ linkOf p u
 both-ends zero u m n = absurd (m refl)
 both-ends (suc p) zero m n = absurd (n refl)
-both-ends (suc p) (suc u) m n = let e : suc p - 1 ≡ p = omega arith in let f : suc u - 1 ≡ u = omega arith in ap₂ link e f
+both-ends (suc p) (suc u) m n = let e : suc p - 1 ≡ p = omega arith in let f : suc u - 1 ≡ u = omega arith in ap₂ Link e f
 
 returns : tie.Need-returns
 returns c = search needs

@@ -11,10 +11,10 @@ use Rattle.ranks.proofs.note_last.Statement.{statement}
 use Rattle.ranks.proofs.note_last.Tie as tie
 
 abbrev Inv-loop : tie.InvT-loop
-Inv-loop recs all₀ from n before found₀ i₀ all found i = (found ≤ i) × (i ≤ n) × (length all ≡ length all₀) × RanksTo (decode recs) i all found
+Inv-loop recs ranks₀ from n before found₀ i₀ ranks found i = (found ≤ i) × (i ≤ n) × (length ranks ≡ length ranks₀) × RanksTo (decode recs) i ranks found
 
 abbrev μ-loop : tie.MeasureT-loop
-μ-loop recs all₀ from n before found₀ i₀ all found i = n - i
+μ-loop recs ranks₀ from n before found₀ i₀ ranks found i = n - i
 
 loop-holds : tie.Need-loop-holds Inv-loop μ-loop
 loop-holds c = let p = c .before .before .pre in (p .0, p .1, refl, p .3)

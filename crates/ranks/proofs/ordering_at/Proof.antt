@@ -1,6 +1,6 @@
 -- `ranks::ordering_at` meets its contract.
 -- Assumes nothing.
-use Rattle.ranks.specs.Said.{opOf}
+use Rattle.ranks.specs.OrderingOf.{orderingOf}
 use borrow.Author.Tests.{eq-eqb, ne-eqb}
 use mathlib.Core.Path.{_∙_}
 use mathlib.Core.Logic.{_≢_}
@@ -13,7 +13,7 @@ kind-at-requires : tie.Need-kind-at-requires
 kind-at-requires c κs = search needs
 
 returns : tie.Need-returns
-unfolding opOf
+unfolding orderingOf
 returns c =
     let one : c .before .kind-at .result ≢ 1 = omega arith in
     let three : c .before .kind-at .result ≢ 3 = omega arith in
@@ -30,7 +30,7 @@ begin-of-requires : tie.Need-begin-of-requires
 begin-of-requires c κs = search needs
 
 returns-2 : tie.Need-returns-2
-unfolding opOf
+unfolding orderingOf
 returns-2 c =
     let at-kind-at = c .before .before .before .before .before in
     c .begin-of .ensures ∙ simp (← at-kind-at .kind-at .ensures, eq-eqb _ _ (c .before .before .before .if2 .taken), c .before .rank-of .ensures, c .before .before .event-at .ensures)
@@ -51,7 +51,7 @@ link-of-requires : tie.Need-link-of-requires
 link-of-requires c κs = search needs
 
 returns-3 : tie.Need-returns-3
-unfolding opOf
+unfolding orderingOf
 returns-3 c =
     let at-event-at2 = c .before .before .before .before in
     let at-if3 = at-event-at2 .before in
@@ -75,7 +75,7 @@ link-of-requires-2 : tie.Need-link-of-requires-2
 link-of-requires-2 c κs = search needs
 
 returns-4 : tie.Need-returns-4
-unfolding opOf
+unfolding orderingOf
 returns-4 c =
     let at-target-at2 = c .before .before .before .before in
     let at-if4 = at-target-at2 .before in
@@ -85,7 +85,7 @@ returns-4 c =
     c .link-of2 .ensures ∙ simp (← at-kind-at .kind-at .ensures, ne-eqb _ _ (at-if2 .if2 .left), ne-eqb _ _ (at-if3 .if3 .left), eq-eqb _ _ (at-if4 .if4 .taken), c .before .before .before .rank-of4 .ensures, at-target-at2 .target-at2 .ensures, c .before .rank-of5 .ensures, c .before .before .event-at3 .ensures)
 
 returns-5 : tie.Need-returns-5
-unfolding opOf
+unfolding orderingOf
 returns-5 c =
     let at-kind-at = c .before .before .before .before in
     simp (← at-kind-at .kind-at .ensures, ne-eqb _ _ (c .before .before .if2 .left), ne-eqb _ _ (c .before .if3 .left), ne-eqb _ _ (c .if4 .left))

@@ -7,7 +7,7 @@ use borrow.Author.Needs.{needs}
 use denote.Ref.{now}
 use lib.ListN.{length}
 use Rattle.records.specs.Bytes.{decode}
-use Rattle.order.specs.loops.Walk.{fillWalk, opBy}
+use Rattle.order.specs.loops.Walk.{fillWalk, orderingBy}
 use Rattle.order.proofs.HintLaws.{fill-skips, fill-over, fill-stop, fill-next}
 use Rattle.order.proofs.linking.pass_links.Statement.{statement}
 use Rattle.order.proofs.linking.pass_links.Tie as tie
@@ -15,7 +15,7 @@ use Rattle.order.proofs.linking.pass_links.Tie as tie
 abbrev Inv-loop : tie.InvT-loop
 Inv-loop recs ranks width chains clocks₀ hints₀ from n i₀ clocks hints i =
     (n ≡ length (decode recs)) × (length clocks ≡ length clocks₀) × (length hints ≡ length hints₀)
-    × (fillWalk (opBy (decode recs) ranks) width chains (n - i) i clocks hints ≡ fillWalk (opBy (decode recs) ranks) width chains (length (decode recs) - from) from clocks₀ hints₀)
+    × (fillWalk (orderingBy (decode recs) ranks) width chains (n - i) i clocks hints ≡ fillWalk (orderingBy (decode recs) ranks) width chains (length (decode recs) - from) from clocks₀ hints₀)
 
 abbrev μ-loop : tie.MeasureT-loop
 μ-loop recs ranks width chains clocks₀ hints₀ from n i₀ clocks hints i = n - i

@@ -1,7 +1,6 @@
 -- `order::linking::pass_record` meets its contract.
 -- Assumes nothing.
-use Rattle.ranks.proofs.SaidLaws.{begin-said, nothing-said}
-use Rattle.ranks.specs.Ranks.{says}
+use Rattle.ranks.proofs.OrderingLaws.{begin-said, nothing-said}
 use mathlib.Core.Path.{refl, sym, ap, _∙_}
 use borrow.Author.Needs.{needs}
 use Rattle.order.proofs.linking.pass_record.Statement.{statement}
@@ -33,7 +32,7 @@ returns c =
     let s4 = c .before .before .before .before in
     let s8 = s4 .before .before .before .before in
     let t = s4 .take-link .ensures in
-    rw (sym (s8 .before .before .ordering-at .ensures) ∙ ap says (s8 .said .given .1))
+    rw (sym (s8 .before .before .ordering-at .ensures) ∙ (s8 .said .given .1))
     (record { stopped-is = refl; clocks-are = t .0; hints-are = t .1 })
 
 returns-2 : tie.Need-returns-2

@@ -6,7 +6,7 @@ use native.Mathlib.Omega.{arith}
 use borrow.Author.Needs.{needs}
 use lib.ListN.{length}
 use Rattle.records.specs.Bytes.{decode}
-use Rattle.order.specs.loops.Walk.{walk, opBy, walkFrom}
+use Rattle.order.specs.loops.Walk.{walk, orderingBy, walkFrom}
 use Rattle.order.proofs.WalkLaws.{walk-skips, walk-over, walk-stop, walk-next}
 use Rattle.order.proofs.links.merge_links.Statement.{statement}
 use Rattle.order.proofs.links.merge_links.Tie as tie
@@ -14,7 +14,7 @@ use Rattle.order.proofs.links.merge_links.Tie as tie
 abbrev Inv-loop : tie.InvT-loop
 Inv-loop recs ranks width chains clocks₀ from n i₀ clocks i =
     (n ≡ length (decode recs)) × (length clocks ≡ length clocks₀)
-    × (walk (opBy (decode recs) ranks) width chains (n - i) i clocks ≡ walkFrom (decode recs) ranks width chains from clocks₀)
+    × (walk (orderingBy (decode recs) ranks) width chains (n - i) i clocks ≡ walkFrom (decode recs) ranks width chains from clocks₀)
 
 abbrev μ-loop : tie.MeasureT-loop
 μ-loop recs ranks width chains clocks₀ from n i₀ clocks i = n - i

@@ -1,7 +1,6 @@
 -- `order::links::pass_record` meets its contract.
 -- Assumes nothing.
-use Rattle.ranks.proofs.SaidLaws.{begin-said, nothing-said}
-use Rattle.ranks.specs.Ranks.{says}
+use Rattle.ranks.proofs.OrderingLaws.{begin-said, nothing-said}
 use mathlib.Core.Path.{refl, sym, ap, _∙_}
 use borrow.Author.Needs.{needs}
 use Rattle.order.proofs.links.pass_record.Statement.{statement}
@@ -28,7 +27,7 @@ same-length c = search needs
 returns : tie.Need-returns
 returns c =
     let s5 = c .before .before .before .before .before in
-    rw (sym (s5 .before .before .ordering-at .ensures) ∙ ap says (s5 .said .given .1))
+    rw (sym (s5 .before .before .ordering-at .ensures) ∙ (s5 .said .given .1))
     (record { stopped-is = refl; clocks-are = c .before .before .merge-row .ensures })
 
 returns-2 : tie.Need-returns-2

@@ -31,7 +31,7 @@ same-length-2 c = search needs
 
 returns : tie.Need-returns
 unfolding enterRow
-returns c = rw (← c .before .choose-hinted .ensures, le-leb _ _ (c .if1 .taken)) (record { clocks-are = refl; sizes-are = refl; of-are = refl; chains-are = omega arith })
+returns c = rw (← c .before .choose-hinted .ensures, le-leb _ _ (c .if1 .taken)) (record { clocks-are = refl; sizes-are = refl; chosen-are = refl; chains-are = omega arith })
 
 mul-a : tie.Need-mul-a
 mul-a c = search needs
@@ -68,14 +68,14 @@ add-sizes c =
 slice-write-sizes : tie.Need-slice-write-sizes
 slice-write-sizes c = search needs
 
-cast-of : tie.Need-cast-of
-cast-of c = search needs
+cast-chosen : tie.Need-cast-chosen
+cast-chosen c = search needs
 
-mul-of : tie.Need-mul-of
-mul-of c = search needs
+mul-chosen : tie.Need-mul-chosen
+mul-chosen c = search needs
 
-slice-write-of : tie.Need-slice-write-of
-slice-write-of c = search needs
+slice-write-chosen : tie.Need-slice-write-chosen
+slice-write-chosen c = search needs
 
 add-result-2 : tie.Need-add-result-2
 add-result-2 c = search needs
@@ -101,7 +101,7 @@ returns-2 c =
       clocks-are = ticked-part (a .args .width) (a .args .u) (q .result) (now (a .args .clocks)) _ (a .pre .room .row) f
           (one-more _ (q .result) (p .0) (rw (p .1) (a .pre .few-entries (q .result) f)) (c .before .before .before .before .add-one .ensures));
       sizes-are = refl;
-      of-are = refl;
+      chosen-are = refl;
       chains-are = omega arith;
     })
 
@@ -126,7 +126,7 @@ returns-3 c =
       clocks-are = ticked-part (a .args .width) (a .args .u) (q .result) (now (a .args .clocks)) _ (a .pre .room .row) f
           (one-more _ (q .result) (p .0) (rw (p .1) (a .pre .few-entries (q .result) f)) (c .before .before .before .before .add-one .ensures));
       sizes-are = refl;
-      of-are = refl;
+      chosen-are = refl;
       chains-are = omega arith;
     })
 
@@ -152,9 +152,9 @@ begin-row-spec =
     slice-read-sizes
     add-sizes
     slice-write-sizes
-    cast-of
-    mul-of
-    slice-write-of
+    cast-chosen
+    mul-chosen
+    slice-write-chosen
     add-result-2
     same-length-3
     same-length-4

@@ -12,11 +12,11 @@ use Rattle.order.proofs.rows.pass.Statement.{statement}
 use Rattle.order.proofs.rows.pass.Tie as tie
 
 abbrev Inv-loop : tie.InvT-loop
-Inv-loop recs ranks clocks₀ width sizes₀ of₀ n chains₀ u₀ i₀ clocks sizes of chains u i =
-    Going (decode recs) width ranks clocks₀ clocks sizes of chains u i × (length clocks ≡ length clocks₀) × (length sizes ≡ length sizes₀) × (length of ≡ length of₀)
+Inv-loop recs ranks clocks₀ width sizes₀ chosen₀ n chains₀ u₀ i₀ clocks sizes chosen chains u i =
+    Going (decode recs) width ranks clocks₀ clocks sizes chosen chains u i × (length clocks ≡ length clocks₀) × (length sizes ≡ length sizes₀) × (length chosen ≡ length chosen₀)
 
 abbrev μ-loop : tie.MeasureT-loop
-μ-loop recs ranks clocks₀ width sizes₀ of₀ n chains₀ u₀ i₀ clocks sizes of chains u i = n - i
+μ-loop recs ranks clocks₀ width sizes₀ chosen₀ n chains₀ u₀ i₀ clocks sizes chosen chains u i = n - i
 
 count-requires : tie.Need-count-requires Inv-loop μ-loop
 count-requires c κs = search needs

@@ -7,7 +7,7 @@ use Prim.Native.Nat.{_-_, _<_}
 use mathlib.Core.Path.{sym, ap, _∙_}
 use lib.ListN.{length}
 use Rattle.records.specs.Bytes.{decode}
-use Rattle.races.specs.loops.Filled.{Filled}
+use Rattle.races.specs.loops.FilledClocks.{FilledClocks}
 use Rattle.records.specs.Search.{leastKind}
 use Rattle.races.proofs.FilledLaws.{rank-is}
 use Rattle.pair.proofs.RecordRows.{row-low}
@@ -16,10 +16,10 @@ use Rattle.pair.proofs.cover.find_first.Statement.{statement}
 use Rattle.pair.proofs.cover.find_first.Tie as tie
 
 abbrev Inv-loop : tie.InvT-loop
-Inv-loop recs ranks of width clocks work lo t d kind u x least c₀ c = (f : Filled (decode recs) ranks of width clocks) (i : d < length (decode recs)) → Along f lo t d i work u (x .0) least c
+Inv-loop recs ranks chosen width clocks work lo t d kind u x least c₀ c = (f : FilledClocks (decode recs) ranks chosen width clocks) (i : d < length (decode recs)) → Along f lo t d i work u (x .0) least c
 
 abbrev μ-loop : tie.MeasureT-loop
-μ-loop recs ranks of width clocks work lo t d kind u x least c₀ c = d - c
+μ-loop recs ranks chosen width clocks work lo t d kind u x least c₀ c = d - c
 
 kind-at-requires : tie.Need-kind-at-requires Inv-loop μ-loop
 kind-at-requires c κs = search needs

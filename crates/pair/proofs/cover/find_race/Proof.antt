@@ -14,10 +14,10 @@ use Rattle.pair.proofs.cover.find_race.Statement.{statement}
 use Rattle.pair.proofs.cover.find_race.Tie as tie
 
 abbrev Inv-loop : tie.InvT-loop
-Inv-loop recs ranks of width clocks work t b lo r d₀ d = (lo ≤ d) × NoRace (decode recs) b lo t d
+Inv-loop recs ranks chosen width clocks work t b lo r d₀ d = (lo ≤ d) × NoRace (decode recs) b lo t d
 
 abbrev μ-loop : tie.MeasureT-loop
-μ-loop recs ranks of width clocks work t b lo r d₀ d = b - d
+μ-loop recs ranks chosen width clocks work t b lo r d₀ d = b - d
 
 block-start-requires : tie.Need-block-start-requires Inv-loop μ-loop
 block-start-requires c κs = search needs

@@ -14,10 +14,10 @@ use Rattle.pair.proofs.cover.put_cover.Statement.{statement}
 use Rattle.pair.proofs.cover.put_cover.Tie as tie
 
 abbrev Inv-loop : tie.InvT-loop
-Inv-loop recs ranks of width clocks work list₀ a b t₀ k₀ list t k = Written (decode recs) a b t k list₀ list
+Inv-loop recs ranks chosen width clocks work list₀ a b t₀ k₀ list t k = Written (decode recs) a b t k list₀ list
 
 abbrev μ-loop : tie.MeasureT-loop
-μ-loop recs ranks of width clocks work list₀ a b t₀ k₀ list t k = b - t
+μ-loop recs ranks chosen width clocks work list₀ a b t₀ k₀ list t k = b - t
 
 loop-holds : tie.Need-loop-holds Inv-loop μ-loop
 loop-holds c = written-start (c .before .before .before .before .before .before .pre .0 .0 .acceptable) (c .before .before .before .before .before .before .args .a) (c .before .before .before .before .before .before .args .b) (c .before .before .before .before .before .before .pre .1 .0) (c .before .before .before .before .before .before .pre .1 .1) (now (c .before .before .before .before .before .before .args .list))

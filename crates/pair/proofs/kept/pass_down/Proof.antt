@@ -5,7 +5,7 @@ use native.Mathlib.Omega.{arith}
 use Prim.Native.Nat.{_≤_}
 use mathlib.Core.Path.{_≡_}
 use Rattle.records.specs.Bytes.{decode}
-use Rattle.races.specs.loops.Filled.{rows}
+use Rattle.races.specs.loops.FilledClocks.{rows}
 use Rattle.pair.specs.loops.Kept.{Split, Passes}
 use Rattle.pair.proofs.RecordRows.{split-some, split-block}
 use Rattle.pair.proofs.KeptSteps.{passes-none, passes-down}
@@ -13,10 +13,10 @@ use Rattle.pair.proofs.kept.pass_down.Statement.{statement}
 use Rattle.pair.proofs.kept.pass_down.Tie as tie
 
 abbrev Inv-loop : tie.InvT-loop
-Inv-loop recs of width chains clocks work₀ row₀ cells₀ u end t₀ hi₀ work row cells t hi = Passes (decode recs) of width chains clocks u end t hi work₀ row₀ cells₀ work row cells × Split (decode recs) t hi × (t ≤ rows (decode recs))
+Inv-loop recs chosen width chains clocks work₀ row₀ cells₀ u end t₀ hi₀ work row cells t hi = Passes (decode recs) chosen width chains clocks u end t hi work₀ row₀ cells₀ work row cells × Split (decode recs) t hi × (t ≤ rows (decode recs))
 
 abbrev μ-loop : tie.MeasureT-loop
-μ-loop recs of width chains clocks work₀ row₀ cells₀ u end t₀ hi₀ work row cells t hi = t
+μ-loop recs chosen width chains clocks work₀ row₀ cells₀ u end t₀ hi₀ work row cells t hi = t
 
 loop-holds : tie.Need-loop-holds Inv-loop μ-loop
 loop-holds c = let s = c .before .before .before .before .before .before in (passes-none (s .pre .0), s .pre .1 .0, s .pre .1 .1)

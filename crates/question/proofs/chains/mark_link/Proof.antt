@@ -1,8 +1,7 @@
 -- `question::chains::mark_link` meets its contract.
 -- Assumes nothing.
-use Rattle.ranks.proofs.SaidLaws.{nothing-said, begin-said}
+use Rattle.ranks.proofs.OrderingLaws.{nothing-said, begin-said}
 use Rattle.question.specs.loops.Marking.{markIn}
-use Rattle.ranks.specs.Ranks.{says}
 use mathlib.Core.Path.{refl, sym, ap, _∙_}
 use borrow.Author.Needs.{needs}
 use Rattle.question.proofs.chains.mark_link.Statement.{statement}
@@ -37,14 +36,14 @@ same-length c = search needs
 
 returns : tie.Need-returns
 unfolding markIn
-returns c = rw (sym (c .before .before .before .before .before .before .before .before .before .before .ordering-at .ensures) ∙ ap says (c .before .before .before .before .before .before .before .before .said .given .1)) (c .before .before .put .ensures ∙ simp (← c .before .before .before .before .before .is-marked .ensures, c .before .before .before .before .if1 .taken))
+returns c = rw (sym (c .before .before .before .before .before .before .before .before .before .before .ordering-at .ensures) ∙ (c .before .before .before .before .before .before .before .before .said .given .1)) (c .before .before .put .ensures ∙ simp (← c .before .before .before .before .before .is-marked .ensures, c .before .before .before .before .if1 .taken))
 
 same-length-2 : tie.Need-same-length-2
 same-length-2 c = search needs
 
 returns-2 : tie.Need-returns-2
 unfolding markIn
-returns-2 c = rw (sym (c .before .before .before .before .before .before .ordering-at .ensures) ∙ ap says (c .before .before .before .before .said .given .1)) (simp (← c .before .is-marked .ensures, c .if1 .left))
+returns-2 c = rw (sym (c .before .before .before .before .before .before .ordering-at .ensures) ∙ (c .before .before .before .before .said .given .1)) (simp (← c .before .is-marked .ensures, c .if1 .left))
 
 returns-3 : tie.Need-returns-3
 unfolding markIn

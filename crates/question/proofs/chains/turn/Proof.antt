@@ -1,8 +1,7 @@
 -- `question::chains::turn` meets its contract.
 -- Assumes nothing.
-use Rattle.ranks.proofs.SaidLaws.{link-said, nothing-said}
+use Rattle.ranks.proofs.OrderingLaws.{link-said, nothing-said}
 use Rattle.question.specs.loops.ChainPass.{turnMembers}
-use Rattle.ranks.specs.Ranks.{says}
 use native.Mathlib.Omega.{arith}
 use mathlib.Core.Path.{refl, sym, ap, _∙_}
 use borrow.Author.Needs.{needs}
@@ -23,12 +22,12 @@ mark-before-requires c κs = search needs
 
 marked-chain-requires : tie.Need-marked-chain-requires
 marked-chain-requires c κs =
-    let room = rw (sym (c .before .before .before .before .before .before .before .before .before .ordering-at .ensures) ∙ ap says (c .before .before .before .before .before .before .before .said .given .1)) at (c .before .before .before .before .before .before .before .before .before .before .before .before .before .before .pre .2) in
+    let room = rw (sym (c .before .before .before .before .before .before .before .before .before .ordering-at .ensures) ∙ (c .before .before .before .before .before .before .before .said .given .1)) at (c .before .before .before .before .before .before .before .before .before .before .before .before .before .before .pre .2) in
     omega (arith, room .1, room .2)
 
 enter-chain-requires : tie.Need-enter-chain-requires
 enter-chain-requires c κs =
-    let room = rw (sym (c .before .before .before .before .before .before .before .before .before .before .before .ordering-at .ensures) ∙ ap says (c .before .before .before .before .before .before .before .before .before .said .given .1)) at (c .before .before .before .before .before .before .before .before .before .before .before .before .before .before .before .before .pre .2) in
+    let room = rw (sym (c .before .before .before .before .before .before .before .before .before .before .before .ordering-at .ensures) ∙ (c .before .before .before .before .before .before .before .before .before .said .given .1)) at (c .before .before .before .before .before .before .before .before .before .before .before .before .before .before .before .before .pre .2) in
     (c .before .before .before .before .before .before .before .before .before .before .before .before .before .before .before .before .pre .0, room .0, room .2)
 
 enum-told : tie.Need-enum-told
@@ -47,7 +46,7 @@ returns : tie.Need-returns
 unfolding turnMembers
 returns c =
     let marked = rw (c .before .before .before .before .before .before .before .before .before .before .before .before .before .before .before .before .before .before .before .pre .1) at (c .before .before .before .before .before .before .before .before .before .mark-before .ensures) in
-    rw (sym (c .before .before .before .before .before .before .before .before .before .before .before .before .before .before .ordering-at .ensures) ∙ ap says (c .before .before .before .before .before .before .before .before .before .before .before .before .said .given .1), ← marked, ← c .before .before .before .before .marked-chain .ensures) (c .before .before .enter-chain .ensures)
+    rw (sym (c .before .before .before .before .before .before .before .before .before .before .before .before .before .before .ordering-at .ensures) ∙ (c .before .before .before .before .before .before .before .before .before .before .before .before .said .given .1), ← marked, ← c .before .before .before .before .marked-chain .ensures) (c .before .before .enter-chain .ensures)
 
 returns-2 : tie.Need-returns-2
 unfolding turnMembers

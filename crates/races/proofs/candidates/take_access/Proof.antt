@@ -67,11 +67,11 @@ returns c =
     let start = at-kind .before .before .before .before .before .before in
     (access-quiet (start .pre .0) (start .pre .1) (at-kind .kind-at .ensures) (at-cell .cell-at .ensures) (at-ordered .is-ordered .ensures) (c .if1 .taken), access-tables (start .pre .0) (start .pre .1) (at-kind .kind-at .ensures) (at-cell .cell-at .ensures) (at-ordered .is-ordered .ensures) _ _ (at-note .note-access .ensures .0) (at-note .note-access .ensures .1))
 
-way-from-requires : tie.Need-way-from-requires
-way-from-requires c κs = search needs
+firsts-from-requires : tie.Need-firsts-from-requires
+firsts-from-requires c κs = search needs
 
-way-to-requires : tie.Need-way-to-requires
-way-to-requires c κs = search needs
+firsts-to-requires : tie.Need-firsts-to-requires
+firsts-to-requires c κs = search needs
 
 same-length-3 : tie.Need-same-length-3
 same-length-3 c = search needs
@@ -86,7 +86,7 @@ returns-2 c =
     let at-cell = at-ordered .before .before .before .before in
     let at-kind = at-cell .before in
     let start = at-kind .before .before .before .before .before .before in
-    (access-way (start .pre .0) (start .pre .1) (at-kind .kind-at .ensures) (at-cell .cell-at .ensures) (at-ordered .is-ordered .ensures) _ _ (c .before .way-from .ensures) (c .way-to .ensures), access-tables (start .pre .0) (start .pre .1) (at-kind .kind-at .ensures) (at-cell .cell-at .ensures) (at-ordered .is-ordered .ensures) _ _ (at-note .note-access .ensures .0) (at-note .note-access .ensures .1))
+    (access-way (start .pre .0) (start .pre .1) (at-kind .kind-at .ensures) (at-cell .cell-at .ensures) (at-ordered .is-ordered .ensures) _ _ (c .before .firsts-from .ensures) (c .firsts-to .ensures), access-tables (start .pre .0) (start .pre .1) (at-kind .kind-at .ensures) (at-cell .cell-at .ensures) (at-ordered .is-ordered .ensures) _ _ (at-note .note-access .ensures .0) (at-note .note-access .ensures .1))
 
 pub take-access-spec : {M : Type 1} → statement M
 take-access-spec =
@@ -105,8 +105,8 @@ take-access-spec =
     same-length
     same-length-2
     returns
-    way-from-requires
-    way-to-requires
+    firsts-from-requires
+    firsts-to-requires
     same-length-3
     same-length-4
     returns-2)

@@ -14,10 +14,10 @@ use Rattle.races.proofs.lists.list_all.Statement.{statement}
 use Rattle.races.proofs.lists.list_all.Tie as tie
 
 abbrev Inv-loop : tie.InvT-loop
-Inv-loop recs ranks of width clocks list₀ short writing n seen₀ written₀ k₀ begun₀ b₀ list seen written k begun b = Listing writing (decode recs) short list₀ list k b × Tables (decode recs) short b seen written × (begun ≡ counted (decode recs) b)
+Inv-loop recs ranks chosen width clocks list₀ short writing n seen₀ written₀ k₀ begun₀ b₀ list seen written k begun b = Listing writing (decode recs) short list₀ list k b × Tables (decode recs) short b seen written × (begun ≡ counted (decode recs) b)
 
 abbrev μ-loop : tie.MeasureT-loop
-μ-loop recs ranks of width clocks list₀ short writing n seen₀ written₀ k₀ begun₀ b₀ list seen written k begun b = n - b
+μ-loop recs ranks chosen width clocks list₀ short writing n seen₀ written₀ k₀ begun₀ b₀ list seen written k begun b = n - b
 
 count-requires : tie.Need-count-requires Inv-loop μ-loop
 count-requires c κs = search needs
@@ -86,8 +86,8 @@ take-access-requires c κs =
     let t = kind-access (s .pre .0 .acceptable) (l .loop .b) h (omega (arith, c .before .before .before .kind-at .ensures, c .before .before .if1 .left)) in
     (second-at (own-ranks (s .pre .0)) h t (l .loop .inv .2), l .loop .inv .1)
 
-list-way-requires : tie.Need-list-way-requires Inv-loop μ-loop
-list-way-requires c κs =
+list-firsts-requires : tie.Need-list-firsts-requires Inv-loop μ-loop
+list-firsts-requires c κs =
     let w = c .before .before .before in
     let i = w .before .before .before in
     let l = i .before .before .before in
@@ -115,7 +115,7 @@ loop-again-2 c =
     let l = i .before .before .before in
     let n = l .before .before .before in
     let s = n .before .before .before .before .before .before in
-    (listing-next (l .loop .inv .0) (omega (arith, n .count .ensures, i .before .before .loop-test .taken)) _ _ (way-writes (w .take-access .ensures .0) (c .before .before .list-way .ensures)), w .take-access .ensures .1, l .loop .inv .2 ∙ sym (access-begun (decode (now (s .args .recs))) (l .loop .b) (omega (arith, i .before .kind-at .ensures, i .if1 .left))))
+    (listing-next (l .loop .inv .0) (omega (arith, n .count .ensures, i .before .before .loop-test .taken)) _ _ (way-writes (w .take-access .ensures .0) (c .before .before .list-firsts .ensures)), w .take-access .ensures .1, l .loop .inv .2 ∙ sym (access-begun (decode (now (s .args .recs))) (l .loop .b) (omega (arith, i .before .kind-at .ensures, i .if1 .left))))
 
 same-length : tie.Need-same-length Inv-loop μ-loop
 same-length c = listing-size (c .before .loop .inv .0)
@@ -142,7 +142,7 @@ list-all-spec =
     slice-aggregate-take-access
     slice-aggregate-take-access-2
     take-access-requires
-    list-way-requires
+    list-firsts-requires
     add-b-2
     loop-less-2
     loop-again-2

@@ -13,11 +13,11 @@ use Rattle.races.proofs.raising.go_on.Statement.{statement}
 use Rattle.races.proofs.raising.go_on.Tie as tie
 
 abbrev Inv-loop : tie.InvT-loop
-Inv-loop recs ranks of width clocks₀ u t₀ i₀ chains₀ clocks t i chains =
-    Going (decode recs) ranks of width (record { row = t₀; position = i₀; chains = chains₀; clocks = clocks₀ }) u t i chains clocks
+Inv-loop recs ranks chosen width clocks₀ u t₀ i₀ chains₀ clocks t i chains =
+    Going (decode recs) ranks chosen width (record { row = t₀; position = i₀; chains = chains₀; clocks = clocks₀ }) u t i chains clocks
 
 abbrev μ-loop : tie.MeasureT-loop
-μ-loop recs ranks of width clocks₀ u t₀ i₀ chains₀ clocks t i chains = u - t
+μ-loop recs ranks chosen width clocks₀ u t₀ i₀ chains₀ clocks t i chains = u - t
 
 loop-holds : tie.Need-loop-holds Inv-loop μ-loop
 loop-holds c = let pre = c .before .before .before .before .pre in going-start _ _ _ _ _ _ pre

@@ -5,7 +5,7 @@ use borrow.Author.Needs.{needs}
 use mathlib.Core.Path.{_≡_}
 use Prim.Native.Nat.{_+_, _*_, _-_}
 use Rattle.records.specs.Bytes.{decode}
-use Rattle.races.specs.loops.Filled.{Filled}
+use Rattle.races.specs.loops.FilledClocks.{FilledClocks}
 use Rattle.races.specs.loops.Raising.{Unmarked}
 use Rattle.races.proofs.MarkedList.{list-room}
 use Rattle.races.proofs.MarkAllLaws.{Marking, marking-start, second-some, may-go, arrived, markable, marking-last, raise-room, marking-next, left-size, left-rest}
@@ -13,10 +13,10 @@ use Rattle.races.proofs.raising.mark_all.Statement.{statement}
 use Rattle.races.proofs.raising.mark_all.Tie as tie
 
 abbrev Inv-loop : tie.InvT-loop
-Inv-loop recs ranks of width clocks₀ list₀ count s₀ k₀ clocks list s k = (f : Filled (decode recs) ranks of width clocks₀) × (un : Unmarked (decode recs) list₀ count) × Marking f un k (s .row) (s .position) (s .chains) clocks list
+Inv-loop recs ranks chosen width clocks₀ list₀ count s₀ k₀ clocks list s k = (f : FilledClocks (decode recs) ranks chosen width clocks₀) × (un : Unmarked (decode recs) list₀ count) × Marking f un k (s .row) (s .position) (s .chains) clocks list
 
 abbrev μ-loop : tie.MeasureT-loop
-μ-loop recs ranks of width clocks₀ list₀ count s₀ k₀ clocks list s k = count - k
+μ-loop recs ranks chosen width clocks₀ list₀ count s₀ k₀ clocks list s k = count - k
 
 loop-holds : tie.Need-loop-holds Inv-loop μ-loop
 loop-holds c = let pre = c .before .before .before .before .before .pre in (pre .0, pre .1, marking-start (pre .0) (pre .1))

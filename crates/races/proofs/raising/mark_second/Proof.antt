@@ -11,10 +11,10 @@ use Rattle.races.proofs.raising.mark_second.Statement.{statement}
 use Rattle.races.proofs.raising.mark_second.Tie as tie
 
 abbrev Inv-loop : tie.InvT-loop
-Inv-loop recs ranks of width clocks u list₀ k count second e₀ list e = MarkingSecond (decode recs) list₀ k count list e × (second ≡ getD list₀ (5 * k + 1) 0)
+Inv-loop recs ranks chosen width clocks u list₀ k count second e₀ list e = MarkingSecond (decode recs) list₀ k count list e × (second ≡ getD list₀ (5 * k + 1) 0)
 
 abbrev μ-loop : tie.MeasureT-loop
-μ-loop recs ranks of width clocks u list₀ k count second e₀ list e = count - e
+μ-loop recs ranks chosen width clocks u list₀ k count second e₀ list e = count - e
 
 mul-second : tie.Need-mul-second Inv-loop μ-loop
 mul-second c = search needs

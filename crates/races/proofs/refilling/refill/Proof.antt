@@ -12,15 +12,15 @@ use Rattle.records.specs.Bytes.{decode}
 use Rattle.races.specs.loops.Refilling.{Refillable}
 use Rattle.order.specs.Fill.{traceClocks}
 use Rattle.order.proofs.TableLaws.{events-few}
-use Rattle.races.proofs.RefillLaws.{Refilling, refilling-start, of-room, add-room, refilling-next, refilling-end, cleared-rest, cleared-zeros, cleared-refillable}
+use Rattle.races.proofs.RefillLaws.{Refilling, refilling-start, chosen-room, add-room, refilling-next, refilling-end, cleared-rest, cleared-zeros, cleared-refillable}
 use Rattle.races.proofs.refilling.refill.Statement.{statement}
 use Rattle.races.proofs.refilling.refill.Tie as tie
 
 abbrev Inv-loop : tie.InvT-loop
-Inv-loop recs ranks of events width clocks₀ n chains₀ u₀ i₀ clocks chains u i = (f : Refillable (decode recs) ranks of events width clocks₀) × Refilling f i u chains clocks × (n ≡ length (decode recs)) × (length clocks ≡ length clocks₀)
+Inv-loop recs ranks chosen events width clocks₀ n chains₀ u₀ i₀ clocks chains u i = (f : Refillable (decode recs) ranks chosen events width clocks₀) × Refilling f i u chains clocks × (n ≡ length (decode recs)) × (length clocks ≡ length clocks₀)
 
 abbrev μ-loop : tie.MeasureT-loop
-μ-loop recs ranks of events width clocks₀ n chains₀ u₀ i₀ clocks chains u i = n - i
+μ-loop recs ranks chosen events width clocks₀ n chains₀ u₀ i₀ clocks chains u i = n - i
 
 cast-clear-rows : tie.Need-cast-clear-rows Inv-loop μ-loop
 cast-clear-rows c = let pre = c .before .before .before .before .before .pre in record { fits = omega (arith, pre .events-are, events-few (pre .acceptable)) }
@@ -35,10 +35,10 @@ loop-holds : tie.Need-loop-holds Inv-loop μ-loop
 loop-holds c = let pre = c .before .before .before .before .before .before .before .before .before .pre in let clear-rows = c .before .before .before .clear-rows in let count = c .count in (cleared-refillable pre _ (clear-rows .ensures), refilling-start (cleared-refillable pre _ (clear-rows .ensures)) (cleared-zeros pre _ (clear-rows .ensures)), count .ensures, refl)
 
 mul-c : tie.Need-mul-c Inv-loop μ-loop
-mul-c c = let loop = c .before .loop in let loop-test = c .loop-test in let h = of-room (loop .inv .0) (loop .inv .1) (omega (arith, loop .inv .2, loop-test .taken)) in search needs
+mul-c c = let loop = c .before .loop in let loop-test = c .loop-test in let h = chosen-room (loop .inv .0) (loop .inv .1) (omega (arith, loop .inv .2, loop-test .taken)) in search needs
 
 shared-slice-read-c : tie.Need-shared-slice-read-c Inv-loop μ-loop
-shared-slice-read-c c = let loop = c .before .before .loop in let loop-test = c .before .loop-test in of-room (loop .inv .0) (loop .inv .1) (omega (arith, loop .inv .2, loop-test .taken))
+shared-slice-read-c c = let loop = c .before .before .loop in let loop-test = c .before .loop-test in chosen-room (loop .inv .0) (loop .inv .1) (omega (arith, loop .inv .2, loop-test .taken))
 
 cast-c : tie.Need-cast-c Inv-loop μ-loop
 cast-c c = let shared-slice-known4 = c .shared-slice-known4 in let loop = c .before .before .loop in record { fits = omega (arith, shared-slice-known4 .given (loop .u) .fits) }
@@ -58,7 +58,7 @@ merge-links-requires c κs = search needs
 add-u : tie.Need-add-u Inv-loop μ-loop
 add-u c =
     let loop = c .before .before .before .before .before .before .before .before .before .before .before .loop in
-    let h = of-room (loop .inv .0) (loop .inv .1) (omega (arith, loop .inv .2, c .before .before .before .before .before .before .before .before .before .before .loop-test .taken)) in
+    let h = chosen-room (loop .inv .0) (loop .inv .1) (omega (arith, loop .inv .2, c .before .before .before .before .before .before .before .before .before .before .loop-test .taken)) in
     search needs
 
 loop-less : tie.Need-loop-less Inv-loop μ-loop
@@ -71,7 +71,7 @@ loop-less c =
     let filled = s4 .if1 .chains in
     let walked = c .before .before .merge-links in
     let h : loop .i < length (decode (now (args .recs))) = omega (arith, loop .inv .2, s10 .loop-test .taken) in
-    let m : filled ≡ max (loop .chains) (getD (now (args .of)) (loop .u) 0 + 1) =
+    let m : filled ≡ max (loop .chains) (getD (now (args .chosen)) (loop .u) 0 + 1) =
     ⊎-elim (λ w. omega (arith, w .0 .taken, w .1)) (λ w. omega (arith, w .0 .left, w .1)) (s4 .if1 .came) in
     let t = refilling-next (loop .inv .0) (loop .inv .1) h _ refl _ m _ (s7 .add-to-row .ensures) _ _ (walked .ensures) in
     omega (arith, t .0, s10 .loop-test .taken)
@@ -86,7 +86,7 @@ loop-again c =
     let filled = s4 .if1 .chains in
     let walked = c .before .before .merge-links in
     let h : loop .i < length (decode (now (args .recs))) = omega (arith, loop .inv .2, s10 .loop-test .taken) in
-    let m : filled ≡ max (loop .chains) (getD (now (args .of)) (loop .u) 0 + 1) =
+    let m : filled ≡ max (loop .chains) (getD (now (args .chosen)) (loop .u) 0 + 1) =
     ⊎-elim (λ w. omega (arith, w .0 .taken, w .1)) (λ w. omega (arith, w .0 .left, w .1)) (s4 .if1 .came) in
     let t = refilling-next (loop .inv .0) (loop .inv .1) h _ refl _ m _ (s7 .add-to-row .ensures) _ _ (walked .ensures) in
     (loop .inv .0, t .1, loop .inv .2, walked .kept .1 .1 .1 .1 .0 ∙ s7 .add-to-row .kept .0 ∙ loop .inv .3)

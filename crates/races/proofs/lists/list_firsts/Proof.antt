@@ -1,4 +1,4 @@
--- `races::lists::list_way` meets its contract.
+-- `races::lists::list_firsts` meets its contract.
 -- Assumes nothing.
 use borrow.Author.Needs.{needs}
 use Rattle.records.specs.Search.{leastKind, mayRace}
@@ -11,14 +11,14 @@ use lib.Dec.{T}
 use denote.Ref.{now}
 use native.Mathlib.Omega.{arith}
 use Rattle.records.specs.Bytes.{decode}
-use Rattle.races.proofs.lists.list_way.Statement.{statement}
-use Rattle.races.proofs.lists.list_way.Tie as tie
+use Rattle.races.proofs.lists.list_firsts.Statement.{statement}
+use Rattle.races.proofs.lists.list_firsts.Tie as tie
 
 abbrev Inv-loop : tie.InvT-loop
-Inv-loop recs ranks of width clocks way b u list₀ k writing c least next₀ a₀ list next a = Writing writing (decode recs) b (way .from) k list₀ list next a × (a ≤ way .to) × (a < way .to → T (mayRace (decode recs) least (c .0) a))
+Inv-loop recs ranks chosen width clocks firsts b u list₀ k writing c least next₀ a₀ list next a = Writing writing (decode recs) b (firsts .from) k list₀ list next a × (a ≤ firsts .to) × (a < firsts .to → T (mayRace (decode recs) least (c .0) a))
 
 abbrev μ-loop : tie.MeasureT-loop
-μ-loop recs ranks of width clocks way b u list₀ k writing c least next₀ a₀ list next a = way .to - a
+μ-loop recs ranks chosen width clocks firsts b u list₀ k writing c least next₀ a₀ list next a = firsts .to - a
 
 returns : tie.Need-returns Inv-loop μ-loop
 returns c = let start = c .before .before .before .before .before .before .before in way-over (start .pre .0 .1) (c .if1 .taken) _ _ _
@@ -40,7 +40,7 @@ loop-holds c =
     let s = c .before .before .before .before .before .before .before .before .before .before .before in
     let g = s .pre .0 .1 in
     let n = c .next-access .ensures .next (g .low) (omega (arith, g .high, s .pre .0 .0 .inside)) in
-    let w = writing-start (s .args .writing) (decode (now (s .args .recs))) (s .args .b) (s .args .way .from) (s .args .k) (now (s .args .list)) (omega (arith, g .low, g .high)) in
+    let w = writing-start (s .args .writing) (decode (now (s .args .recs))) (s .args .b) (s .args .firsts .from) (s .args .k) (now (s .args .list)) (omega (arith, g .low, g .high)) in
     (writing-past w (n .past .low) (omega (arith, n .high, g .high)) (past-quiet _ (s .args .b) (c .before .before .before .cell-at .ensures) (c .before .least-kind .ensures ∙ ap leastKind (c .before .before .kind-at .ensures)) (n .past)), n .high, n .found)
 
 list-race-requires : tie.Need-list-race-requires Inv-loop μ-loop
@@ -94,8 +94,8 @@ returns-2 c =
     let s = l .before .before .before .before .before .before .before .before .before .before .before .before in
     writing-end (l .loop .inv .0) (c .if2 .left) (s .pre .0 .1)
 
-pub list-way-spec : {M : Type 1} → statement M
-list-way-spec =
+pub list-firsts-spec : {M : Type 1} → statement M
+list-firsts-spec =
     tie.close
     (tie.spec
     Inv-loop

@@ -7,28 +7,28 @@ use Rattle.records.specs.declared.Record.{Record}
 use Rattle.records.specs.Records.{past, begins}
 use Rattle.trace.specs.Reading.{Acceptable}
 use Rattle.ranks.specs.Ranks.{ranksOf}
-use Rattle.order.specs.Fill.{eventsIn, shortRow, chainTable, traceClocks}
+use Rattle.order.specs.Fill.{eventsIn, rowPastWidth, chainTable, traceClocks}
 
 -- Ranks by event number, the chain of each row, and clocks at a width that suffices, with anything after them.
-pub record Filled (tr : List Record) (ranks of : List ℕ) (width : ℕ) (clocks : List ℕ) : Type 0 where
+pub record FilledClocks (tr : List Record) (ranks chosen : List ℕ) (width : ℕ) (clocks : List ℕ) : Type 0 where
   pub acceptable : Acceptable tr
   pub ranks-are : ranks ≡ ranksOf tr
-  pub of-are : of ≡ chainTable tr
+  pub chosen-are : chosen ≡ chainTable tr
   pub narrow : width ≤ 1024
-  pub enough : shortRow tr width ≡ eventsIn tr
+  pub enough : rowPastWidth tr width ≡ eventsIn tr
   pub rest : List ℕ
   pub clocks-are : clocks ≡ traceClocks tr width ++ rest
 
 -- rows t and u stand in the clocks, and the chain of row t is known
-pub record RowsIn (of : List ℕ) (width : ℕ) (clocks : List ℕ) (t u : ℕ) : Type 0 where
-  pub known : t < length of
-  pub own : t * width + getD of t 0 < length clocks
-  pub other : u * width + getD of t 0 < length clocks
+pub record RowsIn (chosen : List ℕ) (width : ℕ) (clocks : List ℕ) (t u : ℕ) : Type 0 where
+  pub known : t < length chosen
+  pub own : t * width + getD chosen t 0 < length clocks
+  pub other : u * width + getD chosen t 0 < length clocks
 
 -- and the chain of row u is known too
-pub record BothIn (of : List ℕ) (width : ℕ) (clocks : List ℕ) (t u : ℕ) : Type 0 where
-  pub first : RowsIn of width clocks t u
-  pub second : RowsIn of width clocks u t
+pub record BothIn (chosen : List ℕ) (width : ℕ) (clocks : List ℕ) (t u : ℕ) : Type 0 where
+  pub first : RowsIn chosen width clocks t u
+  pub second : RowsIn chosen width clocks u t
 
 -- one row for each event action
 abbrev pub rows : List Record → ℕ
