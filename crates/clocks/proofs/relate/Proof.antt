@@ -24,7 +24,8 @@ relate-entries-requires c κs = search needs
 
 returns : tie.Need-returns
 returns c =
-    let a = c .before .before .before .before .before .before .args in
+    let start = c .before .before .before .before .before .before in
+    let a = start .args in
     let b = c .before in
     c .relate-entries .ensures ∙ (rw (b .before .before .before .entry .ensures, b .before .before .entry2 .ensures, b .before .entry3 .ensures, b .entry4 .ensures) (by-entries (now (a .clocks)) (a .width) (a .t) (a .c) (a .u) (a .d)))
 

@@ -63,13 +63,14 @@ returns-2 c =
 
 write-slim-requires : tie.Need-write-slim-requires
 write-slim-requires c κs =
+    let at-fits = c .before .before .before .before in
     let at-records = c .before .before .before .before .before .before in
     let at-reading = at-records .before .before in
     let b = now (at-reading .before .before .before .before .before .args .bytes) in
     let t = at-reading .reading .given .0 .0 in
     let e = sym (ap paper (at-reading .reading .given .1)) ∙ at-reading .before .before .read .ensures in
     let q = at-records .records .ensures in
-    let f = c .before .before .before .before .fits2 in
+    let f = at-fits .fits2 in
     (read-acceptable b t e _ q, read-events b t e _ q, rw (records-are b t e _ q) (has-room b t e (f .result) (rw (records-are b t e _ q) at (f .ensures)) (c .before .if1 .left)))
 
 mul-t16 : tie.Need-mul-t16
@@ -107,15 +108,17 @@ same-length-2 c = search needs
 
 returns-3 : tie.Need-returns-3
 returns-3 c =
+    let at-if = c .before .before .before .before .before in
+    let at-fits = at-if .before .before .before in
     let at-records = c .before .before .before .before .before .before .before .before .before .before in
     let at-reading = at-records .before .before in
     let b = now (at-reading .before .before .before .before .before .args .bytes) in
     let t = at-reading .reading .given .0 .0 in
     let e = sym (ap paper (at-reading .reading .given .1)) ∙ at-reading .before .before .read .ensures in
     let q = at-records .records .ensures in
-    let f = c .before .before .before .before .before .before .before .before .fits2 in
+    let f = at-fits .fits2 in
     let w = c .before .before .before .write-slim .ensures in
-    slim-written b t e (f .result) (rw (records-are b t e _ q) at (f .ensures)) (c .before .before .before .before .before .if1 .left) (rw (records-are b t e _ q) at w)
+    slim-written b t e (f .result) (rw (records-are b t e _ q) at (f .ensures)) (at-if .if1 .left) (rw (records-are b t e _ q) at w)
 
 pub compact-spec : {M : Type 1} → statement M
 compact-spec =

@@ -16,10 +16,14 @@ add-if1 : tie.Need-add-if1
 add-if1 c = omega (arith, c .count .ensures, c .before .before .before .pre .few)
 
 returns : tie.Need-returns
-returns c = fits-whole (c .before .before .before .before .pre) (c .before .count .ensures) (c .if1 .taken)
+returns c =
+    let start = c .before .before .before .before in
+    fits-whole (start .pre) (c .before .count .ensures) (c .if1 .taken)
 
 pass-requires : tie.Need-pass-requires
-pass-requires c κs = (c .before .before .before .before .before .pre, λ z. absurd z)
+pass-requires c κs =
+    let start = c .before .before .before .before .before in
+    (start .pre, λ z. absurd z)
 
 mul-result : tie.Need-mul-result
 mul-result c =

@@ -25,7 +25,8 @@ same-length-3 c = search needs
 
 returns : tie.Need-returns
 returns c =
-    let asks = c .before .before .before .before .before .before .before .ask-pair .ensures in
+    let at-ask-pair = c .before .before .before .before .before .before .before in
+    let asks = at-ask-pair .ask-pair .ensures in
     record { given = c .pair .ensures .0 ∙ ap (λ (r : Reply PairMark). pairNumbers r (c .pair .result .count)) (asks .answer); clocks-after = asks .clocks-after; work-after = asks .work-after; list-after = rw (c .pair .ensures .1) (asks .list-after) }
 
 pub jco-ask-pair-spec : {M : Type 1} → statement M

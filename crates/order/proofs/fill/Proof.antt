@@ -44,14 +44,18 @@ slice-aggregate-fill-rows c = search needs
 
 fill-rows-requires : tie.Need-fill-rows-requires
 fill-rows-requires c κs =
-    let a = c .before .before .before .before .before .before .before .before .before .before .before .before .args in
-    let t = c .before .before .before .before .before .before .before .reading .given .0 .0 in
+    let at-numbers- = c .before .before .before .before .before in
+    let at-reading = at-numbers- .before .before in
+    let at-read-within = at-reading .before .before in
+    let start = at-read-within .before .before .before in
+    let a = start .args in
+    let t = at-reading .reading .given .0 .0 in
     let b = now (a .bytes) in
-    let g = fitting b _ _ _ _ _ t (sym (ap paper (c .before .before .before .before .before .before .before .reading .given .1)) ∙ c .before .before .before .before .before .before .before .before .before .read-within .ensures) in (
+    let g = fitting b _ _ _ _ _ t (sym (ap paper (at-reading .reading .given .1)) ∙ at-read-within .read-within .ensures) in (
       read-acceptable b t (g .read) _ (c .before .before .before .records .ensures),
       read-events b t (g .read) _ (c .before .before .before .records .ensures),
       g .has-space,
-      c .before .before .before .before .before .numbers-1024 .ensures,
+      at-numbers- .numbers-1024 .ensures,
     )
 
 same-length : tie.Need-same-length
@@ -59,12 +63,16 @@ same-length c = search needs
 
 returns-2 : tie.Need-returns-2
 returns-2 c =
-    let a = c .before .before .before .before .before .before .before .before .before .before .before .before .before .before .before .before .args in
-    let t = c .before .before .before .before .before .before .before .before .before .before .before .reading .given .0 .0 in
+    let at-records = c .before .before .before .before .before .before .before in
+    let at-reading = at-records .before .before .before .before in
+    let at-read-within = at-reading .before .before in
+    let start = at-read-within .before .before .before in
+    let a = start .args in
+    let t = at-reading .reading .given .0 .0 in
     let b = now (a .bytes) in
-    let e = sym (ap paper (c .before .before .before .before .before .before .before .before .before .before .before .reading .given .1)) ∙ c .before .before .before .before .before .before .before .before .before .before .before .before .before .read-within .ensures in
+    let e = sym (ap paper (at-reading .reading .given .1)) ∙ at-read-within .read-within .ensures in
     let g = fitting b _ _ _ _ _ t e in
-    fills _ _ _ _ _ [] _ _ _ (passed b _ _ (now (a .clocks)) _ t e _ _ _ _ _ (records-are b t (g .read) _ (c .before .before .before .before .before .before .before .records .ensures)) (c .before .before .before .fill-rows .ensures))
+    fills _ _ _ _ _ [] _ _ _ (passed b _ _ (now (a .clocks)) _ t e _ _ _ _ _ (records-are b t (g .read) _ (at-records .records .ensures)) (c .before .before .before .fill-rows .ensures))
 
 pub fill-spec : {M : Type 1} → statement M
 fill-spec =

@@ -33,22 +33,29 @@ unfilled-requires c κs = search needs
 
 returns : tie.Need-returns
 returns c =
-    let e = sym (c .before .before .before .before .read-within .ensures) ∙ sym (upward (c .before .before .before .before .read-within .result) (c .before .before .before .match .keys2)) in
-    stopped _ _ _ _ _ _ _ _ _ _ (ap fillPaper (c .unfilled .ensures .0) ∙ simp (c .before .refusal-of .ensures)) (c .unfilled .ensures .1) (cleared-whole (now (c .before .before .before .before .before .before .before .before .before .args .chosen)) (omega arith) (c .before .before .before .before .before .clear .ensures)) e
+    let at-read-within = c .before .before .before .before in
+    let at-clear = at-read-within .before in
+    let start = at-clear .before .before .before .before in
+    let e = sym (at-read-within .read-within .ensures) ∙ sym (upward (at-read-within .read-within .result) (c .before .before .before .match .keys2)) in
+    stopped _ _ _ _ _ _ _ _ _ _ (ap fillPaper (c .unfilled .ensures .0) ∙ simp (c .before .refusal-of .ensures)) (c .unfilled .ensures .1) (cleared-whole (now (start .args .chosen)) (omega arith) (at-clear .clear .ensures)) e
 
 records-requires : tie.Need-records-requires
 records-requires c κs = search needs
 
 fill-rows-requires : tie.Need-fill-rows-requires
 fill-rows-requires c κs =
-    let a = c .before .before .before .before .before .before .before .before .before .before .before .before .args in
-    let t = c .before .before .before .before .before .reading .given .0 .0 in
+    let at-reading = c .before .before .before .before .before in
+    let at-read-within = at-reading .before .before in
+    let at-clear = at-read-within .before in
+    let start = at-clear .before .before .before .before in
+    let a = start .args in
+    let t = at-reading .reading .given .0 .0 in
     let b = now (a .bytes) in
-    let g = fitting b _ _ _ _ _ t (sym (ap paper (c .before .before .before .before .before .reading .given .1)) ∙ c .before .before .before .before .before .before .before .read-within .ensures) in (
+    let g = fitting b _ _ _ _ _ t (sym (ap paper (at-reading .reading .given .1)) ∙ at-read-within .read-within .ensures) in (
       read-acceptable b t (g .read) _ (c .before .before .before .records .ensures),
       read-events b t (g .read) _ (c .before .before .before .records .ensures),
       g .has-space,
-      cleared-whole (now (a .chosen)) (omega arith) (c .before .before .before .before .before .before .before .before .clear .ensures),
+      cleared-whole (now (a .chosen)) (omega arith) (at-clear .clear .ensures),
     )
 
 same-length : tie.Need-same-length
@@ -56,12 +63,16 @@ same-length c = search needs
 
 returns-2 : tie.Need-returns-2
 returns-2 c =
-    let a = c .before .before .before .before .before .before .before .before .before .before .before .before .before .before .before .args in
-    let t = c .before .before .before .before .before .before .before .before .reading .given .0 .0 in
+    let at-records = c .before .before .before .before .before .before in
+    let at-reading = at-records .before .before in
+    let at-read-within = at-reading .before .before in
+    let start = at-read-within .before .before .before .before .before in
+    let a = start .args in
+    let t = at-reading .reading .given .0 .0 in
     let b = now (a .bytes) in
-    let e = sym (ap paper (c .before .before .before .before .before .before .before .before .reading .given .1)) ∙ c .before .before .before .before .before .before .before .before .before .before .read-within .ensures in
+    let e = sym (ap paper (at-reading .reading .given .1)) ∙ at-read-within .read-within .ensures in
     let g = fitting b _ _ _ _ _ t e in
-    passed b _ _ (now (a .clocks)) _ t e _ _ _ _ _ (records-are b t (g .read) _ (c .before .before .before .before .before .before .records .ensures)) (c .before .before .fill-rows .ensures)
+    passed b _ _ (now (a .clocks)) _ t e _ _ _ _ _ (records-are b t (g .read) _ (at-records .records .ensures)) (c .before .before .fill-rows .ensures)
 
 pub prepare-spec : {M : Type 1} → statement M
 prepare-spec =

@@ -24,7 +24,8 @@ enum-told c = search needs
 returns : tie.Need-returns
 unfolding readWithin asking spaced then
 returns c =
-    let e = refused-reading (now (c .before .before .before .before .args .bytes)) (c .before .before .read .result) (c .before .before .read .ensures) (c .before .match .keys2) in
+    let start = c .before .before .before .before in
+    let e = refused-reading (now (start .args .bytes)) (c .before .before .read .result) (c .before .before .read .ensures) (c .before .match .keys2) in
     c .before .before .read .ensures ∙ rw e
 
 has-records-requires : tie.Need-has-records-requires
@@ -33,7 +34,8 @@ has-records-requires c κs = search needs
 returns-2 : tie.Need-returns-2
 unfolding readWithin asking spaced spaces then demand
 returns-2 c =
-    let e = sym (ap paper (c .before .before .before .reading .given .1)) ∙ c .before .before .before .before .before .read .ensures in
+    let at-read = c .before .before .before .before .before in
+    let e = sym (ap paper (c .before .before .before .reading .given .1)) ∙ at-read .read .ensures in
     let records = sym (c .before .has-records .ensures) ∙ not-true (c .before .has-records .result) (c .if1 .taken) in
     rw (← e, records)
 
@@ -43,7 +45,9 @@ has-space-requires c κs = search needs
 returns-3 : tie.Need-returns-3
 unfolding readWithin asking spaced spaces then demand
 returns-3 c =
-    let e = sym (ap paper (c .before .before .before .before .before .reading .given .1)) ∙ c .before .before .before .before .before .before .before .read .ensures in
+    let at-reading = c .before .before .before .before .before in
+    let at-read = at-reading .before .before in
+    let e = sym (ap paper (at-reading .reading .given .1)) ∙ at-read .read .ensures in
     let records = sym (c .before .before .before .has-records .ensures) ∙ not-false (c .before .before .before .has-records .result) (c .before .before .if1 .left) in
     let space = sym (c .before .has-space .ensures) ∙ not-true (c .before .has-space .result) (c .if2 .taken) in
     rw (← e, records, space)
@@ -51,16 +55,24 @@ returns-3 c =
 returns-4 : tie.Need-returns-4
 unfolding readWithin asking spaced spaces then demand
 returns-4 c =
-    let e = sym (ap paper (c .before .before .before .before .before .before .before .reading .given .1)) ∙ c .before .before .before .before .before .before .before .before .before .read .ensures in
-    let records = sym (c .before .before .before .before .before .has-records .ensures) ∙ not-false (c .before .before .before .before .before .has-records .result) (c .before .before .before .before .if1 .left) in
+    let at-if = c .before .before .before .before in
+    let at-has-records = at-if .before in
+    let at-reading = at-has-records .before .before in
+    let at-read = at-reading .before .before in
+    let e = sym (ap paper (at-reading .reading .given .1)) ∙ at-read .read .ensures in
+    let records = sym (at-has-records .has-records .ensures) ∙ not-false (at-has-records .has-records .result) (at-if .if1 .left) in
     let space = sym (c .before .before .before .has-space .ensures) ∙ not-false (c .before .before .before .has-space .result) (c .before .before .if2 .left) in
     rw (← e, records, space, lt-leb _ _ (c .if3 .taken))
 
 returns-5 : tie.Need-returns-5
 unfolding readWithin asking spaced spaces then demand
 returns-5 c =
-    let e = sym (ap paper (c .before .before .before .before .before .before .before .reading .given .1)) ∙ c .before .before .before .before .before .before .before .before .before .read .ensures in
-    let records = sym (c .before .before .before .before .before .has-records .ensures) ∙ not-false (c .before .before .before .before .before .has-records .result) (c .before .before .before .before .if1 .left) in
+    let at-if = c .before .before .before .before in
+    let at-has-records = at-if .before in
+    let at-reading = at-has-records .before .before in
+    let at-read = at-reading .before .before in
+    let e = sym (ap paper (at-reading .reading .given .1)) ∙ at-read .read .ensures in
+    let records = sym (at-has-records .has-records .ensures) ∙ not-false (at-has-records .has-records .result) (at-if .if1 .left) in
     let space = sym (c .before .before .before .has-space .ensures) ∙ not-false (c .before .before .before .has-space .result) (c .before .before .if2 .left) in
     rw (← e, records, space, le-leb _ _ (c .if3 .left))
 

@@ -37,21 +37,33 @@ row-at-requires-2 c κs = search needs
 
 mark-leading-requires : tie.Need-mark-leading-requires
 mark-leading-requires c κs =
+    let at-if = c .before .before .before .before .before .before .before .before .before in
+    let at-is-race-in-order = at-if .before in
     let s = c .before .before .before .before .before .before .before .before .before .before .before .before .before .before .before .before .before .before in
-    markable (s .pre .0 .0) (s .pre .1) (s .args .a) (s .args .b) (sym (c .before .before .before .before .before .before .before .before .before .before .is-race-in-order .ensures) ∙ not-false (c .before .before .before .before .before .before .before .before .before .before .is-race-in-order .result) (c .before .before .before .before .before .before .before .before .before .if1 .left)) (s .pre .0 .1) (c .before .before .row-at2 .ensures)
+    markable (s .pre .0 .0) (s .pre .1) (s .args .a) (s .args .b) (sym (at-is-race-in-order .is-race-in-order .ensures) ∙ not-false (at-is-race-in-order .is-race-in-order .result) (at-if .if1 .left)) (s .pre .0 .1) (c .before .before .row-at2 .ensures)
 
 slice-read-if3 : tie.Need-slice-read-if3
 slice-read-if3 c =
+    let at-row-at = c .before .before .before .before .before .before .before .before .before in
+    let at-if = at-row-at .before .before .before .before in
+    let at-is-race-in-order = at-if .before in
     let s = c .before .before .before .before .before .before .before .before .before .before .before .before .before .before .before .before .before .before .before .before .before .before in
-    row-in (s .pre .0 .0) (s .pre .1) (s .args .a) (s .args .b) (sym (c .before .before .before .before .before .before .before .before .before .before .before .before .before .before .is-race-in-order .ensures) ∙ not-false (c .before .before .before .before .before .before .before .before .before .before .before .before .before .before .is-race-in-order .result) (c .before .before .before .before .before .before .before .before .before .before .before .before .before .if1 .left)) (c .before .before .before .mark-leading .ensures) (c .before .before .before .before .before .before .before .before .before .row-at .ensures)
+    row-in (s .pre .0 .0) (s .pre .1) (s .args .a) (s .args .b) (sym (at-is-race-in-order .is-race-in-order .ensures) ∙ not-false (at-is-race-in-order .is-race-in-order .result) (at-if .if1 .left)) (c .before .before .before .mark-leading .ensures) (at-row-at .row-at .ensures)
 
 fill-ranks-requires : tie.Need-fill-ranks-requires
 fill-ranks-requires c κs = search needs
 
 put-cover-requires : tie.Need-put-cover-requires
 put-cover-requires c κs =
+    let at-fill-ranks = c .before .before .before .before in
+    let at-if = at-fill-ranks .before .before in
+    let at-mark-leading = at-if .before .before .before .before in
+    let at-row-at = at-mark-leading .before .before .before .before .before .before in
+    let at-if2 = at-row-at .before .before .before in
+    let at-if3 = at-if2 .before in
+    let at-is-race-in-order = at-if3 .before in
     let s = c .before .before .before .before .before .before .before .before .before .before .before .before .before .before .before .before .before .before .before .before .before .before .before .before .before .before .before .before .before in
-    for-cover (s .pre .0 .0) (s .pre .1) (s .args .a) (s .args .b) (sym (c .before .before .before .before .before .before .before .before .before .before .before .before .before .before .before .before .before .before .before .before .before .is-race-in-order .ensures) ∙ not-false (c .before .before .before .before .before .before .before .before .before .before .before .before .before .before .before .before .before .before .before .before .before .is-race-in-order .result) (c .before .before .before .before .before .before .before .before .before .before .before .before .before .before .before .before .before .before .before .before .if1 .left)) (c .before .before .before .before .before .before .before .before .before .before .mark-leading .ensures) (c .before .before .before .before .before .before .before .before .before .before .before .before .before .before .before .before .row-at .ensures) (c .before .before .before .before .before .before .if3 .taken) _ (c .before .before .before .before .fill-ranks .ensures) (now (s .args .list)) (c .before .before .before .before .before .before .before .before .before .before .before .before .before .before .before .before .before .before .before .if2 .left)
+    for-cover (s .pre .0 .0) (s .pre .1) (s .args .a) (s .args .b) (sym (at-is-race-in-order .is-race-in-order .ensures) ∙ not-false (at-is-race-in-order .is-race-in-order .result) (at-if3 .if1 .left)) (at-mark-leading .mark-leading .ensures) (at-row-at .row-at .ensures) (at-if .if3 .taken) _ (at-fill-ranks .fill-ranks .ensures) (now (s .args .list)) (at-if2 .if2 .left)
 
 clear-requires : tie.Need-clear-requires
 clear-requires c κs = search needs
@@ -64,17 +76,29 @@ same-length-2 c = search needs
 
 returns-3 : tie.Need-returns-3
 returns-3 c =
+    let at-put-cover = c .before .before .before .before .before .before in
+    let at-if = at-put-cover .before .before .before .before .before .before .before in
+    let at-mark-leading = at-if .before .before .before .before in
+    let at-row-at = at-mark-leading .before .before .before .before .before .before in
+    let at-if2 = at-row-at .before .before .before in
+    let at-if3 = at-if2 .before in
+    let at-is-race-in-order = at-if3 .before in
     let s = c .before .before .before .before .before .before .before .before .before .before .before .before .before .before .before .before .before .before .before .before .before .before .before .before .before .before .before .before .before .before .before .before .before .before .before .before in
-    let e = sym (c .before .before .before .before .before .before .before .before .before .before .before .before .before .before .before .before .before .before .before .before .before .before .before .before .before .before .before .before .is-race-in-order .ensures) ∙ not-false (c .before .before .before .before .before .before .before .before .before .before .before .before .before .before .before .before .before .before .before .before .before .before .before .before .before .before .before .before .is-race-in-order .result) (c .before .before .before .before .before .before .before .before .before .before .before .before .before .before .before .before .before .before .before .before .before .before .before .before .before .before .before .if1 .left) in
-    let m = c .before .before .before .before .before .before .before .before .before .before .before .before .before .before .before .before .before .mark-leading .ensures in (
-      covered (s .pre .0 .0) (s .pre .1) (s .args .a) (s .args .b) e m (c .before .before .before .before .before .before .before .before .before .before .before .before .before .before .before .before .before .before .before .before .before .before .before .row-at .ensures) (c .before .before .before .before .before .before .before .before .before .before .before .before .before .if3 .taken) (now (s .args .list)) _ (c .before .before .before .before .before .before .put-cover .result) (c .before .before .before .before .before .before .before .before .before .before .before .before .before .before .before .before .before .before .before .before .before .before .before .before .before .before .if2 .left) (c .before .before .before .before .before .before .put-cover .ensures),
+    let e = sym (at-is-race-in-order .is-race-in-order .ensures) ∙ not-false (at-is-race-in-order .is-race-in-order .result) (at-if3 .if1 .left) in
+    let m = at-mark-leading .mark-leading .ensures in (
+      covered (s .pre .0 .0) (s .pre .1) (s .args .a) (s .args .b) e m (at-row-at .row-at .ensures) (at-if .if3 .taken) (now (s .args .list)) _ (at-put-cover .put-cover .result) (at-if2 .if2 .left) (at-put-cover .put-cover .ensures),
       as-before (s .pre .0 .0) (s .pre .1) (s .args .a) (s .args .b) e m _ (cleared-within _ (marks-fit (s .pre .0 .0) (s .pre .1) (s .args .a) (s .args .b) e m) (c .before .before .clear .ensures)),
     )
 
 put-kept-requires : tie.Need-put-kept-requires
 put-kept-requires c κs =
+    let at-mark-leading = c .before .before .before .before .before .before in
+    let at-row-at = at-mark-leading .before .before .before .before .before .before in
+    let at-if = at-row-at .before .before .before in
+    let at-if2 = at-if .before in
+    let at-is-race-in-order = at-if2 .before in
     let s = c .before .before .before .before .before .before .before .before .before .before .before .before .before .before .before .before .before .before .before .before .before .before .before .before .before in
-    for-kept (s .pre .0 .0) (s .pre .1) (s .args .a) (s .args .b) (sym (c .before .before .before .before .before .before .before .before .before .before .before .before .before .before .before .before .before .is-race-in-order .ensures) ∙ not-false (c .before .before .before .before .before .before .before .before .before .before .before .before .before .before .before .before .before .is-race-in-order .result) (c .before .before .before .before .before .before .before .before .before .before .before .before .before .before .before .before .if1 .left)) (c .before .before .before .before .before .before .mark-leading .ensures) (c .before .before .before .before .before .before .before .before .before .before .before .before .row-at .ensures) (now (s .args .list)) (c .before .before .before .before .before .before .before .before .before .before .before .before .before .before .before .if2 .left)
+    for-kept (s .pre .0 .0) (s .pre .1) (s .args .a) (s .args .b) (sym (at-is-race-in-order .is-race-in-order .ensures) ∙ not-false (at-is-race-in-order .is-race-in-order .result) (at-if2 .if1 .left)) (at-mark-leading .mark-leading .ensures) (at-row-at .row-at .ensures) (now (s .args .list)) (at-if .if2 .left)
 
 clear-requires-2 : tie.Need-clear-requires-2
 clear-requires-2 c κs = search needs
@@ -87,10 +111,17 @@ same-length-4 c = search needs
 
 returns-4 : tie.Need-returns-4
 returns-4 c =
+    let at-put-kept = c .before .before .before .before .before .before in
+    let at-if = at-put-kept .before .before .before in
+    let at-mark-leading = at-if .before .before .before .before in
+    let at-row-at = at-mark-leading .before .before .before .before .before .before in
+    let at-if2 = at-row-at .before .before .before in
+    let at-if3 = at-if2 .before in
+    let at-is-race-in-order = at-if3 .before in
     let s = c .before .before .before .before .before .before .before .before .before .before .before .before .before .before .before .before .before .before .before .before .before .before .before .before .before .before .before .before .before .before .before .before in
-    let e = sym (c .before .before .before .before .before .before .before .before .before .before .before .before .before .before .before .before .before .before .before .before .before .before .before .before .is-race-in-order .ensures) ∙ not-false (c .before .before .before .before .before .before .before .before .before .before .before .before .before .before .before .before .before .before .before .before .before .before .before .before .is-race-in-order .result) (c .before .before .before .before .before .before .before .before .before .before .before .before .before .before .before .before .before .before .before .before .before .before .before .if1 .left) in
-    let m = c .before .before .before .before .before .before .before .before .before .before .before .before .before .mark-leading .ensures in (
-      uncovered (s .pre .0 .0) (s .pre .1) (s .args .a) (s .args .b) e m (c .before .before .before .before .before .before .before .before .before .before .before .before .before .before .before .before .before .before .before .row-at .ensures) (c .before .before .before .before .before .before .before .before .before .if3 .left) (now (s .args .list)) _ (c .before .before .before .before .before .before .put-kept .result) (c .before .before .before .before .before .before .before .before .before .before .before .before .before .before .before .before .before .before .before .before .before .before .if2 .left) (c .before .before .before .before .before .before .put-kept .ensures),
+    let e = sym (at-is-race-in-order .is-race-in-order .ensures) ∙ not-false (at-is-race-in-order .is-race-in-order .result) (at-if3 .if1 .left) in
+    let m = at-mark-leading .mark-leading .ensures in (
+      uncovered (s .pre .0 .0) (s .pre .1) (s .args .a) (s .args .b) e m (at-row-at .row-at .ensures) (at-if .if3 .left) (now (s .args .list)) _ (at-put-kept .put-kept .result) (at-if2 .if2 .left) (at-put-kept .put-kept .ensures),
       as-before (s .pre .0 .0) (s .pre .1) (s .args .a) (s .args .b) e m _ (cleared-within _ (marks-fit (s .pre .0 .0) (s .pre .1) (s .args .a) (s .args .b) e m) (c .before .before .clear2 .ensures)),
     )
 

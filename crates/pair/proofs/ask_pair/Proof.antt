@@ -46,17 +46,25 @@ same-length-2 c = search needs
 
 returns : tie.Need-returns
 returns c =
+    let at-clear = c .before .before .before .before .before in
+    let at-prepare = at-clear .before .before .before .before .before in
+    let at-larger = at-prepare .before .before .before .before in
+    let at-smaller = at-larger .before in
     let s = c .before .before .before .before .before .before .before .before .before .before .before .before .before .before .before .before .before .before .before .before .before .before in
-    let p = for-pair (s .args .a .0) (s .args .b .0) _ (c .before .before .before .before .before .before .before .before .before .before .before .before .before .before .before .smaller .ensures) (c .before .before .before .before .before .before .before .before .before .before .before .before .before .before .larger .ensures) (c .before .before .before .before .before .before .before .before .before .before .prepare .ensures) in
+    let p = for-pair (s .args .a .0) (s .args .b .0) _ (at-smaller .smaller .ensures) (at-larger .larger .ensures) (at-prepare .prepare .ensures) in
     not-asked (now (s .args .bytes)) (s .args .a .0) (s .args .b .0) (s .args .width) (now (s .args .clocks)) _ (now (s .args .work)) _ _ (now (s .args .list)) _ _
-    p (c .before .before .before .before .before .clear .ensures) _ _ (upward (c .before .before .before .before .before .before .before .before .before .before .prepare .result .answer) (c .before .before .match .keys2)) _ (simp (c .refusal-of .ensures))
+    p (at-clear .clear .ensures) _ _ (upward (at-prepare .prepare .result .answer) (c .before .before .match .keys2)) _ (simp (c .refusal-of .ensures))
 
 sub-i : tie.Need-sub-i
 sub-i c =
+    let at-clear = c .before .before .before .before .before .before in
+    let at-prepare = at-clear .before .before .before .before .before in
+    let at-larger = at-prepare .before .before .before .before in
+    let at-smaller = at-larger .before in
     let s = c .before .before .before .before .before .before .before .before .before .before .before .before .before .before .before .before .before .before .before .before .before .before .before in
-    let p = for-pair (s .args .a .0) (s .args .b .0) _ (c .before .before .before .before .before .before .before .before .before .before .before .before .before .before .before .before .smaller .ensures) (c .before .before .before .before .before .before .before .before .before .before .before .before .before .before .before .larger .ensures) (c .before .before .before .before .before .before .before .before .before .before .before .prepare .ensures) in
+    let p = for-pair (s .args .a .0) (s .args .b .0) _ (at-smaller .smaller .ensures) (at-larger .larger .ensures) (at-prepare .prepare .ensures) in
     let l = askable (now (s .args .bytes)) (s .args .a .0) (s .args .b .0) (s .args .width) (now (s .args .clocks)) _ (now (s .args .work)) _ _ (now (s .args .list)) _ _
-    p (c .before .before .before .before .before .before .clear .ensures) _ (ap fillPaper (c .before .before .answer .given .1)) _ refl in
+    p (at-clear .clear .ensures) _ (ap fillPaper (c .before .before .answer .given .1)) _ refl in
     l .both-in .first
 
 cast-i : tie.Need-cast-i
@@ -64,10 +72,14 @@ cast-i c = search needs
 
 sub-j : tie.Need-sub-j
 sub-j c =
+    let at-clear = c .before .before .before .before .before .before .before in
+    let at-prepare = at-clear .before .before .before .before .before in
+    let at-larger = at-prepare .before .before .before .before in
+    let at-smaller = at-larger .before in
     let s = c .before .before .before .before .before .before .before .before .before .before .before .before .before .before .before .before .before .before .before .before .before .before .before .before in
-    let p = for-pair (s .args .a .0) (s .args .b .0) _ (c .before .before .before .before .before .before .before .before .before .before .before .before .before .before .before .before .before .smaller .ensures) (c .before .before .before .before .before .before .before .before .before .before .before .before .before .before .before .before .larger .ensures) (c .before .before .before .before .before .before .before .before .before .before .before .before .prepare .ensures) in
+    let p = for-pair (s .args .a .0) (s .args .b .0) _ (at-smaller .smaller .ensures) (at-larger .larger .ensures) (at-prepare .prepare .ensures) in
     let l = askable (now (s .args .bytes)) (s .args .a .0) (s .args .b .0) (s .args .width) (now (s .args .clocks)) _ (now (s .args .work)) _ _ (now (s .args .list)) _ _
-    p (c .before .before .before .before .before .before .before .clear .ensures) _ (ap fillPaper (c .before .before .before .answer .given .1)) _ refl in
+    p (at-clear .clear .ensures) _ (ap fillPaper (c .before .before .before .answer .given .1)) _ refl in
     l .both-in .second
 
 cast-j : tie.Need-cast-j
@@ -78,18 +90,29 @@ records-requires c κs = search needs
 
 slice-aggregate-ask-filled : tie.Need-slice-aggregate-ask-filled
 slice-aggregate-ask-filled c =
+    let at-answer = c .before .before .before .before .before .before in
+    let at-clear = at-answer .before .before .before .before in
+    let at-prepare = at-clear .before .before .before .before .before in
+    let at-larger = at-prepare .before .before .before .before in
+    let at-smaller = at-larger .before in
     let s = c .before .before .before .before .before .before .before .before .before .before .before .before .before .before .before .before .before .before .before .before .before .before .before .before .before .before .before in
-    let p = for-pair (s .args .a .0) (s .args .b .0) _ (c .before .before .before .before .before .before .before .before .before .before .before .before .before .before .before .before .before .before .before .before .smaller .ensures) (c .before .before .before .before .before .before .before .before .before .before .before .before .before .before .before .before .before .before .before .larger .ensures) (c .before .before .before .before .before .before .before .before .before .before .before .before .before .before .before .prepare .ensures) in
+    let p = for-pair (s .args .a .0) (s .args .b .0) _ (at-smaller .smaller .ensures) (at-larger .larger .ensures) (at-prepare .prepare .ensures) in
     let l = askable (now (s .args .bytes)) (s .args .a .0) (s .args .b .0) (s .args .width) (now (s .args .clocks)) _ (now (s .args .work)) _ _ (now (s .args .list)) _ _
-    p (c .before .before .before .before .before .before .before .before .before .before .clear .ensures) _ (ap fillPaper (c .before .before .before .before .before .before .answer .given .1)) _ (c .before .before .records .ensures) in
+    p (at-clear .clear .ensures) _ (ap fillPaper (at-answer .answer .given .1)) _ (c .before .before .records .ensures) in
     sym (of-length (l .filled))
 
 ask-filled-requires : tie.Need-ask-filled-requires
 ask-filled-requires c κs =
+    let at-records = c .before .before .before .before .before in
+    let at-answer = at-records .before .before .before .before in
+    let at-clear = at-answer .before .before .before .before in
+    let at-prepare = at-clear .before .before .before .before .before in
+    let at-larger = at-prepare .before .before .before .before in
+    let at-smaller = at-larger .before in
     let s = c .before .before .before .before .before .before .before .before .before .before .before .before .before .before .before .before .before .before .before .before .before .before .before .before .before .before .before .before .before .before in
-    let p = for-pair (s .args .a .0) (s .args .b .0) _ (c .before .before .before .before .before .before .before .before .before .before .before .before .before .before .before .before .before .before .before .before .before .before .before .smaller .ensures) (c .before .before .before .before .before .before .before .before .before .before .before .before .before .before .before .before .before .before .before .before .before .before .larger .ensures) (c .before .before .before .before .before .before .before .before .before .before .before .before .before .before .before .before .before .before .prepare .ensures) in
+    let p = for-pair (s .args .a .0) (s .args .b .0) _ (at-smaller .smaller .ensures) (at-larger .larger .ensures) (at-prepare .prepare .ensures) in
     let l = askable (now (s .args .bytes)) (s .args .a .0) (s .args .b .0) (s .args .width) (now (s .args .clocks)) _ (now (s .args .work)) _ _ (now (s .args .list)) _ _
-    p (c .before .before .before .before .before .before .before .before .before .before .before .before .before .clear .ensures) _ (ap fillPaper (c .before .before .before .before .before .before .before .before .before .answer .given .1)) _ (c .before .before .before .before .before .records .ensures) in
+    p (at-clear .clear .ensures) _ (ap fillPaper (at-answer .answer .given .1)) _ (at-records .records .ensures) in
     ((l .filled, l .chains-used, omega (arith, l .both-in .second, l .both-in .second-inside)), l .clear)
 
 same-length-3 : tie.Need-same-length-3
@@ -103,11 +126,18 @@ same-length-5 c = search needs
 
 returns-2 : tie.Need-returns-2
 returns-2 c =
+    let at-ask-filled = c .before .before .before .before in
+    let at-records = at-ask-filled .before .before .before .before .before .before in
+    let at-answer = at-records .before .before .before .before in
+    let at-clear = at-answer .before .before .before .before in
+    let at-prepare = at-clear .before .before .before .before .before in
+    let at-larger = at-prepare .before .before .before .before in
+    let at-smaller = at-larger .before in
     let s = c .before .before .before .before .before .before .before .before .before .before .before .before .before .before .before .before .before .before .before .before .before .before .before .before .before .before .before .before .before .before .before .before .before .before .before in
-    let p = for-pair (s .args .a .0) (s .args .b .0) _ (c .before .before .before .before .before .before .before .before .before .before .before .before .before .before .before .before .before .before .before .before .before .before .before .before .before .before .before .before .smaller .ensures) (c .before .before .before .before .before .before .before .before .before .before .before .before .before .before .before .before .before .before .before .before .before .before .before .before .before .before .before .larger .ensures) (c .before .before .before .before .before .before .before .before .before .before .before .before .before .before .before .before .before .before .before .before .before .before .before .prepare .ensures) in
+    let p = for-pair (s .args .a .0) (s .args .b .0) _ (at-smaller .smaller .ensures) (at-larger .larger .ensures) (at-prepare .prepare .ensures) in
     let l = askable (now (s .args .bytes)) (s .args .a .0) (s .args .b .0) (s .args .width) (now (s .args .clocks)) _ (now (s .args .work)) _ _ (now (s .args .list)) _ _
-    p (c .before .before .before .before .before .before .before .before .before .before .before .before .before .before .before .before .before .before .clear .ensures) _ (ap fillPaper (c .before .before .before .before .before .before .before .before .before .before .before .before .before .before .answer .given .1)) _ (c .before .before .before .before .before .before .before .before .before .before .records .ensures) in
-    let a = c .before .before .before .before .ask-filled .ensures in
+    p (at-clear .clear .ensures) _ (ap fillPaper (at-answer .answer .given .1)) _ (at-records .records .ensures) in
+    let a = at-ask-filled .ask-filled .ensures in
     l .answers _ _ _ (a .0) (a .1)
 
 pub ask-pair-spec : {M : Type 1} → statement M

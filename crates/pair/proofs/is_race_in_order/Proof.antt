@@ -8,10 +8,14 @@ use Rattle.pair.proofs.is_race_in_order.Statement.{statement}
 use Rattle.pair.proofs.is_race_in_order.Tie as tie
 
 returns : tie.Need-returns
-returns c = sym (out-of-order (decode (now (c .before .before .before .before .before .args .recs))) (c .before .before .before .before .before .args .a) (c .before .before .before .before .before .args .b) (c .if1 .taken))
+returns c =
+    let start = c .before .before .before .before .before in
+    sym (out-of-order (decode (now (start .args .recs))) (start .args .a) (start .args .b) (c .if1 .taken))
 
 is-race-requires : tie.Need-is-race-requires
-is-race-requires c κs = (c .before .before .before .before .before .pre .0, c .if1 .left, c .before .before .before .before .before .pre .1)
+is-race-requires c κs =
+    let start = c .before .before .before .before .before in
+    (start .pre .0, c .if1 .left, start .pre .1)
 
 returns-2 : tie.Need-returns-2
 returns-2 c = c .is-race .ensures

@@ -25,18 +25,24 @@ cast-put-entry : tie.Need-cast-put-entry
 cast-put-entry c = search needs
 
 put-entry-requires : tie.Need-put-entry-requires
-put-entry-requires c κs = c .before .before .before .before .before .before .before .pre .2 (c .before .before .if1 .left)
+put-entry-requires c κs =
+    let start = c .before .before .before .before .before .before .before in
+    start .pre .2 (c .before .before .if1 .left)
 
 add-result : tie.Need-add-result
-add-result c = omega (arith, c .before .before .before .before .before .before .before .before .before .before .pre .2 (c .before .before .before .before .before .if1 .left))
+add-result c =
+    let at-if = c .before .before .before .before .before in
+    let start = at-if .before .before .before .before .before in
+    omega (arith, start .pre .2 (at-if .if1 .left))
 
 same-length : tie.Need-same-length
 same-length c = search needs
 
 returns-2 : tie.Need-returns-2
 returns-2 c =
+    let at-if = c .before .before .before .before .before in
     let s = c .before .before .before .before .before .before .before .before .before .before in
-    record { put = λ e. (refl, c .before .before .put-entry .ensures ∙ ap (λ x. set (set (now (s .args .list)) (2 * s .args .k) x) (2 * s .args .k + 1) (s .args .i + 1)) (c .before .before .before .event-at .ensures)); skipped = λ n. absurd (n (c .before .before .before .before .before .if1 .left)) }
+    record { put = λ e. (refl, c .before .before .put-entry .ensures ∙ ap (λ x. set (set (now (s .args .list)) (2 * s .args .k) x) (2 * s .args .k + 1) (s .args .i + 1)) (c .before .before .before .event-at .ensures)); skipped = λ n. absurd (n (at-if .if1 .left)) }
 
 pub put-end-spec : {M : Type 1} → statement M
 put-end-spec =

@@ -27,15 +27,18 @@ kind-at-requires c κs = search needs
 
 put-end-requires : tie.Need-put-end-requires Inv-loop μ-loop
 put-end-requires c κs =
+    let at-loop = c .before .before .before .before in
     let s = c .before .before .before .before .before .before .before .before in
-    let l = c .before .before .before .before .loop in
+    let l = at-loop .loop in
     let e = l .inv (s .pre .0) in
     let q = sym (c .before .before .kind-at .ensures) ∙ c .before .if1 .taken in
     let h = c .before .before .before .loop-test .taken in
     (ends-row (s .pre .0) (s .pre .1) e, omega (arith, s .pre .0 .inside, s .pre .0 .acceptable .few), ends-room (s .pre .0) (s .pre .1) e h q)
 
 add-t : tie.Need-add-t Inv-loop μ-loop
-add-t c = let s = c .before .before .before .before .before .before .before .before .before .before .before in omega (arith, ends-row (s .pre .0) (s .pre .1) (c .before .before .before .before .before .before .before .loop .inv (s .pre .0)))
+add-t c =
+    let at-loop = c .before .before .before .before .before .before .before in
+    let s = c .before .before .before .before .before .before .before .before .before .before .before in omega (arith, ends-row (s .pre .0) (s .pre .1) (at-loop .loop .inv (s .pre .0)))
 
 add-i : tie.Need-add-i Inv-loop μ-loop
 add-i c = let s = c .before .before .before .before .before .before .before in omega (arith, c .before .before .loop-test .taken, s .pre .0 .inside, s .pre .0 .acceptable .few)
@@ -67,15 +70,22 @@ put-entry-requires : tie.Need-put-entry-requires Inv-loop μ-loop
 put-entry-requires c κs = let s = c .before .before .before .before .before .before .before in ends-last-room (s .pre .0) (s .pre .1) (c .before .before .before .loop .inv (s .pre .0)) (c .before .before .loop-test .left)
 
 add-result : tie.Need-add-result Inv-loop μ-loop
-add-result c = let s = c .before .before .before .before .before .before .before .before .before .before in omega (arith, ends-last-room (s .pre .0) (s .pre .1) (c .before .before .before .before .before .before .loop .inv (s .pre .0)) (c .before .before .before .before .before .loop-test .left), ends-long (s .pre .0) (s .pre .1) (c .before .before .before .before .before .before .loop .inv (s .pre .0)))
+add-result c =
+    let at-loop-test = c .before .before .before .before .before in
+    let at-loop = at-loop-test .before in
+    let s = c .before .before .before .before .before .before .before .before .before .before in omega (arith, ends-last-room (s .pre .0) (s .pre .1) (at-loop .loop .inv (s .pre .0)) (at-loop-test .loop-test .left), ends-long (s .pre .0) (s .pre .1) (at-loop .loop .inv (s .pre .0)))
 
 same-length : tie.Need-same-length Inv-loop μ-loop
-same-length c = let s = c .before .before .before .before .before .before .before .before .before .before in ap length (c .before .before .put-entry .ensures) ∙ simp length-set (ends-long (s .pre .0) (s .pre .1) (c .before .before .before .before .before .before .loop .inv (s .pre .0)))
+same-length c =
+    let at-loop = c .before .before .before .before .before .before in
+    let s = c .before .before .before .before .before .before .before .before .before .before in ap length (c .before .before .put-entry .ensures) ∙ simp length-set (ends-long (s .pre .0) (s .pre .1) (at-loop .loop .inv (s .pre .0)))
 
 returns : tie.Need-returns Inv-loop μ-loop
 returns c =
+    let at-loop-test = c .before .before .before .before .before in
+    let at-loop = at-loop-test .before in
     let s = c .before .before .before .before .before .before .before .before .before .before in
-    ends-last (s .pre .0) (s .pre .1) (c .before .before .before .before .before .before .loop .inv (s .pre .0)) (c .before .before .before .before .before .loop-test .left) _ (c .before .before .before .event-at .ensures) _ (c .before .before .put-entry .ensures)
+    ends-last (s .pre .0) (s .pre .1) (at-loop .loop .inv (s .pre .0)) (at-loop-test .loop-test .left) _ (c .before .before .before .event-at .ensures) _ (c .before .before .put-entry .ensures)
 
 pub put-kept-spec : {M : Type 1} → statement M
 put-kept-spec =

@@ -17,7 +17,10 @@ same-length-3 : tie.Need-same-length-3
 same-length-3 c = search needs
 
 returns : tie.Need-returns
-returns c = rw (c .before .before .before .before .before .before .before .before .before .before .if1 .taken) (c .before .before .before .before .before .before .short-list .ensures)
+returns c =
+    let at-short-list = c .before .before .before .before .before .before in
+    let at-if = at-short-list .before .before .before .before in
+    rw (at-if .if1 .taken) (at-short-list .short-list .ensures)
 
 all-races-requires : tie.Need-all-races-requires
 all-races-requires c κs = search needs
@@ -32,7 +35,10 @@ same-length-6 : tie.Need-same-length-6
 same-length-6 c = search needs
 
 returns-2 : tie.Need-returns-2
-returns-2 c = rw (c .before .before .before .before .before .before .before .before .before .before .if1 .left) (c .before .before .before .before .before .before .all-races .ensures)
+returns-2 c =
+    let at-all-races = c .before .before .before .before .before .before in
+    let at-if = at-all-races .before .before .before .before in
+    rw (at-if .if1 .left) (at-all-races .all-races .ensures)
 
 pub list-numbers-spec : {M : Type 1} → statement M
 list-numbers-spec =

@@ -34,8 +34,11 @@ same-length-3 c = search needs
 
 returns : tie.Need-returns
 returns c =
-    let a = c .before .before .before .before .before .before .before .before .before .before .before .before .before .before .before .before .args in
-    within (now (a .numbers)) _ (c .before .before .before .before .before .before .before .before .before .before .before .space-for .result) (a .room) (c .count-of .result) (c .before .before .before .before .before .before .before .list-numbers .result) (c .before .before .before .before .before .before .before .before .before .before .before .space-for .ensures .0) (c .count-of .ensures) (c .before .before .before .before .before .before .before .list-numbers .ensures)
+    let at-list-numbers = c .before .before .before .before .before .before .before in
+    let at-space-for = at-list-numbers .before .before .before .before in
+    let start = at-space-for .before .before .before .before .before in
+    let a = start .args in
+    within (now (a .numbers)) _ (at-space-for .space-for .result) (a .room) (c .count-of .result) (at-list-numbers .list-numbers .result) (at-space-for .space-for .ensures .0) (c .count-of .ensures) (at-list-numbers .list-numbers .ensures)
 
 pub list-within-spec : {M : Type 1} → statement M
 list-within-spec =

@@ -24,23 +24,29 @@ refusal-of-requires c κs = search needs
 
 returns : tie.Need-returns
 unfolding orderReply then
-returns c = simp (c .refusal-of .ensures, refused-reading (now (c .before .before .before .before .before .before .args .bytes)) (c .before .before .before .read .result) (c .before .before .before .read .ensures) (c .before .before .match .keys2))
+returns c =
+    let start = c .before .before .before .before .before .before in
+    simp (c .refusal-of .ensures, refused-reading (now (start .args .bytes)) (c .before .before .before .read .result) (c .before .before .before .read .ensures) (c .before .before .match .keys2))
 
 records-requires : tie.Need-records-requires
 records-requires c κs = search needs
 
 ask-requires : tie.Need-ask-requires
 ask-requires c κs =
+    let at-read = c .before .before .before .before in
+    let start = at-read .before .before .before in
     let t = c .before .before .reading .given .0 .0 in
-    let e = sym (ap paper (c .before .before .reading .given .1)) ∙ c .before .before .before .before .read .ensures in
-    (read-acceptable (now (c .before .before .before .before .before .before .before .args .bytes)) t e _ (c .records .ensures), read-events (now (c .before .before .before .before .before .before .before .args .bytes)) t e _ (c .records .ensures))
+    let e = sym (ap paper (c .before .before .reading .given .1)) ∙ at-read .read .ensures in
+    (read-acceptable (now (start .args .bytes)) t e _ (c .records .ensures), read-events (now (start .args .bytes)) t e _ (c .records .ensures))
 
 returns-2 : tie.Need-returns-2
 unfolding orderReply then
 returns-2 c =
+    let at-read = c .before .before .before .before .before in
+    let start = at-read .before .before .before in
     let t = c .before .before .before .reading .given .0 .0 in
-    let e = sym (ap paper (c .before .before .before .reading .given .1)) ∙ c .before .before .before .before .before .read .ensures in
-    rw (← e, ← records-are (now (c .before .before .before .before .before .before .before .before .args .bytes)) t e _ (c .before .records .ensures)) (c .ask .ensures)
+    let e = sym (ap paper (c .before .before .before .reading .given .1)) ∙ at-read .read .ensures in
+    rw (← e, ← records-are (now (start .args .bytes)) t e _ (c .before .records .ensures)) (c .ask .ensures)
 
 pub ask-order-spec : {M : Type 1} → statement M
 ask-order-spec =

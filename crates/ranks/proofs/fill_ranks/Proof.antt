@@ -38,9 +38,10 @@ add-loop c =
 
 note-four-requires : tie.Need-note-four-requires Inv-loop μ-loop
 note-four-requires c κs =
+    let at-count = c .before .before .before .before .before in
     let start = c .before .before .before .before .before .before .before in
     let l = c .before .before .loop in
-    (l .inv .0, omega (arith, decoded-length (now (start .args .recs)), start .good .0 .0, c .before .before .before .before .before .count .ensures), l .inv .2)
+    (l .inv .0, omega (arith, decoded-length (now (start .args .recs)), start .good .0 .0, at-count .count .ensures), l .inv .2)
 
 add-i : tie.Need-add-i Inv-loop μ-loop
 add-i c = omega arith
@@ -53,13 +54,17 @@ loop-again c = (c .note-four .ensures .1, omega arith, c .note-four .ensures .0)
 
 note-last-requires : tie.Need-note-last-requires Inv-loop μ-loop
 note-last-requires c κs =
+    let at-count = c .before .before .before .before .before in
     let start = c .before .before .before .before .before .before .before in
     let l = c .before .before .loop in
-    (l .inv .0, l .inv .1, omega (arith, decoded-length (now (start .args .recs)), start .good .0 .0, c .before .before .before .before .before .count .ensures), l .inv .2)
+    (l .inv .0, l .inv .1, omega (arith, decoded-length (now (start .args .recs)), start .good .0 .0, at-count .count .ensures), l .inv .2)
 
 returns : tie.Need-returns Inv-loop μ-loop
 unfolding ranksOf
-returns c = c .note-last .ensures ∙ ap (ranksUpto (decode (now (c .before .before .before .before .before .before .before .before .args .recs)))) (c .before .before .before .before .before .before .count .ensures)
+returns c =
+    let at-count = c .before .before .before .before .before .before in
+    let start = at-count .before .before in
+    c .note-last .ensures ∙ ap (ranksUpto (decode (now (start .args .recs)))) (at-count .count .ensures)
 
 pub fill-ranks-spec : {M : Type 1} → statement M
 fill-ranks-spec =

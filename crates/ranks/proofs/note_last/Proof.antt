@@ -30,7 +30,8 @@ loop-less c = omega arith
 
 loop-again : tie.Need-loop-again Inv-loop μ-loop
 loop-again c =
-    let l = c .before .before .before .before .before .loop in
+    let at-loop = c .before .before .before .before .before in
+    let l = at-loop .loop in
     let q = c .before .before .note-record in
     (omega (arith, q .ensures .1), omega arith, q .kept .1 .0 ∙ l .inv .2, q .ensures .0)
 
@@ -39,9 +40,10 @@ same-length c = c .before .loop .inv .2
 
 returns : tie.Need-returns Inv-loop μ-loop
 returns c =
+    let start = c .before .before .before .before in
     let l = c .before .loop in
-    let e : l .i ≡ c .before .before .before .before .args .n = omega arith in
-    l .inv .3 .ranks-are ∙ ap (ranksUpto (decode (now (c .before .before .before .before .args .recs)))) e
+    let e : l .i ≡ start .args .n = omega arith in
+    l .inv .3 .ranks-are ∙ ap (ranksUpto (decode (now (start .args .recs)))) e
 
 pub note-last-spec : {M : Type 1} → statement M
 note-last-spec = tie.close (tie.spec Inv-loop μ-loop loop-holds note-record-requires add-i loop-less loop-again same-length returns)

@@ -33,18 +33,20 @@ same-length c = search needs
 returns : tie.Need-returns
 unfolding begins
 returns c =
+    let at-event-at = c .before .before .before .before in
+    let at-kind-at = at-event-at .before in
     let start = c .before .before .before .before .before .before .before .before in
     let a = start .args in
     let tr = decode (now (a .recs)) in
     let p = start .pre .1 in
-    let k = c .before .before .before .before .before .kind-at .ensures in
-    let f = c .before .before .before .before .event-at .ensures in
+    let k = at-kind-at .kind-at .ensures in
+    let f = at-event-at .event-at .ensures in
     let n = c .before .before .note-rank in (
       record {
         ranks-are = n .ensures .1 ∙ simp (k, f, p .ranks-are, p .begins-are, ranks-more tr (a .i));
         begins-are = n .ensures .0 ∙ simp (k, p .begins-are, past-more tr (a .i));
       },
-      omega (arith, n .ensures .0, one-more (eqb (c .before .before .before .before .before .kind-at .result) 1) (a .found)),
+      omega (arith, n .ensures .0, one-more (eqb (at-kind-at .kind-at .result) 1) (a .found)),
     )
 
 pub note-record-spec : {M : Type 1} → statement M

@@ -32,11 +32,12 @@ same-length c = search needs
 
 returns-2 : tie.Need-returns-2
 returns-2 c =
+    let at-if = c .before .before .before .before in
     let at-event = c .before .before .before .before .before in
     let at-kind = at-event .before .before .before in
     let start = at-kind .before .before .before .before in
     keeps-read (start .pre .0) (start .pre .1) _ _ (at-event .before .cell-at .ensures) (at-event .event-at .ensures)
-    (sym (at-kind .kind-at .ensures) ∙ c .before .before .before .before .if2 .taken) (c .before .before .stamp .ensures)
+    (sym (at-kind .kind-at .ensures) ∙ at-if .if2 .taken) (c .before .before .stamp .ensures)
 
 stamp-requires-2 : tie.Need-stamp-requires-2
 stamp-requires-2 c κs = search needs

@@ -17,7 +17,9 @@ same-length : tie.Need-same-length
 same-length c = search needs
 
 returns : tie.Need-returns
-returns c = rw (c .before .before .before .before .before .if1 .taken, c .before .before .put-record .ensures, c .before .before .before .record-at .ensures)
+returns c =
+    let at-if = c .before .before .before .before .before in
+    rw (at-if .if1 .taken, c .before .before .put-record .ensures, c .before .before .before .record-at .ensures)
 
 returns-2 : tie.Need-returns-2
 returns-2 c = search needs

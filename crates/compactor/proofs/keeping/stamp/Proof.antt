@@ -17,7 +17,9 @@ same-length : tie.Need-same-length
 same-length c = search needs
 
 returns : tie.Need-returns
-returns c = (rw (c .before .before .before .before .before .get .ensures), c .before .before .put .ensures)
+returns c =
+    let at-get = c .before .before .before .before .before in
+    (rw (at-get .get .ensures), c .before .before .put .ensures)
 
 pub stamp-spec : {M : Type 1} → statement M
 stamp-spec = tie.close (tie.spec cast-at get-requires put-requires same-length returns)

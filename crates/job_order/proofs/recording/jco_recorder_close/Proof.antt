@@ -22,8 +22,10 @@ same-length c = search needs
 
 returns : tie.Need-returns
 returns c =
-    let ending = c .before .before .before .before .close-on in
-    closes _ _ _ _ (c .before .before .before .before .before .before .recorder-of .result) (c .before .before .before .before .before .before .recorder-of .ensures) (ending .result) _ _ _ (ending .ensures) (c .before .numbers-after .ensures) (c .closing .ensures .0) (c .closing .ensures .1) (c .closing .ensures .2)
+    let at-close-on = c .before .before .before .before in
+    let at-recorder-of = at-close-on .before .before in
+    let ending = at-close-on .close-on in
+    closes _ _ _ _ (at-recorder-of .recorder-of .result) (at-recorder-of .recorder-of .ensures) (ending .result) _ _ _ (ending .ensures) (c .before .numbers-after .ensures) (c .closing .ensures .0) (c .closing .ensures .1) (c .closing .ensures .2)
 
 pub jco-recorder-close-spec : {M : Type 1} → statement M
 jco-recorder-close-spec =

@@ -22,8 +22,10 @@ same-length c = search needs
 
 returns : tie.Need-returns
 returns c =
-    let stepping = c .before .before .before .before .step-on in
-    steps _ _ _ _ (c .before .before .before .before .before .before .recorder-of .result) (c .before .before .before .before .before .before .recorder-of .ensures) _ (stepping .result) _ _ (stepping .ensures) (c .before .numbers-after .ensures) (c .stepped .ensures .0) (c .stepped .ensures .1)
+    let at-step-on = c .before .before .before .before in
+    let at-recorder-of = at-step-on .before .before in
+    let stepping = at-step-on .step-on in
+    steps _ _ _ _ (at-recorder-of .recorder-of .result) (at-recorder-of .recorder-of .ensures) _ (stepping .result) _ _ (stepping .ensures) (c .before .numbers-after .ensures) (c .stepped .ensures .0) (c .stepped .ensures .1)
 
 pub jco-recorder-step-spec : {M : Type 1} → statement M
 jco-recorder-step-spec =

@@ -20,7 +20,9 @@ same-length : tie.Need-same-length
 same-length c = search needs
 
 returns : tie.Need-returns
-returns c = sym (set-out (now (c .before .before .before .before .before .args .hints)) (c .before .before .before .before .before .args .u) _ (c .if1 .taken))
+returns c =
+    let start = c .before .before .before .before .before in
+    sym (set-out (now (start .args .hints)) (start .args .u) _ (c .if1 .taken))
 
 mul-if2 : tie.Need-mul-if2
 mul-if2 c = search needs

@@ -45,7 +45,8 @@ loop-less c = omega arith
 
 loop-again : tie.Need-loop-again Inv-loop μ-loop
 loop-again c =
-    let l = c .before .before .before .before .loop in
+    let at-loop = c .before .before .before .before in
+    let l = at-loop .loop in
     ⊎-elim (λ w. (omega arith, omega (arith, w .1), λ z k h e. omega (arith, w .1)))
     (λ w. (omega arith, omega (arith, w .1, l .inv .1), λ z. below-more _ _ (l .inv .2 (omega (arith, w .1))) (w .0 .left))) (c .if1 .came)
 

@@ -45,7 +45,9 @@ choose-near-requires : tie.Need-choose-near-requires Inv-loop μ-loop
 choose-near-requires c κs = omega arith
 
 returns : tie.Need-returns Inv-loop μ-loop
-returns c = c .choose-near .ensures ∙ c .before .before .before .before .loop .inv .1
+returns c =
+    let at-loop = c .before .before .before .before in
+    c .choose-near .ensures ∙ at-loop .loop .inv .1
 
 add-c : tie.Need-add-c Inv-loop μ-loop
 add-c c = omega arith

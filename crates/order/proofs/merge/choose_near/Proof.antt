@@ -35,7 +35,9 @@ shared-slice-read-if1-2 : tie.Need-shared-slice-read-if1-2 Inv-loop μ-loop
 shared-slice-read-if1-2 c = omega arith
 
 returns : tie.Need-returns Inv-loop μ-loop
-returns c = sym (first-hit _ _ _ (omega arith) (eq-eqb _ _ (c .if1 .taken))) ∙ c .before .before .before .before .loop .inv .1
+returns c =
+    let at-loop = c .before .before .before .before in
+    sym (first-hit _ _ _ (omega arith) (eq-eqb _ _ (c .if1 .taken))) ∙ at-loop .loop .inv .1
 
 add-c : tie.Need-add-c Inv-loop μ-loop
 add-c c = omega arith
@@ -44,7 +46,9 @@ loop-less : tie.Need-loop-less Inv-loop μ-loop
 loop-less c = omega arith
 
 loop-again : tie.Need-loop-again Inv-loop μ-loop
-loop-again c = (omega arith, sym (first-miss _ _ _ (omega arith) (ne-eqb _ _ (c .if1 .left))) ∙ c .before .before .before .before .loop .inv .1)
+loop-again c =
+    let at-loop = c .before .before .before .before in
+    (omega arith, sym (first-miss _ _ _ (omega arith) (ne-eqb _ _ (c .if1 .left))) ∙ at-loop .loop .inv .1)
 
 returns-2 : tie.Need-returns-2 Inv-loop μ-loop
 returns-2 c = sym (first-over _ _ _ (omega arith)) ∙ c .before .loop .inv .1

@@ -62,7 +62,10 @@ slice-read-sizes c = search needs
 
 add-sizes : tie.Need-add-sizes
 add-sizes c =
-    let f = c .before .before .before .before .before .before .before .before .before .before .before .before .before .pre .few-members (c .before .before .before .before .before .before .choose-hinted .result) (c .before .before .before .before .before .if1 .left) in
+    let at-if = c .before .before .before .before .before in
+    let at-choose-hinted = at-if .before in
+    let start = at-choose-hinted .before .before .before .before .before .before .before in
+    let f = start .pre .few-members (at-choose-hinted .choose-hinted .result) (at-if .if1 .left) in
     omega arith
 
 slice-write-sizes : tie.Need-slice-write-sizes
@@ -92,14 +95,17 @@ same-length-5 c = search needs
 returns-2 : tie.Need-returns-2
 unfolding enterRow
 returns-2 c =
-    let q = c .before .before .before .before .before .before .before .choose-hinted in
-    let f = c .before .before .before .before .before .before .if1 .left in
+    let at-add-one = c .before .before .before .before in
+    let at-if = at-add-one .before .before in
+    let at-choose-hinted = at-if .before in
+    let q = at-choose-hinted .choose-hinted in
+    let f = at-if .if1 .left in
     let a = c .before .before .before .before .before .before .before .before .before .before .before .before .before .before in
     let p = part-entry (a .args .width) (a .args .u) (q .result) (now (a .args .clocks)) (a .pre .room .row) f in
     rw (← q .ensures, lt-leb _ _ f)
     (record {
       clocks-are = ticked-part (a .args .width) (a .args .u) (q .result) (now (a .args .clocks)) _ (a .pre .room .row) f
-          (one-more _ (q .result) (p .0) (rw (p .1) (a .pre .few-entries (q .result) f)) (c .before .before .before .before .add-one .ensures));
+          (one-more _ (q .result) (p .0) (rw (p .1) (a .pre .few-entries (q .result) f)) (at-add-one .add-one .ensures));
       sizes-are = refl;
       chosen-are = refl;
       chains-are = omega arith;
@@ -117,14 +123,17 @@ same-length-8 c = search needs
 returns-3 : tie.Need-returns-3
 unfolding enterRow
 returns-3 c =
-    let q = c .before .before .before .before .before .before .before .choose-hinted in
-    let f = c .before .before .before .before .before .before .if1 .left in
+    let at-add-one = c .before .before .before .before in
+    let at-if = at-add-one .before .before in
+    let at-choose-hinted = at-if .before in
+    let q = at-choose-hinted .choose-hinted in
+    let f = at-if .if1 .left in
     let a = c .before .before .before .before .before .before .before .before .before .before .before .before .before .before in
     let p = part-entry (a .args .width) (a .args .u) (q .result) (now (a .args .clocks)) (a .pre .room .row) f in
     rw (← q .ensures, lt-leb _ _ f)
     (record {
       clocks-are = ticked-part (a .args .width) (a .args .u) (q .result) (now (a .args .clocks)) _ (a .pre .room .row) f
-          (one-more _ (q .result) (p .0) (rw (p .1) (a .pre .few-entries (q .result) f)) (c .before .before .before .before .add-one .ensures));
+          (one-more _ (q .result) (p .0) (rw (p .1) (a .pre .few-entries (q .result) f)) (at-add-one .add-one .ensures));
       sizes-are = refl;
       chosen-are = refl;
       chains-are = omega arith;

@@ -21,7 +21,9 @@ same-length : tie.Need-same-length
 same-length c = search needs
 
 returns : tie.Need-returns
-returns c = rw (eq-eqb _ 0 (c .before .before .before .before .if1 .taken)) (c .before .before .clear-row .ensures)
+returns c =
+    let at-if = c .before .before .before .before in
+    rw (eq-eqb _ 0 (at-if .if1 .taken)) (c .before .before .clear-row .ensures)
 
 returns-2 : tie.Need-returns-2
 returns-2 c = rw (ne-eqb _ 0 (c .if1 .left))

@@ -27,8 +27,10 @@ slice-aggregate-pass c = search needs
 
 pass-requires : tie.Need-pass-requires
 pass-requires c κs =
+    let at-numbers- = c .before .before .before .before .before in
+    let at-fill-ranks = at-numbers- .before in
     let a = c .before .before .before .before .before .before .before .before .before .before .before in
-    ready _ (a .pre .0) _ _ (a .pre .1) (now (a .args .clocks)) (a .pre .2) _ _ _ (c .before .before .before .before .before .before .fill-ranks .ensures) (c .before .before .before .before .before .numbers-1024 .ensures) (a .pre .3)
+    ready _ (a .pre .0) _ _ (a .pre .1) (now (a .args .clocks)) (a .pre .2) _ _ _ (at-fill-ranks .fill-ranks .ensures) (at-numbers- .numbers-1024 .ensures) (a .pre .3)
 
 count-requires : tie.Need-count-requires
 count-requires c κs = search needs
@@ -37,13 +39,20 @@ clear-rows-requires : tie.Need-clear-rows-requires
 clear-rows-requires c κs = search needs
 
 clear-requires : tie.Need-clear-requires
-clear-requires c κs = omega (arith, c .before .before .before .before .before .before .before .before .before .before .before .before .pass .kept .1 .1 .1 .1 .1 .0, ap length (c .before .before .before .before .before .before .before .before .before .before .before .before .before .before .before .before .before .before .before .before .before .before .before .before .pre .3), zeros-length 1024)
+clear-requires c κs =
+    let at-pass = c .before .before .before .before .before .before .before .before .before .before .before .before in
+    let start = at-pass .before .before .before .before .before .before .before .before .before .before .before .before in
+    omega (arith, at-pass .pass .kept .1 .1 .1 .1 .1 .0, ap length (start .pre .3), zeros-length 1024)
 
 add-t29 : tie.Need-add-t29
 add-t29 c = search needs
 
 cast-t30 : tie.Need-cast-t30
-cast-t30 c = omega (arith, c .before .before .before .before .before .before .before .before .before .before .before .before .before .before .before .before .before .before .before .before .before .before .before .before .before .before .before .pre .0 .few, c .before .before .before .before .before .before .before .before .before .count .ensures, c .before .before .before .before .before .before .before .before .if1 .taken)
+cast-t30 c =
+    let at-if = c .before .before .before .before .before .before .before .before in
+    let at-count = at-if .before in
+    let start = at-count .before .before .before .before .before .before .before .before .before .before .before .before .before .before .before .before .before .before in
+    omega (arith, start .pre .0 .few, at-count .count .ensures, at-if .if1 .taken)
 
 same-length : tie.Need-same-length
 same-length c = search needs
@@ -53,12 +62,17 @@ same-length-2 c = search needs
 
 returns : tie.Need-returns
 returns c =
+    let at-clear-rows = c .before .before .before .before .before .before in
+    let at-if = at-clear-rows .before .before in
+    let at-count = at-if .before in
+    let at-pass = at-count .before .before .before .before .before .before in
+    let at-fill-ranks = at-pass .before .before .before .before .before .before .before in
     let a = c .before .before .before .before .before .before .before .before .before .before .before .before .before .before .before .before .before .before .before .before .before .before .before .before .before .before .before in
-    let p = c .before .before .before .before .before .before .before .before .before .before .before .before .before .before .before .pass in
-    let h : p .result .position < length (decode (now (a .args .recs))) = omega (arith, c .before .before .before .before .before .before .before .before .before .count .ensures, c .before .before .before .before .before .before .before .before .if1 .taken) in
+    let p = at-pass .pass in
+    let h : p .result .position < length (decode (now (a .args .recs))) = omega (arith, at-count .count .ensures, at-if .if1 .taken) in
     let o = cleared-whole (p .last .1 .1 .1 .1 .1 .0) (sym (p .kept .1 .1 .1 .1 .1 .0 ∙ (ap length (a .pre .3) ∙ zeros-length 1024))) (c .before .before .clear .ensures) in
-    ends-short _ (a .pre .0) _ _ (a .pre .1) (now (a .args .clocks)) (a .pre .2) _ _ _ _ (p .ensures) h _ _ _ (p .kept .1 .1 .0) (c .before .before .before .before .before .before .clear-rows .ensures) o
-    (c .before .before .before .before .before .before .before .before .before .before .before .before .before .before .before .before .before .before .before .before .before .before .fill-ranks .ensures) _ refl
+    ends-short _ (a .pre .0) _ _ (a .pre .1) (now (a .args .clocks)) (a .pre .2) _ _ _ _ (p .ensures) h _ _ _ (p .kept .1 .1 .0) (at-clear-rows .clear-rows .ensures) o
+    (at-fill-ranks .fill-ranks .ensures) _ refl
 
 same-length-3 : tie.Need-same-length-3
 same-length-3 c = search needs
@@ -68,10 +82,12 @@ same-length-4 c = search needs
 
 returns-2 : tie.Need-returns-2
 returns-2 c =
+    let at-pass = c .before .before .before .before .before .before .before in
+    let at-fill-ranks = at-pass .before .before .before .before .before .before .before in
     let a = c .before .before .before .before .before .before .before .before .before .before .before .before .before .before .before .before .before .before .before in
-    let p = c .before .before .before .before .before .before .before .pass in
+    let p = at-pass .pass in
     let h : length (decode (now (a .args .recs))) ≤ p .result .position = omega (arith, c .before .count .ensures, c .if1 .left) in
-    ends-whole _ (a .pre .0) _ _ (a .pre .1) (now (a .args .clocks)) (a .pre .2) _ _ _ _ (p .ensures) h _ (c .before .before .before .before .before .before .before .before .before .before .before .before .before .before .fill-ranks .ensures) _ refl
+    ends-whole _ (a .pre .0) _ _ (a .pre .1) (now (a .args .clocks)) (a .pre .2) _ _ _ _ (p .ensures) h _ (at-fill-ranks .fill-ranks .ensures) _ refl
 
 pub fill-rows-spec : {M : Type 1} → statement M
 fill-rows-spec =

@@ -22,35 +22,58 @@ count-requires : tie.Need-count-requires Inv-loop μ-loop
 count-requires c κs = search needs
 
 loop-holds : tie.Need-loop-holds Inv-loop μ-loop
-loop-holds c = (going-start _ _ _ _ _ _ (c .before .before .before .before .before .before .pre), refl, refl, refl)
+loop-holds c =
+    let start = c .before .before .before .before .before .before in
+    (going-start _ _ _ _ _ _ (start .pre), refl, refl, refl)
 
 clear-fresh-requires : tie.Need-clear-fresh-requires Inv-loop μ-loop
 clear-fresh-requires c κs =
+    let at-count = c .before .before .before .before in
+    let start = at-count .before .before .before .before .before .before in
     let l = c .before .before .before .loop in
-    let less : l .i < length (decode (now (c .before .before .before .before .before .before .before .before .before .before .args .recs))) = omega (arith, c .before .before .before .before .count .ensures) in
+    let less : l .i < length (decode (now (start .args .recs))) = omega (arith, at-count .count .ensures) in
     let u = going-row _ _ _ _ (l .inv .0) less in
     (omega (arith, going-size _ _ _ _ (l .inv .0)), omega arith)
 
 begin-row-requires : tie.Need-begin-row-requires Inv-loop μ-loop
 begin-row-requires c κs =
-    let l = c .before .before .before .before .before .before .before .before .before .loop in
-    let less : l .i < length (decode (now (c .before .before .before .before .before .before .before .before .before .before .before .before .before .before .before .before .args .recs))) = omega (arith, c .before .before .before .before .before .before .before .before .before .before .count .ensures) in
-    going-room _ _ _ _ (l .inv .0) less _ (c .before .before .before .before .before .clear-fresh .ensures)
+    let at-clear-fresh = c .before .before .before .before .before in
+    let at-loop = at-clear-fresh .before .before .before .before in
+    let at-count = at-loop .before in
+    let start = at-count .before .before .before .before .before .before in
+    let l = at-loop .loop in
+    let less : l .i < length (decode (now (start .args .recs))) = omega (arith, at-count .count .ensures) in
+    going-room _ _ _ _ (l .inv .0) less _ (at-clear-fresh .clear-fresh .ensures)
 
 same-length : tie.Need-same-length Inv-loop μ-loop
-same-length c = c .before .before .before .before .before .before .before .begin-row .kept .0 ∙ (c .before .before .before .before .before .before .before .before .before .before .before .before .before .clear-fresh .kept .0 ∙ c .before .before .before .before .before .before .before .before .before .before .before .before .before .before .before .before .before .loop .inv .1)
+same-length c =
+    let at-begin-row = c .before .before .before .before .before .before .before in
+    let at-clear-fresh = at-begin-row .before .before .before .before .before .before in
+    let at-loop = at-clear-fresh .before .before .before .before in
+    at-begin-row .begin-row .kept .0 ∙ (at-clear-fresh .clear-fresh .kept .0 ∙ at-loop .loop .inv .1)
 
 same-length-2 : tie.Need-same-length-2 Inv-loop μ-loop
-same-length-2 c = c .before .before .before .before .before .before .before .begin-row .kept .1 .1 .1 .0 ∙ c .before .before .before .before .before .before .before .before .before .before .before .before .before .before .before .before .before .loop .inv .2
+same-length-2 c =
+    let at-begin-row = c .before .before .before .before .before .before .before in
+    let at-loop = at-begin-row .before .before .before .before .before .before .before .before .before .before in
+    at-begin-row .begin-row .kept .1 .1 .1 .0 ∙ at-loop .loop .inv .2
 
 same-length-3 : tie.Need-same-length-3 Inv-loop μ-loop
-same-length-3 c = c .before .before .before .before .before .before .before .begin-row .kept .1 .1 .1 .1 .0 ∙ c .before .before .before .before .before .before .before .before .before .before .before .before .before .before .before .before .before .loop .inv .3
+same-length-3 c =
+    let at-begin-row = c .before .before .before .before .before .before .before in
+    let at-loop = at-begin-row .before .before .before .before .before .before .before .before .before .before in
+    at-begin-row .begin-row .kept .1 .1 .1 .1 .0 ∙ at-loop .loop .inv .3
 
 returns : tie.Need-returns Inv-loop μ-loop
 returns c =
-    let l = c .before .before .before .before .before .before .before .before .before .before .before .before .before .before .before .before .before .loop in
-    let less : l .i < length (decode (now (c .before .before .before .before .before .before .before .before .before .before .before .before .before .before .before .before .before .before .before .before .before .before .before .before .args .recs))) = omega (arith, c .before .before .before .before .before .before .before .before .before .before .before .before .before .before .before .before .before .before .count .ensures) in
-    going-stop _ _ _ _ (l .inv .0) less _ (c .before .before .before .before .before .before .before .before .before .before .before .before .before .clear-fresh .ensures) _ _ _ _ (c .before .before .before .before .before .before .before .begin-row .ensures) (c .if1 .taken)
+    let at-begin-row = c .before .before .before .before .before .before .before in
+    let at-clear-fresh = at-begin-row .before .before .before .before .before .before in
+    let at-loop = at-clear-fresh .before .before .before .before in
+    let at-count = at-loop .before in
+    let start = at-count .before .before .before .before .before .before in
+    let l = at-loop .loop in
+    let less : l .i < length (decode (now (start .args .recs))) = omega (arith, at-count .count .ensures) in
+    going-stop _ _ _ _ (l .inv .0) less _ (at-clear-fresh .clear-fresh .ensures) _ _ _ _ (at-begin-row .begin-row .ensures) (c .if1 .taken)
 
 add-pass-links : tie.Need-add-pass-links Inv-loop μ-loop
 add-pass-links c = omega arith
@@ -66,20 +89,32 @@ add-u c =
 
 loop-less : tie.Need-loop-less Inv-loop μ-loop
 loop-less c =
-    let l = c .before .before .before .before .before .before .before .before .before .before .before .before .before .before .before .before .before .before .before .before .before .before .before .before .loop in
-    let less : l .i < length (decode (now (c .before .before .before .before .before .before .before .before .before .before .before .before .before .before .before .before .before .before .before .before .before .before .before .before .before .before .before .before .before .before .before .args .recs))) = omega (arith, c .before .before .before .before .before .before .before .before .before .before .before .before .before .before .before .before .before .before .before .before .before .before .before .before .before .count .ensures) in
+    let at-pass-links = c .before .before .before .before in
+    let at-if = at-pass-links .before .before .before in
+    let at-clear-fresh = at-if .before .before .before .before .before .before .before .before .before .before .before .before .before in
+    let at-loop = at-clear-fresh .before .before .before .before in
+    let at-count = at-loop .before in
+    let start = at-count .before .before .before .before .before .before in
+    let l = at-loop .loop in
+    let less : l .i < length (decode (now (start .args .recs))) = omega (arith, at-count .count .ensures) in
     let b = c .before .before .before .before .before .before .before .before .before .before .before .before .before .before in
-    let on = going-on _ _ _ _ (l .inv .0) less _ (c .before .before .before .before .before .before .before .before .before .before .before .before .before .before .before .before .before .before .before .before .clear-fresh .ensures) _ _ _ _ (b .begin-row .ensures) (c .before .before .before .before .before .before .before .if1 .left) _ _ _ (c .before .before .before .before .pass-links .ensures) in
-    omega (arith, on, c .before .before .before .before .before .before .before .before .before .before .before .before .before .before .before .before .before .before .before .before .before .before .before .before .before .count .ensures)
+    let on = going-on _ _ _ _ (l .inv .0) less _ (at-clear-fresh .clear-fresh .ensures) _ _ _ _ (b .begin-row .ensures) (at-if .if1 .left) _ _ _ (at-pass-links .pass-links .ensures) in
+    omega (arith, on, at-count .count .ensures)
 
 loop-again : tie.Need-loop-again Inv-loop μ-loop
 loop-again c =
-    let l = c .before .before .before .before .before .before .before .before .before .before .before .before .before .before .before .before .before .before .before .before .before .before .before .before .loop in
-    let less : l .i < length (decode (now (c .before .before .before .before .before .before .before .before .before .before .before .before .before .before .before .before .before .before .before .before .before .before .before .before .before .before .before .before .before .before .before .args .recs))) = omega (arith, c .before .before .before .before .before .before .before .before .before .before .before .before .before .before .before .before .before .before .before .before .before .before .before .before .before .count .ensures) in
+    let at-pass-links = c .before .before .before .before in
+    let at-if = at-pass-links .before .before .before in
+    let at-clear-fresh = at-if .before .before .before .before .before .before .before .before .before .before .before .before .before in
+    let at-loop = at-clear-fresh .before .before .before .before in
+    let at-count = at-loop .before in
+    let start = at-count .before .before .before .before .before .before in
+    let l = at-loop .loop in
+    let less : l .i < length (decode (now (start .args .recs))) = omega (arith, at-count .count .ensures) in
     let b = c .before .before .before .before .before .before .before .before .before .before .before .before .before .before in
-    let f = c .before .before .before .before .before .before .before .before .before .before .before .before .before .before .before .before .before .before .before .before .clear-fresh in
-    let x = c .before .before .before .before .pass-links in (
-      going-next _ _ _ _ (l .inv .0) less _ (f .ensures) _ _ _ _ (b .begin-row .ensures) (c .before .before .before .before .before .before .before .if1 .left) _ _ _ (x .ensures),
+    let f = at-clear-fresh .clear-fresh in
+    let x = at-pass-links .pass-links in (
+      going-next _ _ _ _ (l .inv .0) less _ (f .ensures) _ _ _ _ (b .begin-row .ensures) (at-if .if1 .left) _ _ _ (x .ensures),
       x .kept .1 .1 .1 .1 .0 ∙ (b .begin-row .kept .0 ∙ (f .kept .0 ∙ l .inv .1)),
       b .begin-row .kept .1 .1 .1 .0 ∙ l .inv .2,
       x .kept .1 .1 .1 .1 .1 .0 ∙ (b .begin-row .kept .1 .1 .1 .1 .0 ∙ l .inv .3),
@@ -96,7 +131,8 @@ same-length-6 c = c .before .loop .inv .3
 
 returns-2 : tie.Need-returns-2 Inv-loop μ-loop
 returns-2 c =
-    let more : length (decode (now (c .before .before .before .before .before .before .before .before .args .recs))) ≤ c .before .loop .i = omega (arith, c .before .before .count .ensures) in
+    let start = c .before .before .before .before .before .before .before .before in
+    let more : length (decode (now (start .args .recs))) ≤ c .before .loop .i = omega (arith, c .before .before .count .ensures) in
     going-end _ _ _ _ (c .before .loop .inv .0) more
 
 pub pass-spec : {M : Type 1} → statement M

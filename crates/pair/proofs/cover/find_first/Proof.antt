@@ -49,9 +49,12 @@ next-access-requires c κs = search needs
 
 loop-holds : tie.Need-loop-holds Inv-loop μ-loop
 loop-holds c =
+    let at-row-at = c .before .before .before .before .before in
+    let at-if = at-row-at .before in
+    let at-kind-at = at-if .before in
     let s = c .before .before .before .before .before .before .before .before .before .before .before .before .before in
-    let k = c .before .before .before .before .before .before .before .kind-at .ensures in
-    λ f i. along-start f (s .args .lo) (s .args .t) (s .args .d) i (c .before .before .cell-at .ensures) (c .before .least-kind .ensures ∙ ap leastKind k) (omega (arith, c .before .before .before .before .before .before .if1 .left)) (c .before .before .before .before .before .row-at .ensures) (c .before .before .before .if2 .left) (c .next-access .ensures .next (s .pre .1 .2) (omega (arith, s .pre .1 .3)))
+    let k = at-kind-at .kind-at .ensures in
+    λ f i. along-start f (s .args .lo) (s .args .t) (s .args .d) i (c .before .before .cell-at .ensures) (c .before .least-kind .ensures ∙ ap leastKind k) (omega (arith, at-if .if1 .left)) (at-row-at .row-at .ensures) (c .before .before .before .if2 .left) (c .next-access .ensures .next (s .pre .1 .2) (omega (arith, s .pre .1 .3)))
 
 row-at-requires-2 : tie.Need-row-at-requires-2 Inv-loop μ-loop
 row-at-requires-2 c κs = search needs
@@ -63,8 +66,9 @@ leads-on-requires c κs =
 
 returns-3 : tie.Need-returns-3 Inv-loop μ-loop
 returns-3 c =
+    let at-loop = c .before .before .before .before in
     let s = c .before .before .before .before .before .before .before .before .before .before .before .before .before .before .before .before .before .before in
-    along-found (s .pre .0) (s .args .lo) (s .args .t) (s .args .d) (s .pre .1 .3) (c .before .before .before .before .loop .inv (s .pre .0) (s .pre .1 .3)) (c .before .before .before .loop-test .taken) (c .before .before .row-at2 .ensures) (sym (c .before .leads-on .ensures) ∙ c .if3 .taken)
+    along-found (s .pre .0) (s .args .lo) (s .args .t) (s .args .d) (s .pre .1 .3) (at-loop .loop .inv (s .pre .0) (s .pre .1 .3)) (c .before .before .before .loop-test .taken) (c .before .before .row-at2 .ensures) (sym (c .before .leads-on .ensures) ∙ c .if3 .taken)
 
 add-next-access : tie.Need-add-next-access Inv-loop μ-loop
 add-next-access c = let s = c .before .before .before .before .before .before .before .before .before .before .before .before .before .before .before .before .before .before in omega (arith, c .before .before .before .loop-test .taken, s .pre .1 .3, s .pre .0 .acceptable .few)
@@ -74,14 +78,18 @@ next-access-requires-2 c κs = search needs
 
 loop-less : tie.Need-loop-less Inv-loop μ-loop
 loop-less c =
+    let at-loop-test = c .before .before .before .before in
     let s = c .before .before .before .before .before .before .before .before .before .before .before .before .before .before .before .before .before .before .before in
-    let t = c .before .before .before .before .loop-test .taken in
+    let t = at-loop-test .loop-test .taken in
     omega (arith, t, c .next-access2 .ensures .next (omega (arith, t)) (omega (arith, s .pre .1 .3)) .past .low)
 
 loop-again : tie.Need-loop-again Inv-loop μ-loop
-loop-again c = λ f i.
+loop-again c =
+    let at-loop-test = c .before .before .before .before in
+    let at-loop = at-loop-test .before in
+    λ f i.
     let s = c .before .before .before .before .before .before .before .before .before .before .before .before .before .before .before .before .before .before .before in
-    along-next f (s .args .lo) (s .args .t) (s .args .d) i (c .before .before .before .before .before .loop .inv f i) (c .before .before .before .before .loop-test .taken) (c .before .before .before .row-at2 .ensures) (sym (c .before .before .leads-on .ensures) ∙ c .before .if3 .left) (c .next-access2 .ensures .next (omega (arith, c .before .before .before .before .loop-test .taken)) (omega (arith, s .pre .1 .3)))
+    along-next f (s .args .lo) (s .args .t) (s .args .d) i (at-loop .loop .inv f i) (at-loop-test .loop-test .taken) (c .before .before .before .row-at2 .ensures) (sym (c .before .before .leads-on .ensures) ∙ c .before .if3 .left) (c .next-access2 .ensures .next (omega (arith, at-loop-test .loop-test .taken)) (omega (arith, s .pre .1 .3)))
 
 returns-4 : tie.Need-returns-4 Inv-loop μ-loop
 returns-4 c =

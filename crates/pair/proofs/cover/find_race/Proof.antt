@@ -38,9 +38,10 @@ find-first-requires c κs =
 
 returns : tie.Need-returns Inv-loop μ-loop
 returns c =
+    let at-row-at = c .before .before .before .before in
     let s = c .before .before .before .before .before .before .before .before .before .before .before in
     let h : s .args .t < length (decode (now (s .args .recs))) = omega (arith, s .pre .1 .below, s .pre .0 .1 .inside) in
-    next-found (s .pre .0 .0 .acceptable) (s .args .b) (s .pre .0 .1 .inside) (s .args .t) _ (c .before .before .before .loop .d) (c .before .find-first .result) (c .before .before .loop-test .taken) (c .if1 .taken) (c .before .find-first .ensures (s .args .b) (s .args .t) (s .pre .0 .1) h (row-told (s .pre .0 .0) (s .args .t) h (c .before .before .before .before .row-at .ensures)))
+    next-found (s .pre .0 .0 .acceptable) (s .args .b) (s .pre .0 .1 .inside) (s .args .t) _ (c .before .before .before .loop .d) (c .before .find-first .result) (c .before .before .loop-test .taken) (c .if1 .taken) (c .before .find-first .ensures (s .args .b) (s .args .t) (s .pre .0 .1) h (row-told (s .pre .0 .0) (s .args .t) h (at-row-at .row-at .ensures)))
 
 add-d : tie.Need-add-d Inv-loop μ-loop
 add-d c = let s = c .before .before .before .before .before .before .before .before .before .before .before in omega (arith, c .before .before .loop-test .taken, s .pre .0 .1 .inside, s .pre .0 .0 .acceptable .few)
@@ -50,10 +51,11 @@ loop-less c = omega (arith, c .before .before .loop-test .taken)
 
 loop-again : tie.Need-loop-again Inv-loop μ-loop
 loop-again c =
+    let at-row-at = c .before .before .before .before in
     let s = c .before .before .before .before .before .before .before .before .before .before .before in
     let l = c .before .before .before .loop in
     let h : s .args .t < length (decode (now (s .args .recs))) = omega (arith, s .pre .1 .below, s .pre .0 .1 .inside) in
-    (omega (arith, l .inv .0), no-race-next (s .pre .0 .0 .acceptable) (s .args .b) (s .pre .0 .1 .inside) (s .args .t) _ (l .d) (c .before .find-first .result) (c .if1 .left) (c .before .find-first .ensures (s .args .b) (s .args .t) (s .pre .0 .1) h (row-told (s .pre .0 .0) (s .args .t) h (c .before .before .before .before .row-at .ensures))) (l .inv .1))
+    (omega (arith, l .inv .0), no-race-next (s .pre .0 .0 .acceptable) (s .args .b) (s .pre .0 .1 .inside) (s .args .t) _ (l .d) (c .before .find-first .result) (c .if1 .left) (c .before .find-first .ensures (s .args .b) (s .args .t) (s .pre .0 .1) h (row-told (s .pre .0 .0) (s .args .t) h (at-row-at .row-at .ensures))) (l .inv .1))
 
 returns-2 : tie.Need-returns-2 Inv-loop μ-loop
 returns-2 c =

@@ -29,10 +29,11 @@ event-at-requires-2 c κs = search needs
 
 returns : tie.Need-returns Inv-loop μ-loop
 returns c =
+    let at-loop-test = c .before .before .before .before in
     let at-loop = c .before .before .before .before .before in
     let at-event-at = at-loop .before in
     let start = at-event-at .before .before in
-    one-parted (decode (now (start .args .recs))) (start .args .i) (at-loop .loop .lo) (c .before .before .before .before .loop-test .taken) (λ e. c .if1 .taken (c .before .before .before .event-at2 .ensures ∙ e ∙ sym (at-event-at .event-at .ensures))) (at-loop .loop .inv)
+    one-parted (decode (now (start .args .recs))) (start .args .i) (at-loop .loop .lo) (at-loop-test .loop-test .taken) (λ e. c .if1 .taken (c .before .before .before .event-at2 .ensures ∙ e ∙ sym (at-event-at .event-at .ensures))) (at-loop .loop .inv)
 
 sub-lo : tie.Need-sub-lo Inv-loop μ-loop
 sub-lo c = omega arith
@@ -42,13 +43,16 @@ loop-less c = omega arith
 
 loop-again : tie.Need-loop-again Inv-loop μ-loop
 loop-again c =
+    let at-loop-test = c .before .before .before .before in
     let at-loop = c .before .before .before .before .before in
     let at-event-at = at-loop .before in
     let start = at-event-at .before .before in
-    one-more (decode (now (start .args .recs))) (start .args .i) (at-loop .loop .lo) (c .before .before .before .before .loop-test .taken) (sym (c .before .before .before .event-at2 .ensures) ∙ c .if1 .left ∙ at-event-at .event-at .ensures) (at-loop .loop .inv)
+    one-more (decode (now (start .args .recs))) (start .args .i) (at-loop .loop .lo) (at-loop-test .loop-test .taken) (sym (c .before .before .before .event-at2 .ensures) ∙ c .if1 .left ∙ at-event-at .event-at .ensures) (at-loop .loop .inv)
 
 returns-2 : tie.Need-returns-2 Inv-loop μ-loop
-returns-2 c = one-first (decode (now (c .before .before .before .before .args .recs))) (c .before .before .before .before .args .i) (c .before .loop .lo) (c .loop-test .left) (c .before .loop .inv)
+returns-2 c =
+    let start = c .before .before .before .before in
+    one-first (decode (now (start .args .recs))) (start .args .i) (c .before .loop .lo) (c .loop-test .left) (c .before .loop .inv)
 
 pub block-start-spec : {M : Type 1} → statement M
 block-start-spec =

@@ -34,13 +34,15 @@ shared-slice-read-result c =
 
 add-result : tie.Need-add-result
 add-result c =
+    let at-kind-at = c .before .before .before .before in
     let s = c .before .before .before .before .before .before .before in
-    omega (arith, c .before .before .before .before .kind-at .ensures, kind-high (s .pre .0) (s .args .i) (s .pre .2), s .pre .1 .low (c .before .before .cell-at .result .0))
+    omega (arith, at-kind-at .kind-at .ensures, kind-high (s .pre .0) (s .args .i) (s .pre .2), s .pre .1 .low (c .before .before .cell-at .result .0))
 
 returns-2 : tie.Need-returns-2
 returns-2 c =
+    let at-kind-at = c .before .before .before .before in
     let s = c .before .before .before .before .before .before .before in
-    let k = c .before .before .before .before .kind-at in
+    let k = at-kind-at .kind-at in
     let x = c .before .before .cell-at in
     ap₂ (λ m n. ltb 6 (m + getD (now (s .args .cells)) n 0)) (k .ensures) (x .ensures)
     ∙ sym (clash-is (decode (now (s .args .recs))) (now (s .args .cells)) (s .args .i) (omega (arith, k .ensures, c .before .before .before .if1 .left)))

@@ -33,7 +33,9 @@ slice-aggregate-note : tie.Need-slice-aggregate-note
 slice-aggregate-note c = search needs
 
 note-requires : tie.Need-note-requires
-note-requires c κs = let s = c .before .before .before .before .before .before .before .before .before .before .before .before .before .before .before .before in (s .pre .filled .acceptable, c .before .block-start .ensures .low, omega (arith, in-trace (s .pre)), rw (c .before .before .before .before .before .before .before .before .before .before .bytes-1025 .ensures) none-bytes)
+note-requires c κs =
+    let at-bytes- = c .before .before .before .before .before .before .before .before .before .before in
+    let s = c .before .before .before .before .before .before .before .before .before .before .before .before .before .before .before .before in (s .pre .filled .acceptable, c .before .block-start .ensures .low, omega (arith, in-trace (s .pre)), rw (at-bytes- .bytes-1025 .ensures) none-bytes)
 
 slice-write-work : tie.Need-slice-write-work
 slice-write-work c = let s = c .before .before .before .before .before .before .before .before .before .before .before .before .before .before .before .before .before .before in omega (arith, start-bounds (s .pre), s .pre .clear .work-room)
@@ -43,20 +45,33 @@ slice-aggregate-pass-down c = search needs
 
 pass-down-requires : tie.Need-pass-down-requires
 pass-down-requires c κs =
+    let at-note = c .before .before .before .before in
+    let at-block-start = at-note .before .before in
+    let at-merge-into = at-block-start .before .before .before in
+    let at-clear = at-merge-into .before .before .before .before in
+    let at-bytes- = at-clear .before .before in
     let s = c .before .before .before .before .before .before .before .before .before .before .before .before .before .before .before .before .before .before .before .before .before in
-    let e = ap length (cleared-whole (now (s .args .row)) refl (c .before .before .before .before .before .before .before .before .before .before .before .before .before .clear .ensures)) ∙ zeros-length (length (now (s .args .row))) in
-    (start-passing (s .pre) (c .before .before .before .before .before .before .before .before .before .before .before .before .before .before .before .bytes-1025 .ensures) (c .before .before .before .before .note .ensures) _ (c .before .before .before .before .before .before .before .before .before .merge-into .ensures .size ∙ e), (start-split (s .pre) (c .before .before .before .before .before .before .block-start .ensures), omega (arith, start-bounds (s .pre))))
+    let e = ap length (cleared-whole (now (s .args .row)) refl (at-clear .clear .ensures)) ∙ zeros-length (length (now (s .args .row))) in
+    (start-passing (s .pre) (at-bytes- .bytes-1025 .ensures) (at-note .note .ensures) _ (at-merge-into .merge-into .ensures .size ∙ e), (start-split (s .pre) (at-block-start .block-start .ensures), omega (arith, start-bounds (s .pre))))
 
 same-length : tie.Need-same-length
-same-length c = c .before .before .before .before .before .pass-down .ensures .passes .rest .size ∙ simp length-set
+same-length c =
+    let at-pass-down = c .before .before .before .before .before in
+    at-pass-down .pass-down .ensures .passes .rest .size ∙ simp length-set
 
 same-length-2 : tie.Need-same-length-2
 same-length-2 c = search needs
 
 returns : tie.Need-returns
 returns c =
+    let at-pass-down = c .before .before .before .before .before in
+    let at-note = at-pass-down .before .before .before .before .before in
+    let at-block-start = at-note .before .before in
+    let at-merge-into = at-block-start .before .before .before in
+    let at-clear = at-merge-into .before .before .before .before in
+    let at-bytes- = at-clear .before .before in
     let s = c .before .before .before .before .before .before .before .before .before .before .before .before .before .before .before .before .before .before .before .before .before .before .before .before .before .before .before in
-    marks-all (s .pre) (c .before .before .before .before .before .before .before .before .before .before .before .before .before .before .before .before .before .before .before .before .before .bytes-1025 .ensures) (c .before .before .before .before .before .before .before .before .before .before .note .ensures) _ _ _ _ _ (cleared-whole (now (s .args .row)) refl (c .before .before .before .before .before .before .before .before .before .before .before .before .before .before .before .before .before .before .before .clear .ensures)) (c .before .before .before .before .before .before .before .before .before .before .before .before .before .before .before .merge-into .ensures) (c .before .before .before .before .before .before .before .before .before .before .before .before .block-start .ensures) (c .before .before .before .before .before .pass-down .ensures)
+    marks-all (s .pre) (at-bytes- .bytes-1025 .ensures) (at-note .note .ensures) _ _ _ _ _ (cleared-whole (now (s .args .row)) refl (at-clear .clear .ensures)) (at-merge-into .merge-into .ensures) (at-block-start .block-start .ensures) (at-pass-down .pass-down .ensures)
 
 pub mark-leading-spec : {M : Type 1} → statement M
 mark-leading-spec =

@@ -44,7 +44,9 @@ loop-less : tie.Need-loop-less Inv-loop μ-loop
 loop-less c = omega arith
 
 loop-again : tie.Need-loop-again Inv-loop μ-loop
-loop-again c = let l = c .before .before .before .before .loop in (omega arith, merging-next _ _ (l .c) (l .row) (l .inv .1) (omega arith) _ (c .larger .ensures))
+loop-again c =
+    let at-loop = c .before .before .before .before in
+    let l = at-loop .loop in (omega arith, merging-next _ _ (l .c) (l .row) (l .inv .1) (omega arith) _ (c .larger .ensures))
 
 same-length : tie.Need-same-length Inv-loop μ-loop
 same-length c = omega arith

@@ -39,11 +39,13 @@ cast-note-access c = search needs
 
 note-access-requires : tie.Need-note-access-requires Inv-loop μ-loop
 note-access-requires c κs =
+    let at-kind-at = c .before .before .before .before in
+    let at-loop-test = at-kind-at .before in
     let at-loop = c .before .before .before .before .before .before in
     let s = at-loop .before .before .before .before .before in
     let l = at-loop .loop in
-    let k = c .before .before .before .before .kind-at .ensures in
-    let h = c .before .before .before .before .before .loop-test .taken in
+    let k = at-kind-at .kind-at .ensures in
+    let h = at-loop-test .loop-test .taken in
     let b = noted-bytes (s .pre .0) (s .args .lo) (l .i) (now (s .args .cells)) (l .cells) (omega (arith, s .pre .2)) (s .pre .3) (l .inv .2) in (
       omega (arith, c .before .before .before .if2 .taken),
       omega (arith, kind-high (s .pre .0) (l .i) (omega (arith, s .pre .2))),
@@ -76,8 +78,9 @@ same-length c = omega (arith, c .before .loop .inv .2 .size)
 
 returns-2 : tie.Need-returns-2 Inv-loop μ-loop
 returns-2 c =
+    let start = c .before .before .before .before .before .before in
     let l = c .before .loop in
-    let e : l .i ≡ c .before .before .before .before .before .before .args .hi = omega (arith, l .inv .1, c .loop-test .left) in
+    let e : l .i ≡ start .args .hi = omega (arith, l .inv .1, c .loop-test .left) in
     rw e at (l .inv .2)
 
 pub note-spec : {M : Type 1} → statement M

@@ -34,18 +34,26 @@ block-start-requires c κs = search needs
 
 pass-row-requires : tie.Need-pass-row-requires Inv-loop μ-loop
 pass-row-requires c κs =
-    let l = c .before .before .before .before .before .loop in
-    (l .inv .0 .again, split-block (l .inv .0 .again .filled .acceptable) (l .t) (l .hi) (c .before .before .before .before .loop-test .taken) (l .inv .2) (l .inv .1) _ (c .before .before .before .block-start .ensures))
+    let at-loop-test = c .before .before .before .before in
+    let at-loop = at-loop-test .before in
+    let l = at-loop .loop in
+    (l .inv .0 .again, split-block (l .inv .0 .again .filled .acceptable) (l .t) (l .hi) (at-loop-test .loop-test .taken) (l .inv .2) (l .inv .1) _ (c .before .before .before .block-start .ensures))
 
 loop-less : tie.Need-loop-less Inv-loop μ-loop
-loop-less c = omega (arith, c .before .before .before .before .before .before .before .before .before .before .before .loop-test .taken)
+loop-less c =
+    let at-loop-test = c .before .before .before .before .before .before .before .before .before .before .before in
+    omega (arith, at-loop-test .loop-test .taken)
 
 loop-again : tie.Need-loop-again Inv-loop μ-loop
 loop-again c =
-    let l = c .before .before .before .before .before .before .before .before .before .before .before .before .loop in
-    let h = c .before .before .before .before .before .before .before .before .before .before .before .loop-test .taken in
-    let k = split-block (l .inv .0 .again .filled .acceptable) (l .t) (l .hi) h (l .inv .2) (l .inv .1) _ (c .before .before .before .before .before .before .before .before .before .before .block-start .ensures) in
-    (passes-down h (l .inv .0) (c .before .before .before .before .before .before .pass-row .ensures), k .from, omega (arith, l .inv .2))
+    let at-pass-row = c .before .before .before .before .before .before in
+    let at-block-start = at-pass-row .before .before .before .before in
+    let at-loop-test = at-block-start .before in
+    let at-loop = at-loop-test .before in
+    let l = at-loop .loop in
+    let h = at-loop-test .loop-test .taken in
+    let k = split-block (l .inv .0 .again .filled .acceptable) (l .t) (l .hi) h (l .inv .2) (l .inv .1) _ (at-block-start .block-start .ensures) in
+    (passes-down h (l .inv .0) (at-pass-row .pass-row .ensures), k .from, omega (arith, l .inv .2))
 
 same-length : tie.Need-same-length Inv-loop μ-loop
 same-length c = c .before .loop .inv .0 .rest .size
@@ -54,7 +62,9 @@ same-length-2 : tie.Need-same-length-2 Inv-loop μ-loop
 same-length-2 c = c .before .loop .inv .0 .row-size
 
 same-length-3 : tie.Need-same-length-3 Inv-loop μ-loop
-same-length-3 c = omega (arith, c .before .loop .inv .0 .again .cells-are .size, c .before .before .before .before .before .before .before .before .pre .0 .cells-are .size)
+same-length-3 c =
+    let start = c .before .before .before .before .before .before .before .before in
+    omega (arith, c .before .loop .inv .0 .again .cells-are .size, start .pre .0 .cells-are .size)
 
 returns : tie.Need-returns Inv-loop μ-loop
 returns c =

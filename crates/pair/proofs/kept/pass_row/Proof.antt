@@ -66,16 +66,19 @@ same-length-2 : tie.Need-same-length-2
 same-length-2 c = search needs
 
 same-length-3 : tie.Need-same-length-3
-same-length-3 c = ⊎-elim (λ w. ap length (w .8) ∙ w .5 .ensures .size) (λ w. ap length (w .1)) (c .before .before .before .before .if1 .came)
+same-length-3 c =
+    let at-if = c .before .before .before .before in
+    ⊎-elim (λ w. ap length (w .8) ∙ w .5 .ensures .size) (λ w. ap length (w .1)) (at-if .if1 .came)
 
 same-length-4 : tie.Need-same-length-4
 same-length-4 c = search needs
 
 returns-2 : tie.Need-returns-2
 returns-2 c =
+    let at-if = c .before .before .before .before in
     let s = c .before .before .before .before .before .before .before .before .before .before .before .before .before .before in
     let n = c .before .before .note .ensures in
-    let j = c .before .before .before .before .if1 in
+    let j = at-if .if1 in
     ⊎-elim
     (λ w. passes-merged (s .pre .0) (s .pre .1) _ _ refl n (w .2 .ensures .0 (subst T (sym (not-false (w .2 .result) (w .3 .left))) tt)) (j .row) (rw (w .8) (w .5 .ensures)))
     (λ w. passes-below (s .pre .0) (s .pre .1) _ _ refl n (w .0 .left) (j .row) (w .1))

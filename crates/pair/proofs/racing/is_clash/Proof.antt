@@ -34,11 +34,12 @@ event-at-requires-2 c κs = search needs
 returns-2 : tie.Need-returns-2
 unfolding clash
 returns-2 c =
+    let at-if = c .before .before .before .before in
     let at-is-conflict = c .before .before .before .before .before in
     let at-record-at2 = at-is-conflict .before in
     let at-record-at = at-record-at2 .before in
     let start = at-record-at .before .before in
-    let k : conflict (at (decode (now (start .args .recs))) (start .args .a)) (at (decode (now (start .args .recs))) (start .args .b)) ≡ true = sym (ap₂ conflict (at-record-at .record-at .ensures) (at-record-at2 .record-at2 .ensures)) ∙ (sym (at-is-conflict .is-conflict .ensures) ∙ not-false (at-is-conflict .is-conflict .result) (c .before .before .before .before .if1 .left)) in
+    let k : conflict (at (decode (now (start .args .recs))) (start .args .a)) (at (decode (now (start .args .recs))) (start .args .b)) ≡ true = sym (ap₂ conflict (at-record-at .record-at .ensures) (at-record-at2 .record-at2 .ensures)) ∙ (sym (at-is-conflict .is-conflict .ensures) ∙ not-false (at-is-conflict .is-conflict .result) (at-if .if1 .left)) in
     simp (k, c .before .before .before .event-at .ensures, c .before .before .event-at2 .ensures)
 
 pub is-clash-spec : {M : Type 1} → statement M

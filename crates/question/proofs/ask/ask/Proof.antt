@@ -112,6 +112,9 @@ refused-requires-4 c κs = search needs
 
 returns-4 : tie.Need-returns-4
 returns-4 c =
+    let at-count = c .before .before .before .before in
+    let at-chain-pass = at-count .before in
+    let at-if = at-chain-pass .before .before in
     let s = c .before .before .before .before .before .before .before .before .before .before .before in
     let q = s .before .before in
     let r = q .before .before in
@@ -119,19 +122,22 @@ returns-4 c =
     let e = rank-told (b .pre .0) (b .args .t .0) (r .ranks .ensures) (q .rank-of .ensures) in
     let f = rank-told (b .pre .0) (b .args .u .0) (r .ranks .ensures) (s .rank-of2 .ensures) in
     let h = c .before .before .before .before .before .before .before .before in
-    let less : c .before .before .before .before .before .chain-pass .result .position < length (decode (now (b .args .recs))) = omega (arith, c .before .before .before .before .count .ensures, c .before .before .if4 .taken) in
-    c .refused4 .ensures ∙ sym (ask-short (b .pre .0) (b .args .events) (b .args .width) (b .pre .1) (now (b .args .clocks)) (b .args .t .0) (b .args .u .0) _ _ e f (h .before .before .if1 .left) (h .before .if2 .left) (sym (h .has-space .ensures) ∙ not-false (h .has-space .result) (c .before .before .before .before .before .before .before .if3 .left)) _ _ _ (c .before .before .before .before .before .chain-pass .ensures) less)
+    let less : at-chain-pass .chain-pass .result .position < length (decode (now (b .args .recs))) = omega (arith, at-count .count .ensures, c .before .before .if4 .taken) in
+    c .refused4 .ensures ∙ sym (ask-short (b .pre .0) (b .args .events) (b .args .width) (b .pre .1) (now (b .args .clocks)) (b .args .t .0) (b .args .u .0) _ _ e f (h .before .before .if1 .left) (h .before .if2 .left) (sym (h .has-space .ensures) ∙ not-false (h .has-space .result) (at-if .if3 .left)) _ _ _ (at-chain-pass .chain-pass .ensures) less)
 
 cast-relate : tie.Need-cast-relate
 cast-relate c =
+    let at-if = c .before .before .before .before .before in
     let h = c .before .before .before .before .before .before in
-    omega (arith, has-room _ _ _ (sym (h .has-space .ensures) ∙ not-false (h .has-space .result) (c .before .before .before .before .before .if3 .left)) .narrow)
+    omega (arith, has-room _ _ _ (sym (h .has-space .ensures) ∙ not-false (h .has-space .result) (at-if .if3 .left)) .narrow)
 
 relate-requires : tie.Need-relate-requires
 relate-requires c κs = search needs
 
 returns-5 : tie.Need-returns-5
 returns-5 c =
+    let at-chain-pass = c .before .before .before .before in
+    let at-if = at-chain-pass .before .before in
     let s = c .before .before .before .before .before .before .before .before .before .before in
     let q = s .before .before in
     let r = q .before .before in
@@ -139,8 +145,8 @@ returns-5 c =
     let e = rank-told (b .pre .0) (b .args .t .0) (r .ranks .ensures) (q .rank-of .ensures) in
     let f = rank-told (b .pre .0) (b .args .u .0) (r .ranks .ensures) (s .rank-of2 .ensures) in
     let h = c .before .before .before .before .before .before .before in
-    let more : length (decode (now (b .args .recs))) ≤ c .before .before .before .before .chain-pass .result .position = omega (arith, c .before .before .before .count .ensures, c .before .if4 .left) in
-    ap gives (c .relate .ensures) ∙ sym (ask-done (b .pre .0) (b .args .events) (b .args .width) (b .pre .1) (now (b .args .clocks)) (b .args .t .0) (b .args .u .0) _ _ e f (h .before .before .if1 .left) (h .before .if2 .left) (sym (h .has-space .ensures) ∙ not-false (h .has-space .result) (c .before .before .before .before .before .before .if3 .left)) _ _ _ (c .before .before .before .before .chain-pass .ensures) more)
+    let more : length (decode (now (b .args .recs))) ≤ at-chain-pass .chain-pass .result .position = omega (arith, c .before .before .before .count .ensures, c .before .if4 .left) in
+    ap gives (c .relate .ensures) ∙ sym (ask-done (b .pre .0) (b .args .events) (b .args .width) (b .pre .1) (now (b .args .clocks)) (b .args .t .0) (b .args .u .0) _ _ e f (h .before .before .if1 .left) (h .before .if2 .left) (sym (h .has-space .ensures) ∙ not-false (h .has-space .result) (at-if .if3 .left)) _ _ _ (at-chain-pass .chain-pass .ensures) more)
 
 pub ask-spec : {M : Type 1} → statement M
 ask-spec =

@@ -28,7 +28,9 @@ numbers-1024-requires : tie.Need-numbers-1024-requires Inv-loop μ-loop
 numbers-1024-requires c κs = search needs
 
 loop-holds : tie.Need-loop-holds Inv-loop μ-loop
-loop-holds c = (going-start _ _ _ _ _ _ (ap length (c .numbers-1024 .ensures) ∙ zeros-length 1024) (c .before .before .before .before .before .pre), ap length (c .before .bytes-1024 .ensures) ∙ zeros-length 1024)
+loop-holds c =
+    let start = c .before .before .before .before .before in
+    (going-start _ _ _ _ _ _ (ap length (c .numbers-1024 .ensures) ∙ zeros-length 1024) (start .pre), ap length (c .before .bytes-1024 .ensures) ∙ zeros-length 1024)
 
 slice-aggregate-turn : tie.Need-slice-aggregate-turn Inv-loop μ-loop
 slice-aggregate-turn c = sym (c .before .before .loop .inv .1)
@@ -38,13 +40,19 @@ slice-aggregate-turn-2 c = sym (c .before .before .before .loop .inv .0 .keeping
 
 turn-requires : tie.Need-turn-requires Inv-loop μ-loop
 turn-requires c κs =
-    let less : c .before .before .before .loop .i < length (decode (now (c .before .before .before .before .before .before .before .before .before .args .recs))) = omega (arith, c .before .before .before .before .before .before .count .ensures) in
-    (c .before .before .before .before .before .before .before .before .before .pre .narrow, c .before .before .before .loop .inv .1, going-room _ _ _ _ _ (c .before .before .before .loop .inv .0) less)
+    let at-count = c .before .before .before .before .before .before in
+    let start = at-count .before .before .before in
+    let less : c .before .before .before .loop .i < length (decode (now (start .args .recs))) = omega (arith, at-count .count .ensures) in
+    (start .pre .narrow, c .before .before .before .loop .inv .1, going-room _ _ _ _ _ (c .before .before .before .loop .inv .0) less)
 
 returns : tie.Need-returns Inv-loop μ-loop
 returns c =
-    let less : c .before .before .before .before .before .before .before .before .loop .i < length (decode (now (c .before .before .before .before .before .before .before .before .before .before .before .before .before .before .args .recs))) = omega (arith, c .before .before .before .before .before .before .before .before .before .before .before .count .ensures) in
-    going-stop _ _ _ _ _ (c .before .before .before .before .before .before .before .before .loop .inv .0) less _ _ _ _ (c .before .before .before .before .turn .ensures) (c .if1 .taken)
+    let at-turn = c .before .before .before .before in
+    let at-loop = at-turn .before .before .before .before in
+    let at-count = at-loop .before .before .before in
+    let start = at-count .before .before .before in
+    let less : at-loop .loop .i < length (decode (now (start .args .recs))) = omega (arith, at-count .count .ensures) in
+    going-stop _ _ _ _ _ (at-loop .loop .inv .0) less _ _ _ _ (at-turn .turn .ensures) (c .if1 .taken)
 
 add-i : tie.Need-add-i Inv-loop μ-loop
 add-i c = omega arith
@@ -54,12 +62,18 @@ loop-less c = omega arith
 
 loop-again : tie.Need-loop-again Inv-loop μ-loop
 loop-again c =
-    let less : c .before .before .before .before .before .before .before .before .loop .i < length (decode (now (c .before .before .before .before .before .before .before .before .before .before .before .before .before .before .args .recs))) = omega (arith, c .before .before .before .before .before .before .before .before .before .before .before .count .ensures) in
-    (going-next _ _ _ _ _ (c .before .before .before .before .before .before .before .before .loop .inv .0) less _ _ _ _ (c .before .before .before .before .turn .ensures) (c .if1 .left), c .before .before .before .before .turn .kept .1 .1 .1 .0 ∙ c .before .before .before .before .before .before .before .before .loop .inv .1)
+    let at-turn = c .before .before .before .before in
+    let at-loop = at-turn .before .before .before .before in
+    let at-count = at-loop .before .before .before in
+    let start = at-count .before .before .before in
+    let less : at-loop .loop .i < length (decode (now (start .args .recs))) = omega (arith, at-count .count .ensures) in
+    (going-next _ _ _ _ _ (at-loop .loop .inv .0) less _ _ _ _ (at-turn .turn .ensures) (c .if1 .left), at-turn .turn .kept .1 .1 .1 .0 ∙ at-loop .loop .inv .1)
 
 returns-2 : tie.Need-returns-2 Inv-loop μ-loop
 returns-2 c =
-    let more : length (decode (now (c .before .before .before .before .before .before .before .args .recs))) ≤ c .before .loop .i = omega (arith, c .before .before .before .before .count .ensures) in
+    let at-count = c .before .before .before .before in
+    let start = at-count .before .before .before in
+    let more : length (decode (now (start .args .recs))) ≤ c .before .loop .i = omega (arith, at-count .count .ensures) in
     going-end _ _ _ _ _ (c .before .loop .inv .0) more
 
 pub chain-pass-spec : {M : Type 1} → statement M

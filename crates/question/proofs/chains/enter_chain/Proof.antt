@@ -38,14 +38,18 @@ same-length c = search needs
 
 returns-2 : tie.Need-returns-2
 unfolding enterChain
-returns-2 c = rw (lt-leb _ _ (c .before .before .before .before .if1 .left)) (record { lasts-are = refl; chains-are = omega arith; first-is = c .before .before .before .own-chain .ensures; second-is = c .before .before .own-chain2 .ensures })
+returns-2 c =
+    let at-if = c .before .before .before .before in
+    rw (lt-leb _ _ (at-if .if1 .left)) (record { lasts-are = refl; chains-are = omega arith; first-is = c .before .before .before .own-chain .ensures; second-is = c .before .before .own-chain2 .ensures })
 
 same-length-2 : tie.Need-same-length-2
 same-length-2 c = search needs
 
 returns-3 : tie.Need-returns-3
 unfolding enterChain
-returns-3 c = rw (lt-leb _ _ (c .before .before .before .before .if1 .left)) (record { lasts-are = refl; chains-are = omega arith; first-is = c .before .before .before .own-chain .ensures; second-is = c .before .before .own-chain2 .ensures })
+returns-3 c =
+    let at-if = c .before .before .before .before in
+    rw (lt-leb _ _ (at-if .if1 .left)) (record { lasts-are = refl; chains-are = omega arith; first-is = c .before .before .before .own-chain .ensures; second-is = c .before .before .own-chain2 .ensures })
 
 pub enter-chain-spec : {M : Type 1} → statement M
 enter-chain-spec =

@@ -40,12 +40,18 @@ loop-less c = omega arith
 
 loop-again : tie.Need-loop-again Inv-loop μ-loop
 loop-again c =
-    let op = saidBy (now (c .before .before .before .before .before .before .before .before .before .before .before .before .before .before .before .before .before .args .ranks)) (decode (now (c .before .before .before .before .before .before .before .before .before .before .before .before .before .before .before .before .before .args .recs))) in
-    let l = c .before .before .before .before .before .loop in
-    (ap (marksDownIn op (l .j - 1)) (c .before .before .mark-link .ensures) ∙ sym (marks-down op (l .j) (l .marks) (c .before .before .before .before .loop-test .taken)) ∙ l .inv .0, ap length (c .before .before .mark-link .ensures) ∙ mark-in-length (op (l .j - 1)) (l .marks) ∙ l .inv .1)
+    let at-loop-test = c .before .before .before .before in
+    let at-loop = at-loop-test .before in
+    let start = at-loop .before .before .before .before .before .before .before .before .before .before .before .before in
+    let op = saidBy (now (start .args .ranks)) (decode (now (start .args .recs))) in
+    let l = at-loop .loop in
+    (ap (marksDownIn op (l .j - 1)) (c .before .before .mark-link .ensures) ∙ sym (marks-down op (l .j) (l .marks) (at-loop-test .loop-test .taken)) ∙ l .inv .0, ap length (c .before .before .mark-link .ensures) ∙ mark-in-length (op (l .j - 1)) (l .marks) ∙ l .inv .1)
 
 same-length : tie.Need-same-length Inv-loop μ-loop
-same-length c = c .before .loop .inv .1 ∙ (c .before .before .before .before .put .kept .0 ∙ c .before .before .before .before .before .before .before .before .clear .kept .0)
+same-length c =
+    let at-put = c .before .before .before .before in
+    let at-clear = at-put .before .before .before .before in
+    c .before .loop .inv .1 ∙ (at-put .put .kept .0 ∙ at-clear .clear .kept .0)
 
 returns : tie.Need-returns Inv-loop μ-loop
 unfolding marksDownIn

@@ -36,14 +36,22 @@ same-length c = search needs
 
 returns : tie.Need-returns
 unfolding markIn
-returns c = rw (sym (c .before .before .before .before .before .before .before .before .before .before .ordering-at .ensures) ∙ (c .before .before .before .before .before .before .before .before .said .given .1)) (c .before .before .put .ensures ∙ simp (← c .before .before .before .before .before .is-marked .ensures, c .before .before .before .before .if1 .taken))
+returns c =
+    let at-if = c .before .before .before .before in
+    let at-is-marked = at-if .before in
+    let at-said = at-is-marked .before .before .before in
+    let at-ordering-at = at-said .before .before in
+    rw (sym (at-ordering-at .ordering-at .ensures) ∙ (at-said .said .given .1)) (c .before .before .put .ensures ∙ simp (← at-is-marked .is-marked .ensures, at-if .if1 .taken))
 
 same-length-2 : tie.Need-same-length-2
 same-length-2 c = search needs
 
 returns-2 : tie.Need-returns-2
 unfolding markIn
-returns-2 c = rw (sym (c .before .before .before .before .before .before .ordering-at .ensures) ∙ (c .before .before .before .before .said .given .1)) (simp (← c .before .is-marked .ensures, c .if1 .left))
+returns-2 c =
+    let at-said = c .before .before .before .before in
+    let at-ordering-at = at-said .before .before in
+    rw (sym (at-ordering-at .ordering-at .ensures) ∙ (at-said .said .given .1)) (simp (← c .before .is-marked .ensures, c .if1 .left))
 
 returns-3 : tie.Need-returns-3
 unfolding markIn

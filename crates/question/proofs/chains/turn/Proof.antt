@@ -22,13 +22,19 @@ mark-before-requires c κs = search needs
 
 marked-chain-requires : tie.Need-marked-chain-requires
 marked-chain-requires c κs =
-    let room = rw (sym (c .before .before .before .before .before .before .before .before .before .ordering-at .ensures) ∙ (c .before .before .before .before .before .before .before .said .given .1)) at (c .before .before .before .before .before .before .before .before .before .before .before .before .before .before .pre .2) in
+    let at-said = c .before .before .before .before .before .before .before in
+    let at-ordering-at = at-said .before .before in
+    let start = at-ordering-at .before .before .before .before .before in
+    let room = rw (sym (at-ordering-at .ordering-at .ensures) ∙ (at-said .said .given .1)) at (start .pre .2) in
     omega (arith, room .1, room .2)
 
 enter-chain-requires : tie.Need-enter-chain-requires
 enter-chain-requires c κs =
-    let room = rw (sym (c .before .before .before .before .before .before .before .before .before .before .before .ordering-at .ensures) ∙ (c .before .before .before .before .before .before .before .before .before .said .given .1)) at (c .before .before .before .before .before .before .before .before .before .before .before .before .before .before .before .before .pre .2) in
-    (c .before .before .before .before .before .before .before .before .before .before .before .before .before .before .before .before .pre .0, room .0, room .2)
+    let at-said = c .before .before .before .before .before .before .before .before .before in
+    let at-ordering-at = at-said .before .before in
+    let start = at-ordering-at .before .before .before .before .before in
+    let room = rw (sym (at-ordering-at .ordering-at .ensures) ∙ (at-said .said .given .1)) at (start .pre .2) in
+    (start .pre .0, room .0, room .2)
 
 enum-told : tie.Need-enum-told
 enum-told c = search needs
@@ -45,8 +51,13 @@ same-length-2 c = search needs
 returns : tie.Need-returns
 unfolding turnMembers
 returns c =
-    let marked = rw (c .before .before .before .before .before .before .before .before .before .before .before .before .before .before .before .before .before .before .before .pre .1) at (c .before .before .before .before .before .before .before .before .before .mark-before .ensures) in
-    rw (sym (c .before .before .before .before .before .before .before .before .before .before .before .before .before .before .ordering-at .ensures) ∙ (c .before .before .before .before .before .before .before .before .before .before .before .before .said .given .1), ← marked, ← c .before .before .before .before .marked-chain .ensures) (c .before .before .enter-chain .ensures)
+    let at-marked-chain = c .before .before .before .before in
+    let at-mark-before = at-marked-chain .before .before .before .before .before in
+    let at-said = at-mark-before .before .before .before in
+    let at-ordering-at = at-said .before .before in
+    let start = at-ordering-at .before .before .before .before .before in
+    let marked = rw (start .pre .1) at (at-mark-before .mark-before .ensures) in
+    rw (sym (at-ordering-at .ordering-at .ensures) ∙ (at-said .said .given .1), ← marked, ← at-marked-chain .marked-chain .ensures) (c .before .before .enter-chain .ensures)
 
 returns-2 : tie.Need-returns-2
 unfolding turnMembers

@@ -19,7 +19,9 @@ cast-relation : tie.Need-cast-relation
 cast-relation c = search needs
 
 relation-requires : tie.Need-relation-requires
-relation-requires c κs = c .before .before .before .before .pre (c .before .if1 .left) (c .if2 .left)
+relation-requires c κs =
+    let start = c .before .before .before .before in
+    start .pre (c .before .if1 .left) (c .if2 .left)
 
 is-before-requires : tie.Need-is-before-requires
 is-before-requires c κs = search needs

@@ -30,7 +30,8 @@ numbers-1025-requires-2 c κs = search needs
 
 loop-holds : tie.Need-loop-holds Inv-loop μ-loop
 loop-holds c =
-    let a = c .before .before .before .before .before .before .before .before .args in
+    let start = c .before .before .before .before .before .before .before .before in
+    let a = start .args in
     (listing-start _ _ _ _, rw (c .before .numbers-1025 .ensures, c .numbers-10252 .ensures) (tables-none (decode (now (a .recs))) (a .short)), sym (counted-zero (decode (now (a .recs)))))
 
 kind-at-requires : tie.Need-kind-at-requires Inv-loop μ-loop
@@ -79,10 +80,11 @@ slice-aggregate-take-access-2 c = let l = c .before .before .before .before .bef
 
 take-access-requires : tie.Need-take-access-requires Inv-loop μ-loop
 take-access-requires c κs =
+    let at-loop-test = c .before .before .before .before in
     let l = c .before .before .before .before .before in
     let n = l .before .before .before in
     let s = n .before .before .before .before .before .before in
-    let h : l .loop .b < length (decode (now (s .args .recs))) = omega (arith, n .count .ensures, c .before .before .before .before .loop-test .taken) in
+    let h : l .loop .b < length (decode (now (s .args .recs))) = omega (arith, n .count .ensures, at-loop-test .loop-test .taken) in
     let t = kind-access (s .pre .0 .acceptable) (l .loop .b) h (omega (arith, c .before .before .before .kind-at .ensures, c .before .before .if1 .left)) in
     (second-at (own-ranks (s .pre .0)) h t (l .loop .inv .2), l .loop .inv .1)
 

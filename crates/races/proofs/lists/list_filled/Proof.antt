@@ -18,7 +18,10 @@ same-length-2 : tie.Need-same-length-2
 same-length-2 c = search needs
 
 returns : tie.Need-returns
-returns c = all-refused (decode (now (c .before .before .before .before .before .before .before .before .before .before .before .before .args .recs))) (c .before .before .before .before .before .before .before .before .before .before .before .before .args .short) (c .before .before .before .before .before .before .before .before .before .before .before .before .args .events) (now (c .before .before .before .before .before .before .before .before .before .before .before .before .args .list)) _ (c .before .before .before .before .count-all .result) (c .before .before .before .before .count-all .ensures .0) (c .before .before .before .before .count-all .ensures .1) _ (c .before .if1 .taken) _ (c .refused .ensures)
+returns c =
+    let at-count-all = c .before .before .before .before in
+    let start = at-count-all .before .before .before .before .before .before .before .before in
+    all-refused (decode (now (start .args .recs))) (start .args .short) (start .args .events) (now (start .args .list)) _ (at-count-all .count-all .result) (at-count-all .count-all .ensures .0) (at-count-all .count-all .ensures .1) _ (c .before .if1 .taken) _ (c .refused .ensures)
 
 count-requires : tie.Need-count-requires
 count-requires c κs = search needs
@@ -33,10 +36,17 @@ same-length-4 : tie.Need-same-length-4
 same-length-4 c = search needs
 
 returns-2 : tie.Need-returns-2
-returns-2 c = none-listed (decode (now (c .before .before .before .before .before .before .before .before .before .before .before .before .before .before .args .recs))) (c .before .before .before .before .before .before .before .before .before .before .before .before .before .before .args .short) (c .before .before .before .before .before .before .before .before .before .before .before .before .before .before .args .events) (now (c .before .before .before .before .before .before .before .before .before .before .before .before .before .before .args .list)) _ (c .before .before .before .before .before .before .count-all .result) (c .before .before .before .before .before .before .count-all .ensures .0) (c .before .before .before .before .before .before .count-all .ensures .1) (c .before .before .before .if1 .left) (c .before .if2 .taken) _ (c .before .before .count .result) (c .before .before .before .before .before .before .before .before .before .before .before .before .before .before .args .chains) (c .before .before .count .ensures) (c .before .before .before .before .before .before .before .before .before .before .before .before .before .before .pre .2) _ (c .listed .ensures)
+returns-2 c =
+    let at-count-all = c .before .before .before .before .before .before in
+    let start = at-count-all .before .before .before .before .before .before .before .before in
+    none-listed (decode (now (start .args .recs))) (start .args .short) (start .args .events) (now (start .args .list)) _ (at-count-all .count-all .result) (at-count-all .count-all .ensures .0) (at-count-all .count-all .ensures .1) (c .before .before .before .if1 .left) (c .before .if2 .taken) _ (c .before .before .count .result) (start .args .chains) (c .before .before .count .ensures) (start .pre .2) _ (c .listed .ensures)
 
 write-all-requires : tie.Need-write-all-requires
-write-all-requires c κs = ((c .before .before .before .before .before .before .before .before .before .before .before .before .before .before .before .pre .0, c .before .before .before .before .before .before .before .before .before .before .before .before .before .before .before .pre .1), all-room (decode (now (c .before .before .before .before .before .before .before .before .before .before .before .before .before .before .before .args .recs))) (c .before .before .before .before .before .before .before .before .before .before .before .before .before .before .before .args .short) (c .before .before .before .before .before .before .before .before .before .before .before .before .before .before .before .args .events) (now (c .before .before .before .before .before .before .before .before .before .before .before .before .before .before .before .args .list)) _ (c .before .before .before .before .before .before .before .count-all .result) (c .before .before .before .before .before .before .before .count-all .ensures .0) (c .before .before .before .before .before .before .before .count-all .ensures .1) (c .before .before .before .before .if1 .left))
+write-all-requires c κs =
+    let at-if = c .before .before .before .before in
+    let at-count-all = at-if .before .before .before in
+    let start = at-count-all .before .before .before .before .before .before .before .before in
+    ((start .pre .0, start .pre .1), all-room (decode (now (start .args .recs))) (start .args .short) (start .args .events) (now (start .args .list)) _ (at-count-all .count-all .result) (at-count-all .count-all .ensures .0) (at-count-all .count-all .ensures .1) (at-if .if1 .left))
 
 listed-requires-2 : tie.Need-listed-requires-2
 listed-requires-2 c κs = search needs
@@ -48,7 +58,13 @@ same-length-6 : tie.Need-same-length-6
 same-length-6 c = search needs
 
 returns-3 : tie.Need-returns-3
-returns-3 c = all-listed (decode (now (c .before .before .before .before .before .before .before .before .before .before .before .before .before .before .before .before .before .before .before .before .before .args .recs))) (c .before .before .before .before .before .before .before .before .before .before .before .before .before .before .before .before .before .before .before .before .before .args .short) (c .before .before .before .before .before .before .before .before .before .before .before .before .before .before .before .before .before .before .before .before .before .args .events) (now (c .before .before .before .before .before .before .before .before .before .before .before .before .before .before .before .before .before .before .before .before .before .args .list)) _ (c .before .before .before .before .before .before .before .before .before .before .before .before .before .count-all .result) (c .before .before .before .before .before .before .before .before .before .before .before .before .before .count-all .ensures .0) (c .before .before .before .before .before .before .before .before .before .before .before .before .before .count-all .ensures .1) (c .before .before .before .before .before .before .before .before .before .before .if1 .left) (c .before .before .before .before .before .write-all .ensures .0) (c .before .before .before .before .before .write-all .ensures .1) (c .before .before .before .before .before .before .before .before .before .count .result) (c .before .before .before .before .before .before .before .before .before .before .before .before .before .before .before .before .before .before .before .before .before .args .chains) (c .before .before .before .before .before .before .before .before .before .count .ensures) (c .before .before .before .before .before .before .before .before .before .before .before .before .before .before .before .before .before .before .before .before .before .pre .2) _ (c .listed2 .ensures)
+returns-3 c =
+    let at-write-all = c .before .before .before .before .before in
+    let at-count = at-write-all .before .before .before .before in
+    let at-if = at-count .before in
+    let at-count-all = at-if .before .before .before in
+    let start = at-count-all .before .before .before .before .before .before .before .before in
+    all-listed (decode (now (start .args .recs))) (start .args .short) (start .args .events) (now (start .args .list)) _ (at-count-all .count-all .result) (at-count-all .count-all .ensures .0) (at-count-all .count-all .ensures .1) (at-if .if1 .left) (at-write-all .write-all .ensures .0) (at-write-all .write-all .ensures .1) (at-count .count .result) (start .args .chains) (at-count .count .ensures) (start .pre .2) _ (c .listed2 .ensures)
 
 pub list-filled-spec : {M : Type 1} → statement M
 list-filled-spec =

@@ -12,7 +12,9 @@ row-at-requires : tie.Need-row-at-requires
 row-at-requires c κs = search needs
 
 relation-requires : tie.Need-relation-requires
-relation-requires c κs = race-rows (c .before .before .before .before .before .before .pre) (c .row-at .result) (c .row-at .ensures)
+relation-requires c κs =
+    let start = c .before .before .before .before .before .before in
+    race-rows (start .pre) (c .row-at .result) (c .row-at .ensures)
 
 is-unordered-requires : tie.Need-is-unordered-requires
 is-unordered-requires c κs = search needs
@@ -43,11 +45,13 @@ same-length c = search needs
 
 returns-2 : tie.Need-returns-2
 returns-2 c =
+    let at-if = c .before .before .before .before in
+    let at-if2 = at-if .before in
     let q = c .before .before .before .before .before .before in
     let s = q .before .before in
     let start = s .before .before .before .before .before .before in
-    let e = race-told (start .pre) (s .row-at .result) (s .row-at .ensures) (q .is-unordered .result) (q .is-unordered .ensures ∙ ap saysUnordered (q .before .relation .ensures)) ∙ not-false (q .is-unordered .result) (c .before .before .before .before .before .if1 .left) in
-    record { next = rw e refl; list-is = rw (e, c .before .before .before .before .if2 .taken) (c .before .before .put-entry .ensures) }
+    let e = race-told (start .pre) (s .row-at .result) (s .row-at .ensures) (q .is-unordered .result) (q .is-unordered .ensures ∙ ap saysUnordered (q .before .relation .ensures)) ∙ not-false (q .is-unordered .result) (at-if2 .if1 .left) in
+    record { next = rw e refl; list-is = rw (e, at-if .if2 .taken) (c .before .before .put-entry .ensures) }
 
 add-result-2 : tie.Need-add-result-2
 add-result-2 c =

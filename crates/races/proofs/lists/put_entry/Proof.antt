@@ -59,7 +59,9 @@ mul-list-4 : tie.Need-mul-list-4
 mul-list-4 c = search needs
 
 slice-write-list-4 : tie.Need-slice-write-list-4
-slice-write-list-4 c = simp length-set (omega (arith, c .before .before .before .before .pre .2))
+slice-write-list-4 c =
+    let start = c .before .before .before .before in
+    simp length-set (omega (arith, start .pre .2))
 
 add-list-6 : tie.Need-add-list-6
 add-list-6 c = search needs
@@ -68,13 +70,17 @@ mul-list-5 : tie.Need-mul-list-5
 mul-list-5 c = search needs
 
 slice-write-list-5 : tie.Need-slice-write-list-5
-slice-write-list-5 c = simp length-set (omega (arith, c .before .before .before .before .pre .2))
+slice-write-list-5 c =
+    let start = c .before .before .before .before in
+    simp length-set (omega (arith, start .pre .2))
 
 same-length : tie.Need-same-length
 same-length c = search needs
 
 returns : tie.Need-returns
-returns c = raw-stores (decode (now (c .before .before .before .before .args .recs))) _ _ _ _ _ _ (c .before .cell-at .ensures) (c .shape-of .ensures)
+returns c =
+    let start = c .before .before .before .before in
+    raw-stores (decode (now (start .args .recs))) _ _ _ _ _ _ (c .before .cell-at .ensures) (c .shape-of .ensures)
 
 pub put-entry-spec : {M : Type 1} → statement M
 put-entry-spec =

@@ -77,7 +77,8 @@ relate-entries-requires c κs = search needs
 
 returns : tie.Need-returns
 returns c =
-    let a = c .before .before .before .before .before .before .before .before .before .args in
+    let start = c .before .before .before .before .before .before .before .before .before in
+    let a = start .args in
     c .relate-entries .ensures ∙ by-entries (now (a .clocks)) (a .width) (a .t) (getD (now (a .chosen)) (a .t) 0) (a .u) (getD (now (a .chosen)) (a .u) 0)
 
 pub relation-spec : {M : Type 1} → statement M

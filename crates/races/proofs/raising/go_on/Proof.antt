@@ -20,7 +20,9 @@ abbrev μ-loop : tie.MeasureT-loop
 μ-loop recs ranks chosen width clocks₀ u t₀ i₀ chains₀ clocks t i chains = u - t
 
 loop-holds : tie.Need-loop-holds Inv-loop μ-loop
-loop-holds c = let pre = c .before .before .before .before .pre in going-start _ _ _ _ _ _ pre
+loop-holds c =
+    let start = c .before .before .before .before in
+    let pre = start .pre in going-start _ _ _ _ _ _ pre
 
 add-merge-links : tie.Need-add-merge-links Inv-loop μ-loop
 add-merge-links c =

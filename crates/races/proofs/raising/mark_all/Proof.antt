@@ -19,7 +19,9 @@ abbrev μ-loop : tie.MeasureT-loop
 μ-loop recs ranks chosen width clocks₀ list₀ count s₀ k₀ clocks list s k = count - k
 
 loop-holds : tie.Need-loop-holds Inv-loop μ-loop
-loop-holds c = let pre = c .before .before .before .before .before .pre in (pre .0, pre .1, marking-start (pre .0) (pre .1))
+loop-holds c =
+    let start = c .before .before .before .before .before in
+    let pre = start .pre in (pre .0, pre .1, marking-start (pre .0) (pre .1))
 
 mul-row-at : tie.Need-mul-row-at Inv-loop μ-loop
 mul-row-at c = let loop = c .before .loop in let r = list-room (loop .inv .1) (loop .inv .2 .remarked) in search needs
@@ -43,25 +45,50 @@ row-at-requires : tie.Need-row-at-requires Inv-loop μ-loop
 row-at-requires c κs = search needs
 
 go-on-requires : tie.Need-go-on-requires Inv-loop μ-loop
-go-on-requires c κs = let loop = c .before .before .before .before .loop in let loop-test = c .before .before .before .loop-test in let row-at = c .before .row-at in may-go (loop .inv .0) (loop .inv .1) (loop .inv .2) (loop-test .taken) _ (row-at .ensures)
+go-on-requires c κs =
+    let at-loop = c .before .before .before .before in
+    let loop = at-loop .loop in let loop-test = c .before .before .before .loop-test in let row-at = c .before .row-at in may-go (loop .inv .0) (loop .inv .1) (loop .inv .2) (loop-test .taken) _ (row-at .ensures)
 
 mark-second-requires : tie.Need-mark-second-requires Inv-loop μ-loop
-mark-second-requires c κs = let loop = c .before .before .before .before .before .before .before .before .before .loop in let loop-test = c .before .before .before .before .before .before .before .before .loop-test in let row-at = c .before .before .before .before .before .before .row-at in let go-on = c .before .before .before .before .go-on in markable (loop .inv .0) (loop .inv .1) (loop .inv .2) (loop-test .taken) _ (row-at .ensures) (arrived (loop .inv .0) (loop .inv .1) (loop .inv .2) (loop-test .taken) _ (row-at .ensures) (go-on .ensures) .1)
+mark-second-requires c κs =
+    let at-go-on = c .before .before .before .before in
+    let at-row-at = at-go-on .before .before in
+    let at-loop-test = at-row-at .before .before in
+    let at-loop = at-loop-test .before in
+    let loop = at-loop .loop in let loop-test = at-loop-test .loop-test in let row-at = at-row-at .row-at in let go-on = at-go-on .go-on in markable (loop .inv .0) (loop .inv .1) (loop .inv .2) (loop-test .taken) _ (row-at .ensures) (arrived (loop .inv .0) (loop .inv .1) (loop .inv .2) (loop-test .taken) _ (row-at .ensures) (go-on .ensures) .1)
 
 raise-requires : tie.Need-raise-requires Inv-loop μ-loop
-raise-requires c κs = let loop = c .before .before .before .before .before .before .before .before .before .before .before .before .before .before .before .loop in let loop-test = c .before .before .before .before .before .before .before .before .before .before .before .before .before .before .loop-test in let row-at = c .before .before .before .before .before .before .before .before .before .before .before .before .row-at in let go-on = c .before .before .before .before .before .before .before .before .before .before .go-on in let mark-second = c .before .before .before .before .before .mark-second in let if1 = c .before .before .if1 in raise-room (loop .inv .0) (loop .inv .1) (loop .inv .2) (loop-test .taken) _ (row-at .ensures) (arrived (loop .inv .0) (loop .inv .1) (loop .inv .2) (loop-test .taken) _ (row-at .ensures) (go-on .ensures) .1) (mark-second .ensures) (if1 .taken)
+raise-requires c κs =
+    let at-mark-second = c .before .before .before .before .before in
+    let at-go-on = at-mark-second .before .before .before .before .before in
+    let at-row-at = at-go-on .before .before in
+    let at-loop-test = at-row-at .before .before in
+    let at-loop = at-loop-test .before in
+    let loop = at-loop .loop in let loop-test = at-loop-test .loop-test in let row-at = at-row-at .row-at in let go-on = at-go-on .go-on in let mark-second = at-mark-second .mark-second in let if1 = c .before .before .if1 in raise-room (loop .inv .0) (loop .inv .1) (loop .inv .2) (loop-test .taken) _ (row-at .ensures) (arrived (loop .inv .0) (loop .inv .1) (loop .inv .2) (loop-test .taken) _ (row-at .ensures) (go-on .ensures) .1) (mark-second .ensures) (if1 .taken)
 
 loop-less : tie.Need-loop-less Inv-loop μ-loop
 loop-less c = search needs
 
 loop-again : tie.Need-loop-again Inv-loop μ-loop
-loop-again c = let loop = c .before .before .before .before .before .before .before .before .before .before .before .before .before .before .before .before .before .before .loop in let loop-test = c .before .before .before .before .before .before .before .before .before .before .before .before .before .before .before .before .before .loop-test in let row-at = c .before .before .before .before .before .before .before .before .before .before .before .before .before .before .before .row-at in let go-on = c .before .before .before .before .before .before .before .before .before .before .before .before .before .go-on in let mark-second = c .before .before .before .before .before .before .before .before .mark-second in let if1 = c .before .before .before .before .before .if1 in let raise = c .before .before .raise in let a = arrived (loop .inv .0) (loop .inv .1) (loop .inv .2) (loop-test .taken) _ (row-at .ensures) (go-on .ensures) in (loop .inv .0, loop .inv .1, rw (a .0) (marking-next (loop .inv .0) (loop .inv .1) (loop .inv .2) (loop-test .taken) _ (row-at .ensures) (a .1) (mark-second .ensures) (if1 .taken) (raise .ensures)))
+loop-again c =
+    let at-if = c .before .before .before .before .before in
+    let at-mark-second = at-if .before .before .before in
+    let at-go-on = at-mark-second .before .before .before .before .before in
+    let at-row-at = at-go-on .before .before in
+    let at-loop-test = at-row-at .before .before in
+    let at-loop = at-loop-test .before in
+    let loop = at-loop .loop in let loop-test = at-loop-test .loop-test in let row-at = at-row-at .row-at in let go-on = at-go-on .go-on in let mark-second = at-mark-second .mark-second in let if1 = at-if .if1 in let raise = c .before .before .raise in let a = arrived (loop .inv .0) (loop .inv .1) (loop .inv .2) (loop-test .taken) _ (row-at .ensures) (go-on .ensures) in (loop .inv .0, loop .inv .1, rw (a .0) (marking-next (loop .inv .0) (loop .inv .1) (loop .inv .2) (loop-test .taken) _ (row-at .ensures) (a .1) (mark-second .ensures) (if1 .taken) (raise .ensures)))
 
 loop-less-2 : tie.Need-loop-less-2 Inv-loop μ-loop
 loop-less-2 c = search needs
 
 loop-again-2 : tie.Need-loop-again-2 Inv-loop μ-loop
-loop-again-2 c = let loop = c .before .before .before .before .before .before .before .before .before .before .before .before .before .loop in let loop-test = c .before .before .before .before .before .before .before .before .before .before .before .before .loop-test in let row-at = c .before .before .before .before .before .before .before .before .before .before .row-at in let go-on = c .before .before .before .before .before .before .before .before .go-on in let mark-second = c .before .before .before .mark-second in let if1 = c .if1 in let a = arrived (loop .inv .0) (loop .inv .1) (loop .inv .2) (loop-test .taken) _ (row-at .ensures) (go-on .ensures) in (loop .inv .0, loop .inv .1, rw (a .0) (marking-last (loop .inv .0) (loop .inv .1) (loop .inv .2) (loop-test .taken) _ (row-at .ensures) (a .1) (mark-second .ensures) (if1 .left)))
+loop-again-2 c =
+    let at-go-on = c .before .before .before .before .before .before .before .before in
+    let at-row-at = at-go-on .before .before in
+    let at-loop-test = at-row-at .before .before in
+    let at-loop = at-loop-test .before in
+    let loop = at-loop .loop in let loop-test = at-loop-test .loop-test in let row-at = at-row-at .row-at in let go-on = at-go-on .go-on in let mark-second = c .before .before .before .mark-second in let if1 = c .if1 in let a = arrived (loop .inv .0) (loop .inv .1) (loop .inv .2) (loop-test .taken) _ (row-at .ensures) (go-on .ensures) in (loop .inv .0, loop .inv .1, rw (a .0) (marking-last (loop .inv .0) (loop .inv .1) (loop .inv .2) (loop-test .taken) _ (row-at .ensures) (a .1) (mark-second .ensures) (if1 .left)))
 
 same-length : tie.Need-same-length Inv-loop μ-loop
 same-length c = let loop = c .before .loop in left-size (loop .inv .0) (loop .inv .1) (loop .inv .2 .left)
@@ -70,7 +97,9 @@ same-length-2 : tie.Need-same-length-2 Inv-loop μ-loop
 same-length-2 c = search needs
 
 returns : tie.Need-returns Inv-loop μ-loop
-returns c = let loop = c .before .loop in let args = c .before .before .before .before .before .before .before .args in let loop-test = c .loop-test in let z : loop .k ≡ args .count = omega (arith, loop .inv .2 .within, loop-test .left) in record { remarked = rw z at (loop .inv .2 .remarked); past-rows = left-rest (loop .inv .0) (loop .inv .1) (loop .inv .2 .left) }
+returns c =
+    let start = c .before .before .before .before .before .before .before in
+    let loop = c .before .loop in let args = start .args in let loop-test = c .loop-test in let z : loop .k ≡ args .count = omega (arith, loop .inv .2 .within, loop-test .left) in record { remarked = rw z at (loop .inv .2 .remarked); past-rows = left-rest (loop .inv .0) (loop .inv .1) (loop .inv .2 .left) }
 
 pub mark-all-spec : {M : Type 1} → statement M
 mark-all-spec =

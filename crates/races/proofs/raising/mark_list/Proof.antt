@@ -13,7 +13,10 @@ mark-all-requires : tie.Need-mark-all-requires
 mark-all-requires c κs = search needs
 
 refill-requires : tie.Need-refill-requires
-refill-requires c κs = let pre = c .before .before .before .before .before .before .before .before .before .before .before .before .before .before .pre in let mark-all = c .before .before .before .before .before .mark-all in again-refillable (pre .0) _ (mark-all .kept .1 .1 .1 .1 .0) _ (pre .2)
+refill-requires c κs =
+    let at-mark-all = c .before .before .before .before .before in
+    let start = at-mark-all .before .before .before .before .before .before .before .before .before in
+    let pre = start .pre in let mark-all = at-mark-all .mark-all in again-refillable (pre .0) _ (mark-all .kept .1 .1 .1 .1 .0) _ (pre .2)
 
 same-length : tie.Need-same-length
 same-length c = search needs
@@ -22,7 +25,10 @@ same-length-2 : tie.Need-same-length-2
 same-length-2 c = search needs
 
 returns-2 : tie.Need-returns-2
-returns-2 c = let pre = c .before .before .before .before .before .before .before .before .before .before .before .before .before .before .before .before .before .pre in let mark-all = c .before .before .before .before .before .before .before .before .mark-all in let refill = c .before .before .refill in marks-list (again-filled (pre .0) _ (mark-all .ensures .past-rows) _ (refill .ensures)) (mark-all .ensures .remarked)
+returns-2 c =
+    let at-mark-all = c .before .before .before .before .before .before .before .before in
+    let start = at-mark-all .before .before .before .before .before .before .before .before .before in
+    let pre = start .pre in let mark-all = at-mark-all .mark-all in let refill = c .before .before .refill in marks-list (again-filled (pre .0) _ (mark-all .ensures .past-rows) _ (refill .ensures)) (mark-all .ensures .remarked)
 
 pub mark-list-spec : {M : Type 1} → statement M
 mark-list-spec =

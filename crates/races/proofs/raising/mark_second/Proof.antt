@@ -29,7 +29,9 @@ slice-read-second : tie.Need-slice-read-second Inv-loop μ-loop
 slice-read-second c = search needs
 
 loop-holds : tie.Need-loop-holds Inv-loop μ-loop
-loop-holds c = let pre = c .before .before .before .before .before .before .pre in (marking-start pre, refl)
+loop-holds c =
+    let start = c .before .before .before .before .before .before in
+    let pre = start .pre in (marking-start pre, refl)
 
 mul-if1 : tie.Need-mul-if1 Inv-loop μ-loop
 mul-if1 c = search needs
@@ -59,16 +61,25 @@ slice-read-row-at : tie.Need-slice-read-row-at Inv-loop μ-loop
 slice-read-row-at c = search needs
 
 sub-row-at : tie.Need-sub-row-at Inv-loop μ-loop
-sub-row-at c = let loop = c .before .before .before .before .loop in let loop-test = c .before .before .before .loop-test in let pre = c .before .before .before .before .before .before .before .before .before .before .before .pre in omega (arith, marking-number (loop .inv .0) (loop-test .taken) _ (loop .inv .1) pre)
+sub-row-at c =
+    let at-loop = c .before .before .before .before in
+    let start = at-loop .before .before .before .before .before .before .before in
+    let loop = at-loop .loop in let loop-test = c .before .before .before .loop-test in let pre = start .pre in omega (arith, marking-number (loop .inv .0) (loop-test .taken) _ (loop .inv .1) pre)
 
 cast-row-at : tie.Need-cast-row-at Inv-loop μ-loop
-cast-row-at c = let slice-known4 = c .slice-known4 in let loop = c .before .before .before .before .loop in record { fits = omega (arith, slice-known4 .given (5 * loop .e) .fits) }
+cast-row-at c =
+    let at-loop = c .before .before .before .before in
+    let slice-known4 = c .slice-known4 in let loop = at-loop .loop in record { fits = omega (arith, slice-known4 .given (5 * loop .e) .fits) }
 
 row-at-requires : tie.Need-row-at-requires Inv-loop μ-loop
 row-at-requires c κs = search needs
 
 mark-of-requires : tie.Need-mark-of-requires Inv-loop μ-loop
-mark-of-requires c κs = let loop = c .before .before .before .before .before .loop in let loop-test = c .before .before .before .before .loop-test in let pre = c .before .before .before .before .before .before .before .before .before .before .before .before .pre in let if1 = c .before .before .if1 in let row-at = c .row-at in marking-rows (loop .inv .0) (loop-test .taken) _ (loop .inv .1) pre (if1 .left) _ (row-at .ensures)
+mark-of-requires c κs =
+    let at-loop-test = c .before .before .before .before in
+    let at-loop = at-loop-test .before in
+    let start = at-loop .before .before .before .before .before .before .before in
+    let loop = at-loop .loop in let loop-test = at-loop-test .loop-test in let pre = start .pre in let if1 = c .before .before .if1 in let row-at = c .row-at in marking-rows (loop .inv .0) (loop-test .taken) _ (loop .inv .1) pre (if1 .left) _ (row-at .ensures)
 
 mul-list : tie.Need-mul-list Inv-loop μ-loop
 mul-list c = search needs
@@ -89,7 +100,11 @@ loop-less : tie.Need-loop-less Inv-loop μ-loop
 loop-less c = search needs
 
 loop-again : tie.Need-loop-again Inv-loop μ-loop
-loop-again c = let loop = c .before .before .before .before .before .before .loop in let loop-test = c .before .before .before .before .before .loop-test in let pre = c .before .before .before .before .before .before .before .before .before .before .before .before .before .pre in let if1 = c .before .before .before .if1 in let row-at = c .before .row-at in let mark-of = c .mark-of in (marking-next (loop .inv .0) (loop-test .taken) _ (loop .inv .1) pre (if1 .left) _ _ (row-at .ensures) (mark-of .ensures), loop .inv .1)
+loop-again c =
+    let at-loop-test = c .before .before .before .before .before in
+    let at-loop = at-loop-test .before in
+    let start = at-loop .before .before .before .before .before .before .before in
+    let loop = at-loop .loop in let loop-test = at-loop-test .loop-test in let pre = start .pre in let if1 = c .before .before .before .if1 in let row-at = c .before .row-at in let mark-of = c .mark-of in (marking-next (loop .inv .0) (loop-test .taken) _ (loop .inv .1) pre (if1 .left) _ _ (row-at .ensures) (mark-of .ensures), loop .inv .1)
 
 same-length-2 : tie.Need-same-length-2 Inv-loop μ-loop
 same-length-2 c = search needs

@@ -24,7 +24,9 @@ sub-j : tie.Need-sub-j Inv-loop μ-loop
 sub-j c = search needs
 
 raise-by-requires : tie.Need-raise-by-requires Inv-loop μ-loop
-raise-by-requires c κs = let pre = c .before .before .before .before .before .before .before .pre in let loop = c .before .before .loop in let loop-test = c .before .loop-test in (omega (arith, pre .1, loop .inv .1, loop-test .taken), pre .2, pre .3 (loop .j - 1) (omega (arith, loop-test .taken)) (omega (arith, loop .inv .1, loop-test .taken)))
+raise-by-requires c κs =
+    let start = c .before .before .before .before .before .before .before in
+    let pre = start .pre in let loop = c .before .before .loop in let loop-test = c .before .loop-test in (omega (arith, pre .1, loop .inv .1, loop-test .taken), pre .2, pre .3 (loop .j - 1) (omega (arith, loop-test .taken)) (omega (arith, loop .inv .1, loop-test .taken)))
 
 mul-if1 : tie.Need-mul-if1 Inv-loop μ-loop
 mul-if1 c = search needs
@@ -42,13 +44,21 @@ same-length : tie.Need-same-length Inv-loop μ-loop
 same-length c = search needs
 
 returns : tie.Need-returns Inv-loop μ-loop
-returns c = let loop-test = c .before .before .before .before .before .before .loop-test in let raise-by = c .before .before .before .before .raise-by in let if1 = c .if1 in let loop = c .before .before .before .before .before .before .before .loop in raise-writes _ _ _ _ _ _ _ _ (loop-test .taken) _ _ (raise-by .ensures) (if1 .taken) ∙ loop .inv .3
+returns c =
+    let at-raise-by = c .before .before .before .before in
+    let at-loop-test = at-raise-by .before .before in
+    let at-loop = at-loop-test .before in
+    let loop-test = at-loop-test .loop-test in let raise-by = at-raise-by .raise-by in let if1 = c .if1 in let loop = at-loop .loop in raise-writes _ _ _ _ _ _ _ _ (loop-test .taken) _ _ (raise-by .ensures) (if1 .taken) ∙ loop .inv .3
 
 loop-less : tie.Need-loop-less Inv-loop μ-loop
 loop-less c = search needs
 
 loop-again : tie.Need-loop-again Inv-loop μ-loop
-loop-again c = let loop-test = c .before .before .before .before .before .before .loop-test in let loop = c .before .before .before .before .before .before .before .loop in let raise-by = c .before .before .before .before .raise-by in let if1 = c .if1 in (omega (arith, loop-test .taken), omega (arith, loop .inv .1), raise-by .kept .1 .1 .1 .1 .0 ∙ loop .inv .2, raise-reads _ _ _ _ _ _ _ _ (loop-test .taken) _ _ (raise-by .ensures) (if1 .left) ∙ loop .inv .3)
+loop-again c =
+    let at-raise-by = c .before .before .before .before in
+    let at-loop-test = at-raise-by .before .before in
+    let at-loop = at-loop-test .before in
+    let loop-test = at-loop-test .loop-test in let loop = at-loop .loop in let raise-by = at-raise-by .raise-by in let if1 = c .if1 in (omega (arith, loop-test .taken), omega (arith, loop .inv .1), raise-by .kept .1 .1 .1 .1 .0 ∙ loop .inv .2, raise-reads _ _ _ _ _ _ _ _ (loop-test .taken) _ _ (raise-by .ensures) (if1 .left) ∙ loop .inv .3)
 
 same-length-2 : tie.Need-same-length-2 Inv-loop μ-loop
 same-length-2 c = search needs

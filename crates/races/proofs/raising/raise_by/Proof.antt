@@ -40,13 +40,18 @@ sub-row-at : tie.Need-sub-row-at
 sub-row-at c = search needs
 
 cast-row-at : tie.Need-cast-row-at
-cast-row-at c = let shared-slice-known5 = c .shared-slice-known5 in let args = c .before .before .before .before .before .before .before .args in record { fits = omega (arith, shared-slice-known5 .given (5 * args .j) .fits) }
+cast-row-at c =
+    let start = c .before .before .before .before .before .before .before in
+    let shared-slice-known5 = c .shared-slice-known5 in let args = start .args in record { fits = omega (arith, shared-slice-known5 .given (5 * args .j) .fits) }
 
 row-at-requires : tie.Need-row-at-requires
 row-at-requires c κs = search needs
 
 cast-merge-row : tie.Need-cast-merge-row
-cast-merge-row c = let row-at = c .before .row-at in let shared-slice-known2 = c .before .before .before .before .before .before .before .shared-slice-known2 in let args = c .before .before .before .before .before .before .before .before .before .args in record { fits = omega (arith, row-at .ensures, shared-slice-known2 .given (at (decode (now (args .recs))) (getD (now (args .list)) (5 * args .j) 0 - 1) .first) .fits) }
+cast-merge-row c =
+    let at-shared-slice-known = c .before .before .before .before .before .before .before in
+    let start = at-shared-slice-known .before .before in
+    let row-at = c .before .row-at in let shared-slice-known2 = at-shared-slice-known .shared-slice-known2 in let args = start .args in record { fits = omega (arith, row-at .ensures, shared-slice-known2 .given (at (decode (now (args .recs))) (getD (now (args .list)) (5 * args .j) 0 - 1) .first) .fits) }
 
 cast-merge-row-2 : tie.Need-cast-merge-row-2
 cast-merge-row-2 c = search needs
@@ -58,7 +63,10 @@ same-length : tie.Need-same-length
 same-length c = search needs
 
 returns-2 : tie.Need-returns-2
-returns-2 c = let merge-row = c .before .before .merge-row in let if1 = c .before .before .before .before .before .before .if1 in let row-at = c .before .before .before .before .row-at in merge-row .ensures ∙ raise-open _ _ _ _ _ _ _ _ (if1 .left) _ (row-at .ensures)
+returns-2 c =
+    let at-row-at = c .before .before .before .before in
+    let at-if = at-row-at .before .before in
+    let merge-row = c .before .before .merge-row in let if1 = at-if .if1 in let row-at = at-row-at .row-at in merge-row .ensures ∙ raise-open _ _ _ _ _ _ _ _ (if1 .left) _ (row-at .ensures)
 
 pub raise-by-spec : {M : Type 1} → statement M
 raise-by-spec =

@@ -23,7 +23,9 @@ abbrev μ-loop : tie.MeasureT-loop
 μ-loop recs ranks chosen events width clocks₀ n chains₀ u₀ i₀ clocks chains u i = n - i
 
 cast-clear-rows : tie.Need-cast-clear-rows Inv-loop μ-loop
-cast-clear-rows c = let pre = c .before .before .before .before .before .pre in record { fits = omega (arith, pre .events-are, events-few (pre .acceptable)) }
+cast-clear-rows c =
+    let start = c .before .before .before .before .before in
+    let pre = start .pre in record { fits = omega (arith, pre .events-are, events-few (pre .acceptable)) }
 
 clear-rows-requires : tie.Need-clear-rows-requires Inv-loop μ-loop
 clear-rows-requires c κs = search needs
@@ -32,7 +34,9 @@ count-requires : tie.Need-count-requires Inv-loop μ-loop
 count-requires c κs = search needs
 
 loop-holds : tie.Need-loop-holds Inv-loop μ-loop
-loop-holds c = let pre = c .before .before .before .before .before .before .before .before .before .pre in let clear-rows = c .before .before .before .clear-rows in let count = c .count in (cleared-refillable pre _ (clear-rows .ensures), refilling-start (cleared-refillable pre _ (clear-rows .ensures)) (cleared-zeros pre _ (clear-rows .ensures)), count .ensures, refl)
+loop-holds c =
+    let start = c .before .before .before .before .before .before .before .before .before in
+    let pre = start .pre in let clear-rows = c .before .before .before .clear-rows in let count = c .count in (cleared-refillable pre _ (clear-rows .ensures), refilling-start (cleared-refillable pre _ (clear-rows .ensures)) (cleared-zeros pre _ (clear-rows .ensures)), count .ensures, refl)
 
 mul-c : tie.Need-mul-c Inv-loop μ-loop
 mul-c c = let loop = c .before .loop in let loop-test = c .loop-test in let h = chosen-room (loop .inv .0) (loop .inv .1) (omega (arith, loop .inv .2, loop-test .taken)) in search needs
@@ -47,7 +51,10 @@ add-to-row-requires : tie.Need-add-to-row-requires Inv-loop μ-loop
 add-to-row-requires c κs = let loop = c .before .before .before .loop in let loop-test = c .before .before .loop-test in add-room (loop .inv .0) (loop .inv .1) (omega (arith, loop .inv .2, loop-test .taken)) _ refl
 
 add-chains : tie.Need-add-chains Inv-loop μ-loop
-add-chains c = let shared-slice-known4 = c .before .before .before .before .before .shared-slice-known4 in let loop = c .before .before .before .before .before .before .before .loop in record { fits = omega (arith, shared-slice-known4 .given (loop .u) .fits) }
+add-chains c =
+    let at-shared-slice-known = c .before .before .before .before .before in
+    let at-loop = at-shared-slice-known .before .before in
+    let shared-slice-known4 = at-shared-slice-known .shared-slice-known4 in let loop = at-loop .loop in record { fits = omega (arith, shared-slice-known4 .given (loop .u) .fits) }
 
 add-merge-links : tie.Need-add-merge-links Inv-loop μ-loop
 add-merge-links c = search needs
@@ -95,7 +102,10 @@ same-length : tie.Need-same-length Inv-loop μ-loop
 same-length c = search needs
 
 returns : tie.Need-returns Inv-loop μ-loop
-returns c = let loop = c .before .loop in let loop-test = c .loop-test in let args = c .before .before .before .before .before .before .before .before .before .before .before .args in let pre = c .before .before .before .before .before .before .before .before .before .before .before .pre in let clear-rows = c .before .before .before .before .before .clear-rows in refilling-end (loop .inv .0) (loop .inv .1) (omega (arith, loop .inv .2, loop-test .left)) ∙ ap (λ (xs : List _). traceClocks (decode (now (args .recs))) (args .width) ++ xs) (cleared-rest pre _ (clear-rows .ensures))
+returns c =
+    let at-clear-rows = c .before .before .before .before .before in
+    let start = at-clear-rows .before .before .before .before .before .before in
+    let loop = c .before .loop in let loop-test = c .loop-test in let args = start .args in let pre = start .pre in let clear-rows = at-clear-rows .clear-rows in refilling-end (loop .inv .0) (loop .inv .1) (omega (arith, loop .inv .2, loop-test .left)) ∙ ap (λ (xs : List _). traceClocks (decode (now (args .recs))) (args .width) ++ xs) (cleared-rest pre _ (clear-rows .ensures))
 
 pub refill-spec : {M : Type 1} → statement M
 refill-spec =

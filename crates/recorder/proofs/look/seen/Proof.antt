@@ -35,12 +35,14 @@ event-at-requires c κs = search needs
 
 returns : tie.Need-returns Inv-loop μ-loop
 returns c =
+    let at-if = c .before .before .before .before in
+    let at-kind-at = at-if .before in
     let at-loop-test = c .before .before .before .before .before .before in
     let at-loop = at-loop-test .before in
     let start = at-loop .before .before .before in
     let a = start .args in
     let l = at-loop .loop in
-    sym (l .inv ∙ seen-here (decode (now (a .recs))) (a .kind) (a .e .0) (l .i) (at-loop-test .loop-test .taken) (sym (c .before .before .before .before .before .kind-at .ensures) ∙ c .before .before .before .before .if1 .taken) (sym (c .before .before .before .event-at .ensures) ∙ c .if2 .taken))
+    sym (l .inv ∙ seen-here (decode (now (a .recs))) (a .kind) (a .e .0) (l .i) (at-loop-test .loop-test .taken) (sym (at-kind-at .kind-at .ensures) ∙ at-if .if1 .taken) (sym (c .before .before .before .event-at .ensures) ∙ c .if2 .taken))
 
 loop-less : tie.Need-loop-less Inv-loop μ-loop
 loop-less c = omega arith

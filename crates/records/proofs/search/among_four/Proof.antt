@@ -36,7 +36,10 @@ may-race-requires-3 : tie.Need-may-race-requires-3
 may-race-requires-3 c κs = search needs
 
 returns-3 : tie.Need-returns-3
-returns-3 c = next-here _ _ _ (omega arith) (omega arith) (past-more _ _ _ (omega arith) (past-more _ _ _ (omega arith) (past-none _ _ _ _) (sym (c .before .before .before .before .before .may-race .ensures) ∙ c .before .before .before .before .if1 .left)) (sym (c .before .before .before .may-race2 .ensures) ∙ c .before .before .if2 .left)) (sym (c .before .may-race3 .ensures) ∙ c .if3 .taken)
+returns-3 c =
+    let at-if = c .before .before .before .before in
+    let at-may-race = at-if .before in
+    next-here _ _ _ (omega arith) (omega arith) (past-more _ _ _ (omega arith) (past-more _ _ _ (omega arith) (past-none _ _ _ _) (sym (at-may-race .may-race .ensures) ∙ at-if .if1 .left)) (sym (c .before .before .before .may-race2 .ensures) ∙ c .before .before .if2 .left)) (sym (c .before .may-race3 .ensures) ∙ c .if3 .taken)
 
 add-may-race-3 : tie.Need-add-may-race-3
 add-may-race-3 c =
@@ -47,10 +50,20 @@ may-race-requires-4 : tie.Need-may-race-requires-4
 may-race-requires-4 c κs = search needs
 
 returns-4 : tie.Need-returns-4
-returns-4 c = next-here _ _ _ (omega arith) (omega arith) (past-more _ _ _ (omega arith) (past-more _ _ _ (omega arith) (past-more _ _ _ (omega arith) (past-none _ _ _ _) (sym (c .before .before .before .before .before .before .before .may-race .ensures) ∙ c .before .before .before .before .before .before .if1 .left)) (sym (c .before .before .before .before .before .may-race2 .ensures) ∙ c .before .before .before .before .if2 .left)) (sym (c .before .before .before .may-race3 .ensures) ∙ c .before .before .if3 .left)) (sym (c .before .may-race4 .ensures) ∙ c .if4 .taken)
+returns-4 c =
+    let at-if = c .before .before .before .before in
+    let at-may-race = at-if .before in
+    let at-if2 = at-may-race .before in
+    let at-may-race2 = at-if2 .before in
+    next-here _ _ _ (omega arith) (omega arith) (past-more _ _ _ (omega arith) (past-more _ _ _ (omega arith) (past-more _ _ _ (omega arith) (past-none _ _ _ _) (sym (at-may-race2 .may-race .ensures) ∙ at-if2 .if1 .left)) (sym (at-may-race .may-race2 .ensures) ∙ at-if .if2 .left)) (sym (c .before .before .before .may-race3 .ensures) ∙ c .before .before .if3 .left)) (sym (c .before .may-race4 .ensures) ∙ c .if4 .taken)
 
 returns-5 : tie.Need-returns-5
-returns-5 c = next-none _ _ _ (omega arith) (past-more _ _ _ (omega arith) (past-more _ _ _ (omega arith) (past-more _ _ _ (omega arith) (past-more _ _ _ (omega arith) (past-none _ _ _ _) (sym (c .before .before .before .before .before .before .before .may-race .ensures) ∙ c .before .before .before .before .before .before .if1 .left)) (sym (c .before .before .before .before .before .may-race2 .ensures) ∙ c .before .before .before .before .if2 .left)) (sym (c .before .before .before .may-race3 .ensures) ∙ c .before .before .if3 .left)) (sym (c .before .may-race4 .ensures) ∙ c .if4 .left))
+returns-5 c =
+    let at-if = c .before .before .before .before in
+    let at-may-race = at-if .before in
+    let at-if2 = at-may-race .before in
+    let at-may-race2 = at-if2 .before in
+    next-none _ _ _ (omega arith) (past-more _ _ _ (omega arith) (past-more _ _ _ (omega arith) (past-more _ _ _ (omega arith) (past-more _ _ _ (omega arith) (past-none _ _ _ _) (sym (at-may-race2 .may-race .ensures) ∙ at-if2 .if1 .left)) (sym (at-may-race .may-race2 .ensures) ∙ at-if .if2 .left)) (sym (c .before .before .before .may-race3 .ensures) ∙ c .before .before .if3 .left)) (sym (c .before .may-race4 .ensures) ∙ c .if4 .left))
 
 pub among-four-spec : {M : Type 1} → statement M
 among-four-spec =

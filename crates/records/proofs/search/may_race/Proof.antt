@@ -18,7 +18,9 @@ kind-at-requires c κs = search needs
 
 returns-2 : tie.Need-returns-2
 unfolding mayRace
-returns-2 c = simp (← c .before .before .before .before .cell-at .ensures, eq-eqb _ _ (c .before .if1 .left), c .kind-at .ensures)
+returns-2 c =
+    let at-cell-at = c .before .before .before .before in
+    simp (← at-cell-at .cell-at .ensures, eq-eqb _ _ (c .before .if1 .left), c .kind-at .ensures)
 
 pub may-race-spec : {M : Type 1} → statement M
 may-race-spec = tie.close (tie.spec cell-at-requires returns kind-at-requires returns-2)

@@ -26,7 +26,9 @@ returns : tie.Need-returns Inv-loop μ-loop
 returns c = next-here _ _ _ refl (c .before .before .before .loop .inv .0) (c .before .before .before .loop .inv .1) (sym (c .before .may-race .ensures) ∙ c .if1 .taken)
 
 add-i : tie.Need-add-i Inv-loop μ-loop
-add-i c = omega (arith, c .before .before .loop-test .taken, c .before .before .before .before .before .pre .1)
+add-i c =
+    let start = c .before .before .before .before .before in
+    omega (arith, c .before .before .loop-test .taken, start .pre .1)
 
 loop-less : tie.Need-loop-less Inv-loop μ-loop
 loop-less c = omega (arith, c .before .before .loop-test .taken)
