@@ -63,57 +63,57 @@ enum { JCO_SAME = 1, JCO_BEFORE = 2, JCO_AFTER = 3, JCO_UNORDERED = 4 };
 /* The most that a trace holds. */
 enum { JCO_MOST_EVENTS = 1024, JCO_MOST_RECORDS = 4096 };
 
-/* Reads the trace that the bytes end with; bytes before record 1 are the caller's own. Refuses with 1 to 10. start is where record 1 starts in the bytes, events
- * the number of event actions. */
+/* Reads the trace that the bytes end with; bytes before record 1 are the caller's own. Refuses with 1 to 10. start is where record 1 starts in the
+ * bytes, events the number of event actions. */
 uint16_t jco_read(const uint8_t *bytes, size_t bytes_length, uint16_t *place, size_t *start, size_t *records, size_t *events);
 
-/* Fills the clocks with one row of width numbers for each event action, in order of begin. Refuses with 1 to 10, 21, 23. After 23 the first event actions x width
- * clocks are 0. Clocks past the rows are unchanged in every case. */
+/* Fills the clocks with one row of width numbers for each event action, in order of begin. Refuses with 1 to 10, 21, 23. After 23 the first event
+ * actions x width clocks are 0. Clocks past the rows are unchanged in every case. */
 uint16_t jco_fill(const uint8_t *bytes, size_t bytes_length, size_t width, uint16_t *clocks, size_t clocks_length, uint16_t *place, size_t *chains);
 
 /* Which way round do the actions of events t and u stand? relation is JCO_SAME, JCO_BEFORE (t happens before u), JCO_AFTER (u happens before t) or
- * JCO_UNORDERED (neither), and 0 after a refusal: exactly that over clocks that were filled for these bytes and this width, and over any others the comparison of
- * their rows, where equal events are the same and JCO_BEFORE is told if both orders would be. Refuses with 1 to 10, 11, 21, 23. */
-uint16_t jco_order(const uint8_t *bytes, size_t bytes_length, size_t width, const uint16_t *clocks, size_t clocks_length, uint16_t t, uint16_t u, uint16_t *place,
-                   uint8_t *relation);
+ * JCO_UNORDERED (neither), and 0 after a refusal: exactly that over clocks that were filled for these bytes and this width, and over any others the
+ * comparison of their rows, where equal events are the same and JCO_BEFORE is told if both orders would be. Refuses with 1 to 10, 11, 21, 23. */
+uint16_t jco_order(const uint8_t *bytes, size_t bytes_length, size_t width, const uint16_t *clocks, size_t clocks_length, uint16_t t, uint16_t u,
+                   uint16_t *place, uint8_t *relation);
 
-/* The list of all races, and the short list: count entries of JCO_LIST_ENTRY numbers from the start of the list space, ordered by second record, then first.
- * list_length counts numbers. Refuse with 1 to 10, 21, 22, 23, 24. After success and after 24 the clocks are filled as by jco_fill, after 23 they are 0 over event
- * actions x width; after all three the work space is 0 over one byte for each event action. Clocks past the rows and work bytes past the event actions are
- * unchanged. The list space is unchanged past the entries, and after a refusal all of it. */
+/* The list of all races, and the short list: count entries of JCO_LIST_ENTRY numbers from the start of the list space, ordered by second record, then
+ * first. list_length counts numbers. Refuse with 1 to 10, 21, 22, 23, 24. After success and after 24 the clocks are filled as by jco_fill, after 23 they
+ * are 0 over event actions x width; after all three the work space is 0 over one byte for each event action. Clocks past the rows and work bytes past
+ * the event actions are unchanged. The list space is unchanged past the entries, and after a refusal all of it. */
 uint16_t jco_all_races(const uint8_t *bytes, size_t bytes_length, size_t width, uint16_t *clocks, size_t clocks_length, uint8_t *work, size_t work_length,
                        uint16_t *list, size_t list_length, uint16_t *place, size_t *events, size_t *records, size_t *chains, size_t *count);
 uint16_t jco_short_list(const uint8_t *bytes, size_t bytes_length, size_t width, uint16_t *clocks, size_t clocks_length, uint8_t *work, size_t work_length,
                         uint16_t *list, size_t list_length, uint16_t *place, size_t *events, size_t *records, size_t *chains, size_t *count);
 
-/* Asks about the race of records a and b, numbered from 1, a first. Open (covered is 0): count entries (event, last record kept), the event actions of an
- * arrangement that runs b without a, in trace order. Covered (covered is 1): count entries (first, second), races of the trace that cover the pair, in order.
- * An entry is JCO_PAIR_ENTRY numbers. Refuses with 1 to 10, 11, 21, 22, 23, 12, 24. Clocks, work space and list space are
- * left as by a list, after 12 as after 24. */
+/* Asks about the race of records a and b, numbered from 1, a first. Open (covered is 0): count entries (event, last record kept), the event actions of
+ * an arrangement that runs b without a, in trace order. Covered (covered is 1): count entries (first, second), races of the trace that cover the pair,
+ * in order. An entry is JCO_PAIR_ENTRY numbers. Refuses with 1 to 10, 11, 21, 22, 23, 12, 24. Clocks, work space and list space are left as by a list,
+ * after 12 as after 24. */
 uint16_t jco_ask_pair(const uint8_t *bytes, size_t bytes_length, size_t width, uint16_t *clocks, size_t clocks_length, uint8_t *work, size_t work_length,
                       uint16_t *list, size_t list_length, uint16_t a, uint16_t b, uint16_t *place, uint8_t *covered, size_t *count);
 
-/* Writes the slim trace of the trace that the bytes end with, from the first byte of out on, with nothing before its record 1: per event action and cell the
- * first read and the first write, and every other record. length is that of the slim trace in bytes, dropped the number of records left out. The slim trace
- * has the same cells with an open race, and the same combinations of first event action and second access among its open races; compacting it drops 0.
- * Refuses with 1 to 10, 24. out is unchanged past the slim trace, and after a refusal all of it. As many bytes as the trace has from its record 1 on are
- * always enough. */
+/* Writes the slim trace of the trace that the bytes end with, from the first byte of out on, with nothing before its record 1: per event action and cell
+ * the first read and the first write, and every other record. length is that of the slim trace in bytes, dropped the number of records left out. The
+ * slim trace has the same cells with an open race, and the same combinations of first event action and second access among its open races; compacting it
+ * drops 0. Refuses with 1 to 10, 24. out is unchanged past the slim trace, and after a refusal all of it. As many bytes as the trace has from its record
+ * 1 on are always enough. */
 uint16_t jco_compact(const uint8_t *bytes, size_t bytes_length, uint8_t *out, size_t out_length, uint16_t *place, size_t *length, size_t *dropped);
 
-/* The recorder writes a trace into the space from its first byte on. Its state is four numbers, which the caller keeps and lends to each call; closed is 0 where
- * the recorder is open, anything else where it is closed. No state and no content of the space leads to a fault. If nobody else altered the space and the numbers
- * meanwhile, what is closed is a trace of the steps taken, which jco_read accepts. */
+/* The recorder writes a trace into the space from its first byte on. Its state is four numbers, which the caller keeps and lends to each call; closed is
+ * 0 where the recorder is open, anything else where it is closed. No state and no content of the space leads to a fault. If nobody else altered the
+ * space and the numbers meanwhile, what is closed is a trace of the steps taken, which jco_read accepts. */
 
 /* Opens a recorder over the space, whose bytes are unchanged; closed becomes 0. Refuses with 25 (fewer than 8 bytes); the recorder is then closed, 1. */
 uint16_t jco_recorder_open(const uint8_t *space, size_t space_length, uint16_t *count, uint8_t *situation, uint16_t *owner, uint8_t *closed);
 
-/* Stores one record after those before it; no other byte of the space changes. Refuses with 26, 4 to 8 (place is the number that the record would have had), 25;
- * the space and all four numbers are then unchanged. */
+/* Stores one record after those before it; no other byte of the space changes. Refuses with 26, 4 to 8 (place is the number that the record would have
+ * had), 25; the space and all four numbers are then unchanged. */
 uint16_t jco_recorder_step(uint8_t *space, size_t space_length, uint16_t *count, uint8_t *situation, uint16_t *owner, uint8_t *closed, uint8_t kind,
                            uint16_t first, uint16_t second, uint16_t *place);
 
-/* Stores the trailer after the records; length is that of the whole trace, from the first byte of the space, and closed becomes 1. Refuses with 26, 9 (place is
- * the last record), 25; the space and all four numbers are then unchanged. */
+/* Stores the trailer after the records; length is that of the whole trace, from the first byte of the space, and closed becomes 1. Refuses with 26, 9
+ * (place is the last record), 25; the space and all four numbers are then unchanged. */
 uint16_t jco_recorder_close(uint8_t *space, size_t space_length, uint16_t *count, uint8_t *situation, uint16_t *owner, uint8_t *closed, uint16_t *place,
                             size_t *length);
 

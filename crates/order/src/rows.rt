@@ -149,7 +149,8 @@ pub(crate) fn fill_rows(
 ) -> Filling
     requires { ⌜ Acceptable (decode (now recs)) × (events ≡ eventsIn (decode (now recs)))
         × (spaceFor width events (length (now clocks)) ≡ true) × (now chosen ≡ noChains) ⌝ }
-    ensures { λ r. ⌜ FillsTrace (decode (now (recs .entry))) events width (now (clocks .entry)) (now (clocks .exit)) r (now (chosen .exit)) (now (ranks .exit)) ⌝ }
+    ensures { λ r. ⌜ FillsTrace (decode (now (recs .entry))) events width (now (clocks .entry)) (now (clocks .exit)) r
+        (now (chosen .exit)) (now (ranks .exit)) ⌝ }
 {
     let rows = events as u16;
     ranks::fill_ranks(recs, ranks);

@@ -86,7 +86,8 @@ fn relation(
     a: usize,
     b: usize,
 ) -> Relation
-    requires { ⌜ FilledClocks (decode (now recs)) (now ranks) (now chosen) width (now clocks) × (a < length (decode (now recs))) × (b < length (decode (now recs))) ⌝ }
+    requires { ⌜ FilledClocks (decode (now recs)) (now ranks) (now chosen) width (now clocks)
+        × (a < length (decode (now recs))) × (b < length (decode (now recs))) ⌝ }
     ensures { λ r. ⌜ relationPaper r ≡ wayOf (decode (now (recs .entry))) a b ⌝ }
 {
     let t = row_at(recs, ranks, a);
@@ -104,7 +105,8 @@ pub(crate) fn is_before(
     a: usize,
     b: usize,
 ) -> bool
-    requires { ⌜ FilledClocks (decode (now recs)) (now ranks) (now chosen) width (now clocks) × (a < length (decode (now recs))) × (b < length (decode (now recs))) ⌝ }
+    requires { ⌜ FilledClocks (decode (now recs)) (now ranks) (now chosen) width (now clocks)
+        × (a < length (decode (now recs))) × (b < length (decode (now recs))) ⌝ }
     ensures { λ r. ⌜ r ≡ happensBefore (decode (now (recs .entry))) (eventOf (at (decode (now (recs .entry))) a))
         (eventOf (at (decode (now (recs .entry))) b)) ⌝ }
 {

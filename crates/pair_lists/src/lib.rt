@@ -153,7 +153,8 @@ pub fn short_list_into(
     numbers: &mut [u16],
     pairs: &mut [Pair],
 ) -> Listing
-    ensures { λ r. ⌜ PairLists true (now (bytes .entry)) width (now (clocks .entry)) (now (clocks .exit)) (now (work .entry)) (now (work .exit)) (now (numbers .entry)) (now (numbers .exit)) (now (pairs .entry)) (now (pairs .exit)) r ⌝ }
+    ensures { λ r. ⌜ PairLists true (now (bytes .entry)) width (now (clocks .entry)) (now (clocks .exit)) (now (work .entry)) (now (work .exit))
+        (now (numbers .entry)) (now (numbers .exit)) (now (pairs .entry)) (now (pairs .exit)) r ⌝ }
 {
     list_into(bytes, width, clocks, work, numbers, pairs, true)
 }

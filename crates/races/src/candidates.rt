@@ -91,13 +91,13 @@ fn firsts_to(kind: u8, last: usize, b: usize) -> usize
     b
 }
 
-// The way to a second access: first accesses that may race with it are looked for from one record on, before another.
+// Where the first accesses that may race with a second access are looked for: from one record on, before another.
 pub(crate) struct Firsts {
     pub from: usize,
     pub to: usize,
 }
 
-// The way to the access b of row u, with nothing on it where all accesses of its cell are ordered before it. Takes the access into account.
+// Where those of the access b of row u are looked for: nowhere, if all accesses of its cell are ordered before it. Takes the access into account.
 pub(crate) fn take_access(
     recs: &[u8],
     chosen: &[u16],
@@ -108,7 +108,7 @@ pub(crate) fn take_access(
     b: usize,
     u: usize,
     short: bool,
-) -> Way
+) -> Firsts
     requires { ⌜ Second (decode (now recs)) (ranksOf (decode (now recs))) (now chosen) width (now clocks) b u ⌝ }
     requires { ⌜ Tables (decode (now recs)) short b (now seen) (now writes) ⌝ }
     ensures { λ r. ⌜ Ranges (decode (now (recs .entry))) short b (r .from) (r .to) ⌝ }

@@ -2,7 +2,7 @@
 use crate::ENTRY_NUMBERS;
 use crate::Listing;
 use crate::Summary;
-use crate::candidates::Way;
+use crate::candidates::Firsts;
 use crate::candidates::take_access;
 use crate::racing::relation;
 use crate::raising;
@@ -91,7 +91,7 @@ fn list_firsts(
     chosen: &[u16],
     width: usize,
     clocks: &[u16],
-    firsts: Way,
+    firsts: Firsts,
     b: usize,
     u: usize,
     list: &mut [u16],

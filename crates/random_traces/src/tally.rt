@@ -130,15 +130,31 @@ fn show_text(tally: Counts, from: usize, text: &[u8]) -> usize {
 }
 
 pub(crate) fn show(tally: Counts) {
-    show_text(
+    let pairs = show_text(
         tally,
         0,
-        b"reading # #\nrefusals # #\norder # #\nclocks # #\nall races # #\nshort list # #\nopen pairs # #\ncovered pairs # #\nno race # #\nrefused traces # #\nrefusal 21 # #\nrefusal 22 # #\nrefusal 23 # #\nrefusal 24 # #\nlent memory # #\n",
+        b"reading # #\nrefusals # #\norder # #\nclocks # #\nall races # #\nshort list # #\n",
+    );
+    let refused = show_text(
+        tally,
+        pairs,
+        b"open pairs # #\ncovered pairs # #\nno race # #\nrefused traces # #\nrefusal 21 # #\nrefusal 22 # #\n",
+    );
+    let traces = show_text(
+        tally,
+        refused,
+        b"refusal 23 # #\nrefusal 24 # #\nlent memory # #\n",
+    );
+    let damaged = show_text(tally, traces, b"traces #\ndamaged #\ndamaged, accepted #\n");
+    let events = show_text(
+        tally,
+        damaged,
+        b"damaged, refusals 1 to 10 # # # # # # # # # #\nevent actions #\nrecords #\n",
     );
     show_text(
         tally,
-        30,
-        b"traces #\ndamaged #\ndamaged, accepted #\ndamaged, refusals 1 to 10 # # # # # # # # # #\nevent actions #\nrecords #\njoins #\nforks #\nordered pairs #\nmost chains #\nraces #\nshort list entries #\ncovers of several races #\nlongest cover #\n",
+        events,
+        b"joins #\nforks #\nordered pairs #\nmost chains #\nraces #\nshort list entries #\ncovers of several races #\nlongest cover #\n",
     );
     show_text(
         tally,

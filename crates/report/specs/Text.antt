@@ -57,7 +57,9 @@ pub record Prints (s : List ℕ) (at : ℕ) (ls : List (List ℕ)) (s′ : List 
 
 -- the line of entry i of a list of numbers, and of k entries from i on
 unfoldable pub entryLine : List ℕ → ℕ → List ℕ
-entryLine list i = pairLine (getD list (entryNumbers * i) 0) (getD list (entryNumbers * i + 1) 0) (getD list (entryNumbers * i + 2) 0) (getD list (entryNumbers * i + 3) 0) (getD list (entryNumbers * i + 4) 0)
+entryLine list i =
+    pairLine (getD list (entryNumbers * i) 0) (getD list (entryNumbers * i + 1) 0) (getD list (entryNumbers * i + 2) 0)
+    (getD list (entryNumbers * i + 3) 0) (getD list (entryNumbers * i + 4) 0)
 
 unfoldable pub entryLines : List ℕ → ℕ → ℕ → List (List ℕ)
 entryLines list i zero = []

@@ -109,7 +109,8 @@ module _ (tr : List Record) (b : ℕ) where
     pub marks : (x : ℕ) → hi ≤ x → x < length tr → getD work (rowOf tr x) 0 ≡ mark (leads (settingOf tr) b (eventOf (at tr x)))
     pub zeros : (r : ℕ) → r < t → getD work r 0 ≡ 0
     pub levels : (v c : ℕ) → 0 < v → c < 1025 → (v ≤ getD cells c 0) ↔ KeptAccess v c hi
-    pub entries : (x : ℕ) → x < length tr → (getD clocks (rowOf tr x * width + getD chosen (rowOf tr x) 0) 0 ≤ getD row (getD chosen (rowOf tr x) 0) 0) ↔ Below x hi
+    pub entries : (x : ℕ) → x < length tr →
+        (getD clocks (rowOf tr x * width + getD chosen (rowOf tr x) 0) 0 ≤ getD row (getD chosen (rowOf tr x) 0) 0) ↔ Below x hi
 
 -- from the rows passed from t on to those from t′ on, whatever b is
 abbrev pub KeepsOn : List Record → List ℕ → ℕ → List ℕ → ℕ → ℕ → ℕ → ℕ → List ℕ → List ℕ → List ℕ → List ℕ → List ℕ → List ℕ → Type 0

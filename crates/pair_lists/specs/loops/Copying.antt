@@ -29,7 +29,13 @@ pub record Within (short : Bool) (b : List ℕ) (width : ℕ) (clocks clocks′ 
 
 -- the pair that the numbers say at place i
 abbrev pub pairAt : List ℕ → ℕ → Pair
-pairAt l i = record { first = operation (getD l (entryNumbers * i) 0); second = operation (getD l (entryNumbers * i + 1) 0); cell = var (getD l (entryNumbers * i + 2) 0); shape = getD l (entryNumbers * i + 3) 0; mark = getD l (entryNumbers * i + 4) 0 }
+pairAt l i = record {
+  first = operation (getD l (entryNumbers * i) 0);
+  second = operation (getD l (entryNumbers * i + 1) 0);
+  cell = var (getD l (entryNumbers * i + 2) 0);
+  shape = getD l (entryNumbers * i + 3) 0;
+  mark = getD l (entryNumbers * i + 4) 0;
+}
 
 -- the first n places are set, in their order
 abbrev pub puts : List Pair → List ℕ → ℕ → List Pair
