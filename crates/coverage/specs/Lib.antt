@@ -8,4 +8,5 @@ pub mod Neighbours
 pub mod Lists
 pub mod Whole
 pub mod Demand
+pub mod Retelling
 pub mod Embedding

@@ -3,3 +3,4 @@ pub mod Kept
 pub mod Pair
 pub mod PairSearch
 pub mod Demand
+pub mod Retelling

@@ -6,5 +6,6 @@ pub mod Candidates
 pub mod ListPass
 pub mod Marking
 pub mod Demand
+pub mod SomeOpen
 pub mod Raising
 pub mod Refilling
