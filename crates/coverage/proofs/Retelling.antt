@@ -7,12 +7,12 @@ use mathlib.Core.List.{List, [], _∷_, List·Memᴰ·head, List·Memᴰ·tail, 
 use native.Mathlib.Omega.{arith}
 use lib.Dec.{T}
 use lib.ListN.{length}
-use Rattle.coverage.specs.Below.{_∈_, _∉_, Listed}
+use Rattle.coverage.specs.Below.{_∈_, Listed}
 use Rattle.coverage.specs.Setting.{Setting, Laws}
 use Rattle.coverage.specs.Race.{Race}
 use Rattle.coverage.specs.Cover.{Open}
 use Rattle.coverage.specs.Arrangement.{Earlier, here, there, Last, Distinct, Arrangement, Accesses}
-use Rattle.coverage.specs.Leading.{leads, kept, lastKept, entries, written}
+use Rattle.coverage.specs.Leading.{leads, kept, lastKept, entries}
 use Rattle.coverage.specs.Retelling.{Contains, Runs, InTraceOrder, Shortest}
 use Rattle.slices.proofs.Tests.{both, decide-eq}
 use Rattle.coverage.proofs.Lists.{earlier-left, earlier-right, not-last, not-back, in-map, in-upto, upto-rising}
@@ -131,3 +131,11 @@ shortest t w a b r o =
       only = λ π (A, m, n) f q. rw e (rising-same π (kept t b) (rising t w b (r .inside) π A q) (kept-rising t w b) (λ x. (none-more t w b (r .inside) π A (accesses-last t a b r π (A, m, n)) (λ u h. rw e at (f u .0 h)) x, minimal t w π A b m x)));
       fewest = λ π (A, m, n). rw e (fewer (kept t b) π (g .0 .distinct) (minimal t w π A b m));
     }
+
+-- Two wrong statements, refuted by the arrangement given: it lacks a, which stands before b, and holds nothing after b.
+module _ (t : Setting) (w : Laws t) (a b : ℕ) (r : Race t a b) (o : Open t a b) where
+  pub not-all-before : ((π : List ℕ) → Accesses t a b π → (x : ℕ) → x < b → x ∈ π) → ⊥
+  not-all-before f = let g = open-accesses t w a b r o in g .2 (f (kept t b) g a (r .first))
+
+  pub not-one-later : ((π : List ℕ) → Accesses t a b π → suc b ∈ π) → ⊥
+  not-one-later f = let k = in-kept t b (f (kept t b) (open-accesses t w a b r o)) .0 in omega arith

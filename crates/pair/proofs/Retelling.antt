@@ -1,7 +1,7 @@
 -- The arrangement that the pair question writes is the shortest one: from the third demand and `shortest`.
 -- Assumes nothing.
 use Prim.Native.Nat.{ℕ, _+_}
-use mathlib.Core.Path.{_≡_, refl, sym, ap, _∙_}
+use mathlib.Core.Path.{_≡_, _∙_}
 use mathlib.Core.Bool.{Bool, true, false}
 use mathlib.Core.List.{List}
 use native.Mathlib.Omega.{arith}
@@ -9,9 +9,8 @@ use lib.ListN.{length}
 use Rattle.records.specs.declared.Trace.{Trace}
 use Rattle.trace.specs.Reply.{gives}
 use Rattle.trace.specs.Reading.{recordsIn, Accepts}
-use Rattle.trace.proofs.ReplyLaws.{same-given}
 use Rattle.coverage.specs.Race.{Race}
-use Rattle.coverage.specs.Leading.{coveredb, entries}
+use Rattle.coverage.specs.Leading.{entries}
 use Rattle.coverage.proofs.Theorems.{shortest}
 use Rattle.races.specs.Traces.{settingOf}
 use Rattle.races.proofs.Instance.{laws}
@@ -19,7 +18,7 @@ use Rattle.races.proofs.ThirdDemand.{acceptable}
 use Rattle.races.proofs.SomeOpen.{some-open}
 use Rattle.pair.specs.declared.PairAnswer.{PairAnswer}
 use Rattle.pair.specs.declared.PairAnswer.the-variants as pair
-use Rattle.pair.specs.Pair.{PairMark, isOpen, isCovered, answered, keptEntries, PairPromise}
+use Rattle.pair.specs.Pair.{isOpen, answered, keptEntries, PairPromise}
 use Rattle.pair.specs.Demand.{PairSuffices}
 use Rattle.pair.specs.Retelling.{GivesShortest, ShortestRetelling}
 use Rattle.pair.proofs.ThirdDemand.{answers-race, third-demand}

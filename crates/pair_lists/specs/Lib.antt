@@ -1,3 +1,4 @@
 pub mod Pairs
 pub mod Copying
 pub mod Demand
+pub mod SomeOpen

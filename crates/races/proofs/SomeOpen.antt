@@ -1,15 +1,14 @@
 -- A trace with any race has an open one, and each list has an entry marked open: from `some-open` and the third demand.
 -- Assumes nothing.
 use Prim.Native.Nat.{ℕ, _<_}
-use mathlib.Core.Path.{_≡_, refl}
+use mathlib.Core.Path.{refl}
 use mathlib.Core.Bool.{Bool, true, false}
 use mathlib.Core.List.{List, [], _∷_, List·Memᴰ·head}
 use native.Mathlib.Omega.{arith}
 use lib.ListN.{length}
 use Rattle.records.specs.declared.Record.{Record}
-use Rattle.records.specs.declared.Trace.{Trace}
 use Rattle.records.specs.Records.{at}
-use Rattle.trace.specs.Reading.{Acceptable, recordsIn, Accepts}
+use Rattle.trace.specs.Reading.{Acceptable}
 use Rattle.coverage.specs.Below as below
 use Rattle.coverage.specs.Race.{Race}
 use Rattle.coverage.proofs.Theorems as coverage
