@@ -35,6 +35,9 @@ module _ {tr : List Record} (a : Acceptable tr) where
   listed-race true x b m = coverage.in-short (settingOf tr) (cellsOf tr) x b .0 m .1
   listed-race false x b m = coverage.in-all (settingOf tr) x b .0 m
 
+  entry-race : (short : Bool) → 0 < length (pairsOf tr short) → AnyRace tr
+  entry-race short h = let (x, b, m) = listed-first (pairsOf tr short) h in (x, b, listed-race short x b m)
+
   -- A list that the third demand holds of has an entry marked open.
   module _ (calls : ℕ → ℕ → ℕ → Type 0) (names : ℕ → Type 0) (named : (x b : ℕ) → calls x b 1 → (cell : ℕ) × names cell) where
     open-entry : (short : Bool) → ListDemand tr short calls names → OpenRace tr → (cell : ℕ) × names cell
@@ -50,7 +53,8 @@ module _ {tr : List Record} (a : Acceptable tr) where
         summary = s .summary;
         is-made = s .is-made;
         any-race = f;
-        any-entry = λ h. let (x, b, m) = listed-first (pairsOf tr short) (omega (arith, s .counted)) in f (x, b, listed-race short x b m);
+        any-listed = λ h. f (entry-race false h);
+        any-entry = λ h. f (entry-race short (omega (arith, s .counted)));
       }
 
 -- an entry called open is one of its cell marked open
