@@ -7,6 +7,7 @@ pub mod Needed
 pub mod Some
 pub mod Entries
 pub mod Kept
+pub mod Retelling
 pub mod Short
 pub mod Pairs
 pub mod Listed

@@ -33,6 +33,13 @@ not-last d (here e m) (later r) = d .0 (Memᴰ·cast (sym e) (last-in r))
 not-last d (there r) (final e) = elim r [ ]
 not-last d (there r) (later s) = not-last (d .1) r s
 
+-- of two, only one stands earlier
+pub not-back : {a b : ℕ} {l : List ℕ} → Distinct l → Earlier a b l → Earlier b a l → ⊥
+not-back d (here e m) (here f n) = d .0 (Memᴰ·cast (sym f) m)
+not-back d (here e m) (there r) = d .0 (Memᴰ·cast (sym e) (earlier-right r))
+not-back d (there r) (here e m) = d .0 (Memᴰ·cast (sym e) (earlier-right r))
+not-back d (there r) (there s) = not-back (d .1) r s
+
 pub earlier-append-left : {a b : ℕ} {l : List ℕ} (k : List ℕ) → Earlier a b l → Earlier a b (l ++ k)
 earlier-append-left k (here e m) = here e (Memᴰ·append-left k m)
 earlier-append-left k (there r) = there (earlier-append-left k r)
@@ -122,6 +129,21 @@ upto-earlier (suc m) p i j l k h g = go (decide-eq j m) (upto-earlier m p i j l)
     go : (j ≡ m) ⊎ (j ≢ m) → (j < m → T (p i) → T (p j) → Earlier i j (upto m p)) → Earlier i j (upto m p ++ only (p m) m)
     go (inl e) f = earlier-across (upto-in m p i (omega arith) h) (only-in (p m) e (subst (λ (x : ℕ). T (p x)) e g))
     go (inr n) f = earlier-append-left (only (p m) m) (f (omega arith) h g)
+
+pub upto-rising : (m : ℕ) (p : ℕ → Bool) (i j : ℕ) → Earlier i j (upto m p) → i < j
+unfolding upto
+upto-rising zero p i j e = elim e [ ]
+upto-rising (suc m) p i j e = go (earlier-split (upto m p) e) (upto-rising m p i j)
+  where
+    alone : (b : Bool) → Earlier i j (only b m) → ⊥
+    alone true (here e h) = List·Memᴰ·not-nil h
+    alone true (there r) = elim r [ ]
+    alone false r = elim r [ ]
+
+    go : Split i j (upto m p) (only (p m) m) → (Earlier i j (upto m p) → i < j) → i < j
+    go (left r) f = f r
+    go (across h k) f = omega (arith, in-upto m p h .0, in-only (p m) k .0)
+    go (right r) f = absurd (alone (p m) r)
 
 pub upto-distinct : (m : ℕ) (p : ℕ → Bool) → Distinct (upto m p)
 unfolding upto

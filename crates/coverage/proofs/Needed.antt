@@ -17,7 +17,7 @@ use Rattle.coverage.proofs.Order.{le-before, race-apart}
 use Rattle.coverage.proofs.Leads.{leads-sound}
 
 module _ (t : Setting) where
-  in-records : {x : ℕ} (u m : ℕ) → x ∈ recordsOf t u m → (x < m) × (t .ev x ≡ u)
+  pub in-records : {x : ℕ} (u m : ℕ) → x ∈ recordsOf t u m → (x < m) × (t .ev x ≡ u)
   unfolding recordsOf
   in-records {x} u m h = let r = in-upto m (λ (i : ℕ). eqb (t .ev i) u) h in (r .0, eqb→eq (t .ev x) u (r .1))
 

@@ -12,10 +12,11 @@ use Rattle.coverage.specs.Setting.{Setting, Laws}
 use Rattle.coverage.specs.Race.{before, Race, raceb}
 use Rattle.coverage.specs.Cover.{Covers, Covered, Open, coversb}
 use Rattle.coverage.specs.Arrangement.{Last, Arrangement, Accesses, Accessible}
-use Rattle.coverage.specs.Leading.{Leads, leads, coveredb, kept}
+use Rattle.coverage.specs.Leading.{Leads, leads, coveredb, kept, entries}
 use Rattle.coverage.specs.Neighbours.{Cells, conflicts, Neighbours, neighbour}
 use Rattle.coverage.specs.Lists.{allRaces, shortList, cellWrites, cellReads, cellEntries}
 use Rattle.coverage.specs.Demand.{OpenExactly, OpenCells}
+use Rattle.coverage.specs.Retelling.{Shortest}
 use Rattle.coverage.proofs.Order
 use Rattle.coverage.proofs.Spelled.{Spelled}
 use Rattle.coverage.proofs.Spelled as Spelling
@@ -26,6 +27,7 @@ use Rattle.coverage.proofs.Steps
 use Rattle.coverage.proofs.Needed
 use Rattle.coverage.proofs.Entries
 use Rattle.coverage.proofs.Kept
+use Rattle.coverage.proofs.Retelling
 use Rattle.coverage.proofs.Short
 use Rattle.coverage.proofs.Some
 use Rattle.coverage.proofs.Pairs
@@ -121,6 +123,10 @@ module _ (t : Setting) (w : Laws t) where
   -- "each arrangement running the second access without the first contains all event actions of the one given": every one that runs b does
   pub minimal : (b : ℕ) (π : List ℕ) → Arrangement t π → b ∈ π → (x : ℕ) → x ∈ kept t b → x ∈ π
   minimal b π A = Needed.minimal t w π A b
+
+  -- so the one given is the shortest, and in trace order the only one of its event actions
+  pub shortest : (a b : ℕ) → Race t a b → Open t a b → Shortest t a b (entries t b)
+  shortest = Retelling.shortest t w
 
   -- "a trace with any race has an open one"
   pub some-open : (a b : ℕ) → Race t a b → (c d : ℕ) × Race t c d × Open t c d

@@ -7,5 +7,6 @@ pub mod Leading
 pub mod Neighbours
 pub mod Lists
 pub mod Demand
+pub mod Retelling
 pub mod Embedding
 pub mod loops

@@ -9,5 +9,6 @@ pub mod CoverLaws
 pub mod PairLaws
 pub mod PairEnds
 pub mod ThirdDemand
+pub mod Retelling
 pub mod Cases
 pub mod Examples

@@ -40,7 +40,7 @@ module _ (bytes : List ℕ) (t : Trace) (e : Accepts bytes t) (width clocks work
   tr = recordsIn bytes t
 
   -- a pair that races is neither refused by 11 nor by 12
-  answers-race : (a b : ℕ) → PairSuffices tr width clocks work list → Race (settingOf tr) a b
+  pub answers-race : (a b : ℕ) → PairSuffices tr width clocks work list → Race (settingOf tr) a b
       → pairReply bytes width clocks work list (a + 1) (b + 1) ≡ gives (answered (coveredb (settingOf tr) a b) (length (entries (settingOf tr) b)))
   unfolding pairReply pairReady pairFilled asking then demand areRecords
   answers-race a b s r =

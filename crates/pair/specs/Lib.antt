@@ -1,3 +1,4 @@
 pub mod Pair
 pub mod Demand
 pub mod loops
+pub mod Retelling

@@ -3,3 +3,4 @@ pub mod CopyLaws
 pub mod Parts
 pub mod Passed
 pub mod ThirdDemand
+pub mod SomeOpen

@@ -1,3 +1,4 @@
 pub mod Pairs
 pub mod Demand
 pub mod loops
+pub mod SomeOpen

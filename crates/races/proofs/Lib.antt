@@ -10,6 +10,7 @@ pub mod ListEnds
 pub mod Spaces
 pub mod PreparedLaws
 pub mod ThirdDemand
+pub mod SomeOpen
 pub mod EntryOrder
 pub mod RaisedRows
 pub mod StandLaws

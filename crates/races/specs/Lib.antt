@@ -3,3 +3,4 @@ pub mod Lists
 pub mod Paper
 pub mod Demand
 pub mod loops
+pub mod SomeOpen

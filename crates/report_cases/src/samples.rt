@@ -19,4 +19,5 @@ pub(crate) fn each() {
     sample(b"setup-apart.trace");
     sample(b"setup-joined.trace");
     sample(b"repeated-reads.trace");
+    sample(b"two-observations.trace");
 }
