@@ -33,7 +33,7 @@ use Rattle.races.proofs.Instance.{laws}
 use Rattle.pair.proofs.RecordRows.{starts-parted, rank-rises, rank-some, rank-few, row-low}
 use Rattle.pair.proofs.RowMarks.{marks-tell}
 use Rattle.trace.proofs.Events.{few-events}
-use Rattle.races.proofs.FilledLaws.{rank-is, of-length, before-told, unordered-told}
+use Rattle.races.proofs.FilledLaws.{rank-is, chosen-length, before-told, unordered-told}
 use Rattle.races.proofs.CandidateLaws.{racing, past-quiet, kind-access, kind-no-access}
 use Rattle.races.proofs.ListLaws.{may-race, may-found}
 use Rattle.pair.proofs.PairEntries.{no-entries, entries-room, put-more}
@@ -153,7 +153,7 @@ module _ {tr : List Record} {ranks chosen : List ℕ} {width : ℕ} {clocks : Li
       pub along-rows : t < rows tr → (width ≤ 1024) × (t < 1024) × (s < 1024) × (u < 1024) × (length chosen ≡ 1024)
       along-rows k =
           let m = few-events acc in
-          (f .narrow, omega (arith, k, m), omega (arith, row-c, row-low acc c inside-c, m), omega (arith, row-of-d u (n .row-is), row-low acc d inside, m), of-length f)
+          (f .narrow, omega (arith, k, m), omega (arith, row-c, row-low acc c inside-c, m), omega (arith, row-of-d u (n .row-is), row-low acc d inside, m), chosen-length f)
 
       told : (y : ℕ) → y < length tr → rowOf tr y ≡ t → racesFrom tr y c d ≡ goesOn chosen width clocks t s u
       unfolding racesFrom goesOn

@@ -18,7 +18,7 @@ use Rattle.order.proofs.RowLaws.{place}
 use Rattle.order.proofs.TableLaws.{events-few, chain-at}
 use Rattle.races.specs.loops.FilledClocks.{rows, FilledClocks}
 use Rattle.pair.specs.loops.Kept.{rowOf, Starts, Split, Block, Noted, OneClashes, Merged, Passing, Rest, Kept, Passes, PassesAll, Markable, MarksKept}
-use Rattle.races.proofs.FilledLaws.{of-length, chain-fits, clocks-hold}
+use Rattle.races.proofs.FilledLaws.{chosen-length, chain-fits, clocks-hold}
 use Rattle.pair.proofs.RecordRows.{row-low, row-of-block, split-at}
 use Rattle.pair.proofs.KeptLaws.{none-bytes, noted-bytes, led-leads, leads-led, keeps-by, keeps-below, keeps-merged, keeps-start, keeps-end}
 use Rattle.races.proofs.Instance.{access-inside}
@@ -56,7 +56,7 @@ pub bounds-of : {tr : List Record} {ranks chosen : List ℕ} {width chains : ℕ
 bounds-of f e t h = record {
   row-in = h;
   rows-few = rows-few f;
-  of-long = of-length f;
+  of-long = chosen-length f;
   chain-low = omega (arith, chain-few f t h);
   chains-low = omega (arith, chains-fit f);
   narrow = f .narrow;

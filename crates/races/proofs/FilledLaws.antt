@@ -51,15 +51,15 @@ module _ {tr : List Record} {ranks chosen : List ℕ} {width : ℕ} {clocks : Li
     pub row-inside : rank tr (ev x) - 1 < eventsIn tr
     row-inside = rank-row (f .acceptable) (ev x) has-rank
 
-  pub of-length : length chosen ≡ 1024
+  pub chosen-length : length chosen ≡ 1024
   unfolding chainTable
-  of-length = omega (arith, ap length (f .chosen-are), length-append (table (eventsIn tr) (chainOf (traceLinks tr))) (replicate (1024 - eventsIn tr) 0), table-length (eventsIn tr) (chainOf (traceLinks tr)), length-replicate {A = ℕ} (1024 - eventsIn tr) 0, events-few (f .acceptable))
+  chosen-length = omega (arith, ap length (f .chosen-are), length-append (table (eventsIn tr) (chainOf (traceLinks tr))) (replicate (1024 - eventsIn tr) 0), table-length (eventsIn tr) (chainOf (traceLinks tr)), length-replicate {A = ℕ} (1024 - eventsIn tr) 0, events-few (f .acceptable))
 
   pub ranks-length : length ranks ≡ 1025
   ranks-length = ap length (f .ranks-are) ∙ ranks-many tr
 
   pub row-room : (x : ℕ) → x < length tr → getD ranks (ev x) 0 - 1 < length chosen
-  row-room x h = omega (arith, rank-is x h, row-inside x h, events-few (f .acceptable), of-length)
+  row-room x h = omega (arith, rank-is x h, row-inside x h, events-few (f .acceptable), chosen-length)
 
   pub before-is : (a b : ℕ) → a < length tr → b < length tr
       → compareIn clocks width (getD chosen (getD ranks (ev a) 0 - 1) 0) (getD ranks (ev a) 0 - 1) (getD ranks (ev b) 0 - 1) ≡ happensBefore tr (ev a) (ev b)
@@ -83,7 +83,7 @@ module _ {tr : List Record} {ranks chosen : List ℕ} {width : ℕ} {clocks : Li
   -- rows that have begun stand in the clocks
   pub rows-in : (t u : ℕ) → t < eventsIn tr → u < eventsIn tr → RowsIn chosen width clocks t u
   rows-in t u h k = record {
-    known = omega (arith, of-length, events-few (f .acceptable));
+    known = omega (arith, chosen-length, events-few (f .acceptable));
     own = omega (arith, clocks-hold, place width (eventsIn tr) t (getD chosen t 0) h (chain-fits t h));
     other = omega (arith, clocks-hold, place width (eventsIn tr) u (getD chosen t 0) k (chain-fits t h));
   }

@@ -28,7 +28,7 @@ use Rattle.races.specs.Lists.{markOf}
 use Rattle.races.specs.loops.Marking.{first, second, Remarked}
 use Rattle.races.specs.loops.Raising.{Unmarked, rowIn, markIn, Markable, MarksSecond, raiseDown, Place, MayGo, Went}
 use Rattle.races.proofs.CoverNumbers.{events, number, number-name}
-use Rattle.races.proofs.FilledLaws.{of-length}
+use Rattle.races.proofs.FilledLaws.{chosen-length}
 use Rattle.races.proofs.MarkingLaws.{remarked-none, remarked-on}
 use Rattle.races.proofs.RaisedRows.{number-mono, raised-next}
 use Rattle.races.proofs.EntryOrder.{firstAt, secondAt, size, at-passes, list-race, edge, list-edges}
@@ -107,7 +107,7 @@ module _ {tr : List Record} {ranks chosen : List ℕ} {w : ℕ} {clocks₀ list�
       let q = events-are (f .acceptable) in
       let n = omega-length l in
       record {
-        known = omega (arith, of-length f, events-few (f .acceptable), events-in tr);
+        known = omega (arith, chosen-length f, events-few (f .acceptable), events-in tr);
         own = rw e (omega (arith, n, place w m t (chainOf (traceLinks tr) t) (omega arith) c));
         other = rw e (omega (arith, n, place w m u (chainOf (traceLinks tr) t) (omega arith) c));
       }
@@ -155,7 +155,7 @@ module _ {tr : List Record} {ranks chosen : List ℕ} {w : ℕ} {clocks₀ list�
 
       pub may-go : MayGo tr chosen row position u
       may-go =
-          let o = of-length f in
+          let o = chosen-length f in
           let q = events-few (f .acceptable) in
           let z = events-in tr in
           let i = known in

@@ -5,7 +5,7 @@ use native.Mathlib.Omega.{arith}
 use mathlib.Core.Path.{refl, sym, ap}
 use Rattle.order.specs.Paper.{fillPaper}
 use Rattle.order.proofs.Upward.{upward}
-use Rattle.races.proofs.FilledLaws.{of-length}
+use Rattle.races.proofs.FilledLaws.{chosen-length}
 use Rattle.pair.proofs.PairEnds.{for-pair, not-asked, askable}
 use borrow.Author.Needs.{needs}
 use Rattle.pair.proofs.ask_pair.Statement.{statement}
@@ -99,7 +99,7 @@ slice-aggregate-ask-filled c =
     let p = for-pair (s .args .a .0) (s .args .b .0) _ (at-smaller .smaller .ensures) (at-larger .larger .ensures) (at-prepare .prepare .ensures) in
     let l = askable (now (s .args .bytes)) (s .args .a .0) (s .args .b .0) (s .args .width) (now (s .args .clocks)) _ (now (s .args .work)) _ _ (now (s .args .list)) _ _
     p (at-clear .clear .ensures) _ (ap fillPaper (at-answer .answer .given .1)) _ (c .before .before .records .ensures) in
-    sym (of-length (l .filled))
+    sym (chosen-length (l .filled))
 
 ask-filled-requires : tie.Need-ask-filled-requires
 ask-filled-requires c κs =

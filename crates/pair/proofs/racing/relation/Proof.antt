@@ -1,6 +1,6 @@
 -- `pair::racing::relation` meets its contract.
 -- Assumes nothing.
-use Rattle.races.proofs.FilledLaws.{rank-is, row-room, of-length, rows-told}
+use Rattle.races.proofs.FilledLaws.{rank-is, row-room, chosen-length, rows-told}
 use native.Mathlib.Omega.{arith}
 use Prim.Native.Nat.{_-_}
 use mathlib.Core.Path.{ap, _∙_}
@@ -18,7 +18,7 @@ relate-rows-requires : tie.Need-relate-rows-requires
 relate-rows-requires c κs =
     let b = c .before .before .before .before .before .before in
     let f = b .pre .0 in
-    (f .narrow, omega (arith, c .before .row-at .ensures, row-room f (b .args .a) (b .pre .1), of-length f), omega (arith, c .row-at2 .ensures, row-room f (b .args .b) (b .pre .2), of-length f), of-length f)
+    (f .narrow, omega (arith, c .before .row-at .ensures, row-room f (b .args .a) (b .pre .1), chosen-length f), omega (arith, c .row-at2 .ensures, row-room f (b .args .b) (b .pre .2), chosen-length f), chosen-length f)
 
 returns : tie.Need-returns
 returns c =

@@ -1,7 +1,7 @@
 -- `races::lists::list_races` meets its contract.
 -- Assumes nothing.
 use Rattle.races.proofs.ListEnds.{for-list, not-listed, listable}
-use Rattle.races.proofs.FilledLaws.{of-length, ranks-length}
+use Rattle.races.proofs.FilledLaws.{chosen-length, ranks-length}
 use Rattle.order.specs.Paper.{fillPaper}
 use Rattle.order.proofs.Upward.{upward}
 use mathlib.Core.Path.{sym, ap}
@@ -55,7 +55,7 @@ slice-aggregate-list-filled c =
     let p = k .before .before .before .before .before in
     let s = p .before .before .before .before .before .before .before .before .before .before in
     let l = listable (now (s .args .bytes)) (s .args .short) (s .args .width) (now (s .args .clocks)) _ (now (s .args .work)) _ _ (now (s .args .list)) _ _ (for-list _ (p .prepare .ensures)) (k .clear .ensures) _ (ap fillPaper (a .answer .given .1)) _ (r .records .ensures) in
-    sym (of-length (l .filled))
+    sym (chosen-length (l .filled))
 
 slice-aggregate-list-filled-2 : tie.Need-slice-aggregate-list-filled-2
 slice-aggregate-list-filled-2 c =
