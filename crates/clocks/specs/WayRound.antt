@@ -31,7 +31,8 @@ wayRound false false false = unordered
 unfoldable pub relateIn : List ℕ → ℕ → ℕ → ℕ → ℕ → ℕ → WayRound
 relateIn clocks width t c u d = wayRound (eqb t u) (compareIn clocks width c t u) (compareIn clocks width d u t)
 
--- the same by entries: t's own and u's at t's chain, u's own and t's at u's chain; rows that are the same have equal entries
+-- the same by entries: t's own and u's at t's chain, u's own and t's at u's chain. Rows that are the same have equal entries, so it is the reply of their
+-- rows: `by-entries` in `proofs/WayLaws`.
 unfoldable pub relateEntries : Bool → ℕ → ℕ → ℕ → ℕ → WayRound
 relateEntries same own there second back = wayRound (leb own there && same) (leb own there) (leb second back)
 

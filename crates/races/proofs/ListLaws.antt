@@ -27,13 +27,14 @@ use Rattle.races.specs.Traces.{isAccess, cellsOf, settingOf, conflict}
 use Rattle.races.specs.Lists.{pairsOf}
 use Rattle.races.specs.loops.Candidates.{cell, accesses, writes, Upto, lastWrite, firstsFrom, firstsTo}
 use Rattle.records.specs.Search.{leastKind, mayRace}
-use Rattle.races.specs.loops.ListPass.{fromOf, firsts, withSecond, pairsBelow, Ranges, OneRoom}
-use Rattle.races.specs.loops.FilledClocks.{BothIn}
+use Rattle.races.specs.loops.ListPass.{fromOf, firsts, withSecond, pairsBelow, Ranges, Second, OneRoom}
+use Rattle.order.specs.Fill.{eventsIn}
+use Rattle.races.specs.loops.FilledClocks.{RowsIn, BothIn}
 use Rattle.coverage.proofs.Order.{race-of, race-not-le}
 use Rattle.clocks.specs.WayRound.{relateIn, saysUnordered}
 use Rattle.order.specs.HappensBefore.{rank, happensBefore}
 use Rattle.races.proofs.Instance.{laws, access-kind}
-use Rattle.races.proofs.FilledLaws.{same-event, other-event, rank-is, rows-both, unordered-told}
+use Rattle.races.proofs.FilledLaws.{same-event, other-event, rank-is, row-inside, rows-in, rows-both, unordered-told}
 use Rattle.races.proofs.CandidateLaws.{start, racing, race-accesses, last-high, last-after, from-start-is, kind-access}
 
 module _ (tr : List Record) where
@@ -278,6 +279,12 @@ module _ (tr : List Record) where
       let more = upto-mono (a + 1) (m - (a + 1)) (test from b) in
       let q : a + 1 + (m - (a + 1)) ≡ m = omega arith in
       omega (arith, ap length (firsts-yes from b a h e), length-append (upto a (test from b)) (a ∷ []), rw q at more)
+
+-- the row of a second access stands in the clocks
+pub second-row : {tr : List Record} {ranks chosen : List ℕ} {width : ℕ} {clocks : List ℕ} {b u : ℕ} → Second tr ranks chosen width clocks b u → RowsIn chosen width clocks u u
+second-row {tr = tr} {b = b} {u = u} s =
+    let h : u < eventsIn tr = omega (arith, s .row, row-inside (s .filled) b (s .inside)) in
+    rows-in (s .filled) u u h h
 
 -- The test of one pair of records by their rows.
 module _ {writing : Bool} {tr : List Record} {ranks chosen : List ℕ} {width : ℕ} {clocks : List ℕ} {a b u k : ℕ} {list : List ℕ} (r : OneRoom writing tr ranks chosen width clocks a b u k list) (t : ℕ) (e : t ≡ getD ranks (eventOf (at tr a)) 0 - 1) where

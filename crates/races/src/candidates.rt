@@ -1,4 +1,5 @@
 // Where the first accesses that may race with a second access are looked for: along the accesses of its cell.
+use crate::racing::own_of;
 use crate::racing::relation;
 use clocks::is_before;
 use records::access;
@@ -27,7 +28,8 @@ fn is_ordered(chosen: &[u16], width: usize, clocks: &[u16], seen: u16, u: usize)
     if 1024 < seen {
         return false;
     }
-    is_before(relation(chosen, width, clocks, (seen - 1) as usize, u))
+    let own = own_of(chosen, width, clocks, u);
+    is_before(relation(chosen, width, clocks, (seen - 1) as usize, own))
 }
 
 // The number of a cell after an access of row u: in the short list a write is its start.

@@ -4,6 +4,8 @@ use crate::Listing;
 use crate::Summary;
 use crate::candidates::Firsts;
 use crate::candidates::take_access;
+use crate::racing::Own;
+use crate::racing::own_of;
 use crate::racing::relation;
 use crate::raising;
 use clocks::is_unordered;
@@ -29,7 +31,7 @@ ghost use Rattle.races.specs.Lists.{entryNumbers, shapeOf};
 ghost use Rattle.races.specs.Paper.{listPaper, ListsFilled, Lists};
 ghost use Rattle.races.specs.loops.ListPass.{pairsBelow, raw, Second, OneRoom, OneWrites, RoomIf, Writes, WritesAll, Ample, Counts, ListsAll};
 ghost use Rattle.races.specs.loops.Candidates.{Range};
-ghost use Rattle.races.specs.loops.FilledClocks.{FilledClocks};
+ghost use Rattle.races.specs.loops.FilledClocks.{FilledClocks, OwnIs};
 
 // 1 for ww, 2 for wr, 3 for rw.
 fn shape_of(recs: &[u8], a: usize, b: usize) -> u16
@@ -57,7 +59,7 @@ fn put_entry(recs: &[u8], a: usize, b: usize, list: &mut [u16], k: usize)
     list[at + 4] = 0;
 }
 
-// Records a and b, of row u, of which a may race with b: entry k where it does, written or only counted. The next entry.
+// Records a and b, of the own row, of which a may race with b: entry k where it does, written or only counted. The next entry.
 fn list_race(
     recs: &[u8],
     ranks: &[u16],
@@ -66,15 +68,16 @@ fn list_race(
     clocks: &[u16],
     a: usize,
     b: usize,
-    u: usize,
+    own: Own,
     list: &mut [u16],
     k: usize,
     writing: bool,
 ) -> usize
-    requires { ⌜ OneRoom writing (decode (now recs)) (now ranks) (now chosen) width (now clocks) a b u k (now list) ⌝ }
+    requires { ⌜ OneRoom writing (decode (now recs)) (now ranks) (now chosen) width (now clocks) a b (own .row) k (now list) ⌝ }
+    requires { ⌜ OwnIs (now chosen) width (now clocks) (own .row) (own .chain) (own .entry) ⌝ }
     ensures { λ r. ⌜ OneWrites writing (decode (now (recs .entry))) a b k (now (list .entry)) (now (list .exit)) r ⌝ }
 {
-    if !is_unordered(relation(chosen, width, clocks, row_at(recs, ranks, a), u)) {
+    if !is_unordered(relation(chosen, width, clocks, row_at(recs, ranks, a), own)) {
         return k;
     }
     if writing {
@@ -105,12 +108,13 @@ fn list_firsts(
     if firsts.to <= firsts.from {
         return k;
     }
+    let own = own_of(chosen, width, clocks, u);
     let c = access::cell_at(recs, b);
     let least = search::least_kind(access::kind_at(recs, b));
-    let mut next = k;
+    let mut e = k;
     let mut a = search::next_access(recs, firsts.from, firsts.to, c, least);
     while a < firsts.to {
-        next = list_race(
+        e = list_race(
             recs,
             ranks,
             chosen,
@@ -118,14 +122,14 @@ fn list_firsts(
             clocks,
             a,
             b,
-            u,
+            own,
             list,
-            next,
+            e,
             writing,
         );
         a = search::next_access(recs, a + 1, firsts.to, c, least);
     }
-    next
+    e
 }
 
 // How many event actions have begun after a record of that kind.

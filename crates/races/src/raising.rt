@@ -1,7 +1,6 @@
 // The marks of a list's entries by the rows of the combined order, happens-before and the races of the list: made in place in the lent clocks, event
 // action by event action.
 use crate::ENTRY_NUMBERS;
-use crate::racing::comes_before;
 use crate::refilling::refill;
 use clocks::merge_row;
 use order::links::merge_links;
@@ -10,11 +9,21 @@ ghost use mathlib.Core.Path.{_≡_};
 ghost use Prim.Native.Nat.{ℕ, _+_, _*_, _-_, _≤_, _<_, max};
 ghost use lib.ListN.{length, getD};
 ghost use Rattle.records.specs.Bytes.{decode};
+ghost use Rattle.clocks.specs.Rows.{compareIn};
 ghost use Rattle.order.specs.Fill.{eventsIn};
 ghost use Rattle.races.specs.loops.FilledClocks.{FilledClocks, RowsIn};
 ghost use Rattle.races.specs.Lists.{entryNumbers};
 ghost use Rattle.races.specs.loops.Marking.{first};
 ghost use Rattle.races.specs.loops.Raising.{Unmarked, MarksList, markIn, Markable, MarksSecond, raiseBy, raiseDown, MayGo, Went, MarksAll};
+
+// Whether row t's own entry, at its chain, is at most row u's, as the rows stand, raised: whether t leads to u.
+fn comes_before(chosen: &[u16], width: usize, clocks: &[u16], t: usize, u: usize) -> bool
+    requires { ⌜ RowsIn (now chosen) width (now clocks) t u ⌝ }
+    ensures { λ r. ⌜ r ≡ compareIn (now (clocks .entry)) width (getD (now (chosen .entry)) t 0) t u ⌝ }
+{
+    let c = chosen[t] as usize;
+    clocks[t * width + c] <= clocks[u * width + c]
+}
 
 // 0 where row t leads to row u as it stands, else 1.
 fn mark_of(chosen: &[u16], width: usize, clocks: &[u16], t: usize, u: usize) -> u16

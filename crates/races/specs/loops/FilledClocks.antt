@@ -30,6 +30,11 @@ pub record BothIn (chosen : List ℕ) (width : ℕ) (clocks : List ℕ) (t u : �
   pub first : RowsIn chosen width clocks t u
   pub second : RowsIn chosen width clocks u t
 
+-- the chain of row u, and its own entry there
+pub record OwnIs (chosen : List ℕ) (width : ℕ) (clocks : List ℕ) (u chain entry : ℕ) : Type 0 where
+  pub chain-is : chain ≡ getD chosen u 0
+  pub entry-is : entry ≡ getD clocks (u * width + chain) 0
+
 -- one row for each event action
 abbrev pub rows : List Record → ℕ
 rows tr = begins (past tr (length tr))

@@ -14,7 +14,7 @@ row-at-requires c κs = search needs
 relation-requires : tie.Need-relation-requires
 relation-requires c κs =
     let start = c .before .before .before .before .before .before in
-    race-rows (start .pre) (c .row-at .result) (c .row-at .ensures)
+    (race-rows (start .pre .0) (c .row-at .result) (c .row-at .ensures), start .pre .1)
 
 is-unordered-requires : tie.Need-is-unordered-requires
 is-unordered-requires c κs = search needs
@@ -24,7 +24,7 @@ returns c =
     let q = c .before in
     let s = q .before .before in
     let start = s .before .before .before .before .before .before in
-    let e = race-told (start .pre) (s .row-at .result) (s .row-at .ensures) (q .is-unordered .result) (q .is-unordered .ensures ∙ ap saysUnordered (q .before .relation .ensures)) ∙ not-true (q .is-unordered .result) (c .if1 .taken) in
+    let e = race-told (start .pre .0) (s .row-at .result) (s .row-at .ensures) (q .is-unordered .result) (q .is-unordered .ensures ∙ ap saysUnordered (q .before .relation .ensures)) ∙ not-true (q .is-unordered .result) (c .if1 .taken) in
     record { next = rw e refl; list-is = rw e refl }
 
 put-entry-requires : tie.Need-put-entry-requires
@@ -32,13 +32,13 @@ put-entry-requires c κs =
     let q = c .before .before .before in
     let s = q .before .before in
     let start = s .before .before .before .before .before .before in
-    let e = race-told (start .pre) (s .row-at .result) (s .row-at .ensures) (q .is-unordered .result) (q .is-unordered .ensures ∙ ap saysUnordered (q .before .relation .ensures)) ∙ not-false (q .is-unordered .result) (c .before .before .if1 .left) in
-    (start .pre .earlier, omega (arith, start .pre .second .inside, start .pre .second .filled .acceptable .few), start .pre .space (subst T (sym (c .before .if2 .taken)) tt) e)
+    let e = race-told (start .pre .0) (s .row-at .result) (s .row-at .ensures) (q .is-unordered .result) (q .is-unordered .ensures ∙ ap saysUnordered (q .before .relation .ensures)) ∙ not-false (q .is-unordered .result) (c .before .before .if1 .left) in
+    (start .pre .0 .earlier, omega (arith, start .pre .0 .second .inside, start .pre .0 .second .filled .acceptable .few), start .pre .0 .space (subst T (sym (c .before .if2 .taken)) tt) e)
 
 add-result : tie.Need-add-result
 add-result c =
     let start = c .before .before .before .before .before .before .before .before .before .before .before .before .before .before in
-    omega (arith, start .pre .few, start .pre .earlier, start .pre .second .inside, start .pre .second .filled .acceptable .few)
+    omega (arith, start .pre .0 .few, start .pre .0 .earlier, start .pre .0 .second .inside, start .pre .0 .second .filled .acceptable .few)
 
 same-length : tie.Need-same-length
 same-length c = search needs
@@ -50,20 +50,20 @@ returns-2 c =
     let q = c .before .before .before .before .before .before in
     let s = q .before .before in
     let start = s .before .before .before .before .before .before in
-    let e = race-told (start .pre) (s .row-at .result) (s .row-at .ensures) (q .is-unordered .result) (q .is-unordered .ensures ∙ ap saysUnordered (q .before .relation .ensures)) ∙ not-false (q .is-unordered .result) (at-if2 .if1 .left) in
+    let e = race-told (start .pre .0) (s .row-at .result) (s .row-at .ensures) (q .is-unordered .result) (q .is-unordered .ensures ∙ ap saysUnordered (q .before .relation .ensures)) ∙ not-false (q .is-unordered .result) (at-if2 .if1 .left) in
     record { next = rw e refl; list-is = rw (e, at-if .if2 .taken) (c .before .before .put-entry .ensures) }
 
 add-result-2 : tie.Need-add-result-2
 add-result-2 c =
     let start = c .before .before .before .before .before .before .before .before .before .before in
-    omega (arith, start .pre .few, start .pre .earlier, start .pre .second .inside, start .pre .second .filled .acceptable .few)
+    omega (arith, start .pre .0 .few, start .pre .0 .earlier, start .pre .0 .second .inside, start .pre .0 .second .filled .acceptable .few)
 
 returns-3 : tie.Need-returns-3
 returns-3 c =
     let q = c .before .before in
     let s = q .before .before in
     let start = s .before .before .before .before .before .before in
-    let e = race-told (start .pre) (s .row-at .result) (s .row-at .ensures) (q .is-unordered .result) (q .is-unordered .ensures ∙ ap saysUnordered (q .before .relation .ensures)) ∙ not-false (q .is-unordered .result) (c .before .if1 .left) in
+    let e = race-told (start .pre .0) (s .row-at .result) (s .row-at .ensures) (q .is-unordered .result) (q .is-unordered .ensures ∙ ap saysUnordered (q .before .relation .ensures)) ∙ not-false (q .is-unordered .result) (c .before .if1 .left) in
     record { next = rw e refl; list-is = rw (e, c .if2 .left) refl }
 
 pub list-race-spec : {M : Type 1} → statement M

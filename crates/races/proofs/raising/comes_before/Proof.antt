@@ -1,7 +1,7 @@
 use Rattle.clocks.specs.Rows.{compareIn}
 use borrow.Author.Needs.{needs}
-use Rattle.races.proofs.racing.comes_before.Statement.{statement}
-use Rattle.races.proofs.racing.comes_before.Tie as tie
+use Rattle.races.proofs.raising.comes_before.Statement.{statement}
+use Rattle.races.proofs.raising.comes_before.Tie as tie
 
 mul-c : tie.Need-mul-c
 mul-c c = search needs
