@@ -1,17 +1,19 @@
 -- The whole table over the first n records, where ranks are given: forks, sends and joins take rows into others, a begin enters its own row and
 -- takes those that the links put it behind. It stops at the first begin that 31 refuses. Over any records. Assumes nothing.
 use Prim.Native.Nat.{ℕ, zero, suc, _+_, _-_, _%_}
+use mathlib.Core.Path.{_≡_}
 use mathlib.Core.Bool.{Bool, true, false, _&&_, _||_}
 use mathlib.Core.List.{List}
 use lib.Dec.{eqb}
-use lib.ListN.{getD, set}
+use lib.ListN.{length, getD, set}
 use Rattle.slices.specs.Slices.{zeros}
 use Rattle.records.specs.declared.Record.{Record}
 use Rattle.records.specs.Records.{at, isBegin, isJoin}
+use Rattle.ranks.specs.Ranks.{ranksOf}
 use Rattle.bits.specs.Words.{wordsIf}
 use Rattle.bits.specs.Table.{putBit, orRow}
 use Rattle.precedence.specs.Kinds.{isSend, starts}
-use Rattle.links.specs.Rule.{Walked, walkedIf, walk}
+use Rattle.links.specs.Rule.{rankIn, Walked, walkedIf, walk}
 
 -- a direct link by ranks p and u, where both have a row
 unfoldable pub linked : ℕ → ℕ → List ℕ → List ℕ
@@ -38,10 +40,20 @@ module _ (tr : List Record) (ranks : ℕ → ℕ) (i : ℕ) (ws last : List ℕ)
   unfoldable pub stepStuck : Bool
   stepStuck = isBegin (at tr i) && begun .stuck
 
+-- what such a step leaves
+pub record Stepped (tr : List Record) (ranks : ℕ → ℕ) (i : ℕ) (ws last : List ℕ) (stuck : Bool) (ws′ last′ : List ℕ) : Type 0 where
+  pub stuck-is : stuck ≡ stepStuck tr ranks i ws last
+  pub words-are : ws′ ≡ stepWords tr ranks i ws last
+  pub last-is : last′ ≡ stepLast tr ranks i ws last
+
 -- where filling stopped, and the table
 pub record Filled : Type 0 where
   pub stop : ℕ
   pub words : List ℕ
+
+-- a call answers so and leaves that table
+abbrev pub Stops : Filled → ℕ → List ℕ → Type 0
+Stops f stop ws = (stop ≡ f .stop) × (ws ≡ f .words)
 
 abbrev pub filledIf : Bool → Filled → Filled → Filled
 filledIf true a b = a
@@ -53,3 +65,7 @@ fillFrom tr ranks i zero ws last = record { stop = i; words = ws }
 fillFrom tr ranks i (suc k) ws last =
     filledIf (stepStuck tr ranks i ws last) (record { stop = i; words = stepWords tr ranks i ws last })
     (fillFrom tr ranks (suc i) k (stepWords tr ranks i ws last) (stepLast tr ranks i ws last))
+
+-- all records, by their own ranks, from a table without bits
+unfoldable pub fillAll : List Record → Filled
+fillAll tr = fillFrom tr (rankIn (ranksOf tr)) 0 (length tr) (zeros 8704) (zeros 1025)
