@@ -1,3 +1,4 @@
 pub mod RuleLaws
 pub mod FillLaws
 pub mod WalkSim
+pub mod LastSend

@@ -35,11 +35,12 @@ pub record Ready (tr : List Record) (f : ℕ → ℕ) (e u i : ℕ) (b : Table) 
   -- the table is transitive
   pub through : (t p v : ℕ) → T (b t p) → T (b p v) → T (b t v)
 
--- The words tell the table, e's row and what has reached the links.
-pub record Tells (f : ℕ → ℕ) (u : ℕ) (b : Table) (has : ℕ → Bool) (ws sets : List ℕ) (s : Scan) : Type 0 where
+-- The words tell the table, e's row and what has reached the links; other rows are as they were, B.
+pub record Tells (f : ℕ → ℕ) (u : ℕ) (b : Table) (has : ℕ → Bool) (B : ℕ → ℕ → Bool) (ws sets : List ℕ) (s : Scan) : Type 0 where
   pub proper : Proper ws
   pub room : 64 ≤ length sets
   pub rows : (t v : ℕ) → T (has t) → T (has v) → bitOf ws (f t - 1) (f v - 1) ≡ b t v
+  pub frame : (t v : ℕ) → v ≢ u - 1 → bitOf ws t v ≡ B t v
   pub own : (t : ℕ) → T (has t) → bitOf ws (f t - 1) (u - 1) ≡ s .row t
   pub reaches : (k x : ℕ) → 16 ≤ k → k ≤ 19 → T (has x) → member sets (k - 16) (f x - 1) ≡ s .reach k x
   pub row-closed : (t p : ℕ) → T (b t p) → T (s .row p) → T (s .row t)
@@ -56,11 +57,11 @@ or-no : (a : Bool) → a ≡ (a || false)
 or-no true = refl
 or-no false = refl
 
-module _ {tr : List Record} {f : ℕ → ℕ} {e u i : ℕ} {b : Table} {has : ℕ → Bool} (w : Ready tr f e u i b has) (j : ℕ) (l : j < i) where
+module _ {tr : List Record} {f : ℕ → ℕ} {e u i : ℕ} {b : Table} {has : ℕ → Bool} (B : ℕ → ℕ → Bool) (w : Ready tr f e u i b has) (j : ℕ) (l : j < i) where
   abbrev r : Record
   r = at tr j
 
-  module _ (ws sets : List ℕ) (s : Scan) (z : Tells f u b has ws sets s) where
+  module _ (ws sets : List ℕ) (s : Scan) (z : Tells f u b has B ws sets s) where
     send-from : T (isSend r) → 16 ≤ r .kind
     send-from h = leb-true 16 (r .kind) (passed (leb 16 (r .kind)) (both (leb 16 (r .kind)) (leb (r .kind) 19) h .0))
 
@@ -136,10 +137,11 @@ module _ {tr : List Record} {f : ℕ → ℕ} {e u i : ℕ} {b : Table} {has : �
     record NewWords (ws′ : List ℕ) : Type 0 where
       proper′ : Proper ws′
       rows′ : (t v : ℕ) → T (has t) → T (has v) → bitOf ws′ (f t - 1) (f v - 1) ≡ b t v
+      frame′ : (t v : ℕ) → v ≢ u - 1 → bitOf ws′ t v ≡ B t v
       own′ : (t : ℕ) → T (has t) → bitOf ws′ (f t - 1) (u - 1) ≡ gained t
 
     old-words : ((t : ℕ) → T (has t) → s .row t ≡ gained t) → NewWords ws
-    old-words g = record { proper′ = z .proper; rows′ = z .rows; own′ = λ t a. z .own t a ∙ g t a }
+    old-words g = record { proper′ = z .proper; rows′ = z .rows; frame′ = z .frame; own′ = λ t a. z .own t a ∙ g t a }
 
     module _ (y : hitting ≡ true) (h : has (r .second) ≡ true) where
       abbrev p : ℕ
@@ -168,6 +170,8 @@ module _ {tr : List Record} {f : ℕ → ℕ} {e u i : ℕ} {b : Table} {has : �
         proper′ = proper-or p (u - 1) before-own inside-table ws (z .proper);
         rows′ = λ t v a c. takes-row p (u - 1) before-own inside-table ws (z .proper) (f t - 1) (f v - 1)
             ∙ ap₂ (λ (x q : Bool). x || q) (z .rows t v a c) (other t v a c) ∙ sym (or-no (b t v));
+        frame′ = λ t v d. takes-row p (u - 1) before-own inside-table ws (z .proper) t v
+            ∙ ap₂ (λ (x q : Bool). x || q) (z .frame t v d) (apart t v d) ∙ sym (or-no (B t v));
         own′ = λ t a. takes-row p (u - 1) before-own inside-table ws (z .proper) (f t - 1) (u - 1)
             ∙ ap₂ (λ (x q : Bool). x || q) (z .own t a) (this t a) ∙ sym (gained-is t);
       }
@@ -178,6 +182,9 @@ module _ {tr : List Record} {f : ℕ → ℕ} {e u i : ℕ} {b : Table} {has : �
               let m = w .positive v c in
               let d : f v - 1 ≡ u - 1 → ⊥ = λ q. omega (arith, q) in
               rw (ne-eqb (f v - 1) (u - 1) d)
+
+          apart : (t v : ℕ) → v ≢ u - 1 → (eqb v (u - 1) && bitOf ws t p) ≡ false
+          apart t v d = rw (ne-eqb v (u - 1) d)
 
           this : (t : ℕ) → T (has t) → (eqb (u - 1) (u - 1) && bitOf ws (f t - 1) p) ≡ b t (r .second)
           this t a = rw (eq-eqb (u - 1) (u - 1) refl) (z .rows t (r .second) a (holds h))
@@ -309,7 +316,7 @@ module _ {tr : List Record} {f : ℕ → ℕ} {e u i : ℕ} {b : Table} {has : �
 
     -- one turn
     pub turn-tells : (hit e (s .reach) r && not (has (r .second))) ≡ false
-        → Tells f u b has (turnWords f e u r ws sets) (turnSets f e u r ws sets) (turn e b has r s)
+        → Tells f u b has B (turnWords f e u r ws sets) (turnSets f e u r ws sets) (turn e b has r s)
     unfolding turn
     turn-tells n =
         let a = words-step n in
@@ -318,6 +325,7 @@ module _ {tr : List Record} {f : ℕ → ℕ} {e u i : ℕ} {b : Table} {has : �
           proper = a .proper′;
           room = c .room′;
           rows = a .rows′;
+          frame = a .frame′;
           own = a .own′;
           reaches = c .reaches′;
           row-closed = gained-closed;
@@ -325,7 +333,7 @@ module _ {tr : List Record} {f : ℕ → ℕ} {e u i : ℕ} {b : Table} {has : �
         }
 
 -- the whole walk
-module _ {tr : List Record} {f : ℕ → ℕ} {e u i : ℕ} {b : Table} {has : ℕ → Bool} (w : Ready tr f e u i b has) where
+module _ {tr : List Record} {f : ℕ → ℕ} {e u i : ℕ} {b : Table} {has : ℕ → Bool} (B : ℕ → ℕ → Bool) (w : Ready tr f e u i b has) where
   stays-stuck : (j : ℕ) (s : Scan) → s .stuck ≡ true → run tr e b has j s .stuck ≡ true
   unfolding run turn
   stays-stuck zero s h = h
@@ -343,19 +351,19 @@ module _ {tr : List Record} {f : ℕ → ℕ} {e u i : ℕ} {b : Table} {has : �
   pub record Walks (j : ℕ) (ws sets : List ℕ) (s : Scan) : Type 0 where
     pub stuck-same : walk tr f e u j ws sets .stuck ≡ run tr e b has j s .stuck
     pub proper-left : run tr e b has j s .stuck ≡ false → Proper (walk tr f e u j ws sets .words)
-    pub rows-left : run tr e b has j s .stuck ≡ false → (t v : ℕ) → T (has t) → T (has v) → bitOf (walk tr f e u j ws sets .words) (f t - 1) (f v - 1) ≡ b t v
+    pub frame-left : run tr e b has j s .stuck ≡ false → (t v : ℕ) → v ≢ u - 1 → bitOf (walk tr f e u j ws sets .words) t v ≡ B t v
     pub own-left : run tr e b has j s .stuck ≡ false → (t : ℕ) → T (has t) → bitOf (walk tr f e u j ws sets .words) (f t - 1) (u - 1) ≡ run tr e b has j s .row t
 
-  pub walks : (j : ℕ) → j ≤ i → (ws sets : List ℕ) (s : Scan) → s .stuck ≡ false → Tells f u b has ws sets s → Walks j ws sets s
+  pub walks : (j : ℕ) → j ≤ i → (ws sets : List ℕ) (s : Scan) → s .stuck ≡ false → Tells f u b has B ws sets s → Walks j ws sets s
   unfolding walk run
-  walks zero l ws sets s n z = record { stuck-same = sym n; proper-left = λ h. z .proper; rows-left = λ h. z .rows; own-left = λ h. z .own }
+  walks zero l ws sets s n z = record { stuck-same = sym n; proper-left = λ h. z .proper; frame-left = λ h. z .frame; own-left = λ h. z .own }
   walks (suc j) l ws sets s n z = go (decide (turnStuck f e u (at tr j) ws sets)) (walks j (omega arith) (turnWords f e u (at tr j) ws sets) (turnSets f e u (at tr j) ws sets) (turn e b has (at tr j) s))
     where
       stuck₀ : turnStuck f e u (at tr j) ws sets ≡ (hit e (s .reach) (at tr j) && not (has (at tr j .second)))
-      stuck₀ = stuck-is w j l ws sets s z
+      stuck₀ = stuck-is B w j l ws sets s z
 
       go : (turnStuck f e u (at tr j) ws sets ≡ true) ⊎ (turnStuck f e u (at tr j) ws sets ≡ false)
-          → (turn e b has (at tr j) s .stuck ≡ false → Tells f u b has (turnWords f e u (at tr j) ws sets) (turnSets f e u (at tr j) ws sets) (turn e b has (at tr j) s)
+          → (turn e b has (at tr j) s .stuck ≡ false → Tells f u b has B (turnWords f e u (at tr j) ws sets) (turnSets f e u (at tr j) ws sets) (turn e b has (at tr j) s)
           → Walks j (turnWords f e u (at tr j) ws sets) (turnSets f e u (at tr j) ws sets) (turn e b has (at tr j) s))
           → Walks (suc j) ws sets s
       go (inl y) g =
@@ -364,17 +372,17 @@ module _ {tr : List Record} {f : ℕ → ℕ} {e u i : ℕ} {b : Table} {has : �
           record {
             stuck-same = q ∙ sym m;
             proper-left = λ h. absurd (true-not-false m h);
-            rows-left = λ h. absurd (true-not-false m h);
+            frame-left = λ h. absurd (true-not-false m h);
             own-left = λ h. absurd (true-not-false m h);
           }
       go (inr y) g =
           let q : walk tr f e u (suc j) ws sets ≡ walk tr f e u j (turnWords f e u (at tr j) ws sets) (turnSets f e u (at tr j) ws sets) = rw y in
           let k = sym stuck₀ ∙ y in
-          let v = g (free-turn s j n k) (turn-tells w j l ws sets s z k) in
+          let v = g (free-turn s j n k) (turn-tells B w j l ws sets s z k) in
           record {
             stuck-same = ap (λ (x : Walked). x .stuck) q ∙ v .stuck-same;
             proper-left = λ h. subst (λ (x : Walked). Proper (x .words)) (sym q) (v .proper-left h);
-            rows-left = λ h t m a c. subst (λ (x : Walked). bitOf (x .words) (f t - 1) (f m - 1) ≡ b t m) (sym q) (v .rows-left h t m a c);
+            frame-left = λ h t m d. subst (λ (x : Walked). bitOf (x .words) t m ≡ B t m) (sym q) (v .frame-left h t m d);
             own-left = λ h t a.
                 subst (λ (x : Walked). bitOf (x .words) (f t - 1) (u - 1) ≡ run tr e b has j (turn e b has (at tr j) s) .row t) (sym q) (v .own-left h t a);
           }
