@@ -2,3 +2,4 @@ pub mod RuleLaws
 pub mod FillLaws
 pub mod WalkSim
 pub mod LastSend
+pub mod FillSim

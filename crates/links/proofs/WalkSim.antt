@@ -41,6 +41,7 @@ pub record Tells (f : ℕ → ℕ) (u : ℕ) (b : Table) (has : ℕ → Bool) (B
   pub room : 64 ≤ length sets
   pub rows : (t v : ℕ) → T (has t) → T (has v) → bitOf ws (f t - 1) (f v - 1) ≡ b t v
   pub frame : (t v : ℕ) → v ≢ u - 1 → bitOf ws t v ≡ B t v
+  pub itself : bitOf ws (u - 1) (u - 1) ≡ true
   pub own : (t : ℕ) → T (has t) → bitOf ws (f t - 1) (u - 1) ≡ s .row t
   pub reaches : (k x : ℕ) → 16 ≤ k → k ≤ 19 → T (has x) → member sets (k - 16) (f x - 1) ≡ s .reach k x
   pub row-closed : (t p : ℕ) → T (b t p) → T (s .row p) → T (s .row t)
@@ -138,10 +139,11 @@ module _ {tr : List Record} {f : ℕ → ℕ} {e u i : ℕ} {b : Table} {has : �
       proper′ : Proper ws′
       rows′ : (t v : ℕ) → T (has t) → T (has v) → bitOf ws′ (f t - 1) (f v - 1) ≡ b t v
       frame′ : (t v : ℕ) → v ≢ u - 1 → bitOf ws′ t v ≡ B t v
+      itself′ : bitOf ws′ (u - 1) (u - 1) ≡ true
       own′ : (t : ℕ) → T (has t) → bitOf ws′ (f t - 1) (u - 1) ≡ gained t
 
     old-words : ((t : ℕ) → T (has t) → s .row t ≡ gained t) → NewWords ws
-    old-words g = record { proper′ = z .proper; rows′ = z .rows; frame′ = z .frame; own′ = λ t a. z .own t a ∙ g t a }
+    old-words g = record { proper′ = z .proper; rows′ = z .rows; frame′ = z .frame; itself′ = z .itself; own′ = λ t a. z .own t a ∙ g t a }
 
     module _ (y : hitting ≡ true) (h : has (r .second) ≡ true) where
       abbrev p : ℕ
@@ -172,6 +174,8 @@ module _ {tr : List Record} {f : ℕ → ℕ} {e u i : ℕ} {b : Table} {has : �
             ∙ ap₂ (λ (x q : Bool). x || q) (z .rows t v a c) (other t v a c) ∙ sym (or-no (b t v));
         frame′ = λ t v d. takes-row p (u - 1) before-own inside-table ws (z .proper) t v
             ∙ ap₂ (λ (x q : Bool). x || q) (z .frame t v d) (apart t v d) ∙ sym (or-no (B t v));
+        itself′ = takes-row p (u - 1) before-own inside-table ws (z .proper) (u - 1) (u - 1)
+            ∙ ap (λ (x : Bool). x || (eqb (u - 1) (u - 1) && bitOf ws (u - 1) p)) (z .itself);
         own′ = λ t a. takes-row p (u - 1) before-own inside-table ws (z .proper) (f t - 1) (u - 1)
             ∙ ap₂ (λ (x q : Bool). x || q) (z .own t a) (this t a) ∙ sym (gained-is t);
       }
@@ -326,6 +330,7 @@ module _ {tr : List Record} {f : ℕ → ℕ} {e u i : ℕ} {b : Table} {has : �
           room = c .room′;
           rows = a .rows′;
           frame = a .frame′;
+          itself = a .itself′;
           own = a .own′;
           reaches = c .reaches′;
           row-closed = gained-closed;
@@ -352,11 +357,12 @@ module _ {tr : List Record} {f : ℕ → ℕ} {e u i : ℕ} {b : Table} {has : �
     pub stuck-same : walk tr f e u j ws sets .stuck ≡ run tr e b has j s .stuck
     pub proper-left : run tr e b has j s .stuck ≡ false → Proper (walk tr f e u j ws sets .words)
     pub frame-left : run tr e b has j s .stuck ≡ false → (t v : ℕ) → v ≢ u - 1 → bitOf (walk tr f e u j ws sets .words) t v ≡ B t v
+    pub itself-left : run tr e b has j s .stuck ≡ false → bitOf (walk tr f e u j ws sets .words) (u - 1) (u - 1) ≡ true
     pub own-left : run tr e b has j s .stuck ≡ false → (t : ℕ) → T (has t) → bitOf (walk tr f e u j ws sets .words) (f t - 1) (u - 1) ≡ run tr e b has j s .row t
 
   pub walks : (j : ℕ) → j ≤ i → (ws sets : List ℕ) (s : Scan) → s .stuck ≡ false → Tells f u b has B ws sets s → Walks j ws sets s
   unfolding walk run
-  walks zero l ws sets s n z = record { stuck-same = sym n; proper-left = λ h. z .proper; frame-left = λ h. z .frame; own-left = λ h. z .own }
+  walks zero l ws sets s n z = record { stuck-same = sym n; proper-left = λ h. z .proper; frame-left = λ h. z .frame; itself-left = λ h. z .itself; own-left = λ h. z .own }
   walks (suc j) l ws sets s n z = go (decide (turnStuck f e u (at tr j) ws sets)) (walks j (omega arith) (turnWords f e u (at tr j) ws sets) (turnSets f e u (at tr j) ws sets) (turn e b has (at tr j) s))
     where
       stuck₀ : turnStuck f e u (at tr j) ws sets ≡ (hit e (s .reach) (at tr j) && not (has (at tr j .second)))
@@ -373,6 +379,7 @@ module _ {tr : List Record} {f : ℕ → ℕ} {e u i : ℕ} {b : Table} {has : �
             stuck-same = q ∙ sym m;
             proper-left = λ h. absurd (true-not-false m h);
             frame-left = λ h. absurd (true-not-false m h);
+            itself-left = λ h. absurd (true-not-false m h);
             own-left = λ h. absurd (true-not-false m h);
           }
       go (inr y) g =
@@ -383,6 +390,7 @@ module _ {tr : List Record} {f : ℕ → ℕ} {e u i : ℕ} {b : Table} {has : �
             stuck-same = ap (λ (x : Walked). x .stuck) q ∙ v .stuck-same;
             proper-left = λ h. subst (λ (x : Walked). Proper (x .words)) (sym q) (v .proper-left h);
             frame-left = λ h t m d. subst (λ (x : Walked). bitOf (x .words) t m ≡ B t m) (sym q) (v .frame-left h t m d);
+            itself-left = λ h. subst (λ (x : Walked). bitOf (x .words) (u - 1) (u - 1) ≡ true) (sym q) (v .itself-left h);
             own-left = λ h t a.
                 subst (λ (x : Walked). bitOf (x .words) (f t - 1) (u - 1) ≡ run tr e b has j (turn e b has (at tr j) s) .row t) (sym q) (v .own-left h t a);
           }
