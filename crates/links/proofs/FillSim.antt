@@ -203,3 +203,235 @@ module _ {tr : List Record} {f : ℕ → ℕ} {n : ℕ} (g : Ranked tr f n) wher
             noted = noted-next tr f i ws last small (z .noted);
             bits = λ t u d o. subst (λ (v : List ℕ). bitOf v (f t - 1) (f u - 1) ≡ table tr i t u) q (z .bits t u d o) ∙ sym (next-other a b c t u);
           })
+
+      -- a begin
+      module _ (a : isBegin r ≡ true) where
+        abbrev e : ℕ
+        e = r .first
+
+        abbrev u : ℕ
+        u = f (r .first)
+
+        abbrev has : ℕ → Bool
+        has v = begun v (past tr i)
+
+        kind-is : r .kind ≡ 1
+        kind-is = eqb-true (r .kind) 1 a
+
+        e-begins : Begins tr n e
+        e-begins = record { position = i; inside = l; is-begin = holds a; of-event = refl }
+
+        begins-all : (v : ℕ) → T (has v) → Begins tr n v
+        begins-all v h = begins-later tr (omega arith) (begun-begins tr v i h)
+
+        rank-lower : (v : ℕ) → T (has v) → f v < u
+        rank-lower v h = earlier i v e (omega arith) (begun-begins tr v i h) (x .begin-fresh (holds a)) e-begins
+
+        rank-later : (v : ℕ) → has v ≡ false → v ≢ e → (f v ≡ 0) ⊎ (u < f v)
+        rank-later v h d = go (begun-or-not tr v n)
+          where
+            go : Begins tr n v ⊎ (begun v (past tr n) ≡ false) → (f v ≡ 0) ⊎ (u < f v)
+            go (inr k) = inl (g .none v k)
+            go (inl c) = by (lt-or-ge i (c .position)) (decide-eq (c .position) i)
+              where
+                by : (i < c .position) ⊎ (c .position ≤ i) → (c .position ≡ i) ⊎ (c .position ≢ i) → (f v ≡ 0) ⊎ (u < f v)
+                by (inl k) _ = inr (g .rises e v (record { position = i; inside = l; is-begin = holds a; of-event = refl }) c k)
+                by (inr k) (inl q) = absurd (d (sym (c .of-event) ∙ ap (λ (m : ℕ). at tr m .first) q))
+                by (inr k) (inr q) =
+                    let m : c .position < i = omega (arith, q) in
+                    absurd (true-not-false (begins-begun tr v i (record { position = c .position; inside = m; is-begin = c .is-begin; of-event = c .of-event })) h)
+
+        ready : Ready tr f e u i (table tr i) has
+        ready = record {
+          own-rank = λ v y h q. own v y h q (begun-or-not tr y n);
+          positive = λ v h. g .positive v (begins-all v h);
+          lower = rank-lower;
+          later = rank-later;
+          within = g .within e e-begins;
+          sender = λ j m h. holds (begins-begun tr (at tr j .first) i (begins-later tr (omega arith) (s .starter-begun j m (or-right (eqb (at tr j .kind) 3) (isSend (at tr j)) h))));
+          through = λ t p v. transitive s i t p v (omega arith);
+        }
+          where
+            own : (v y : ℕ) → T (has v) → f v ≡ f y → Begins tr n y ⊎ (begun y (past tr n) ≡ false) → v ≡ y
+            own v y h q (inl c) = one-to-one v y (begins-all v h) c q
+            own v y h q (inr k) = let m = g .positive v (begins-all v h) in let o = g .none y k in absurd (omega (arith, q))
+
+        u-some : u ≢ 0
+        u-some q = let k = g .positive e e-begins in omega (arith, q)
+
+        u-table : u - 1 < 1024
+        u-table = let k = g .positive e e-begins in let m = g .within e e-begins in omega arith
+
+        started : List ℕ
+        started = putBit (u - 1) (u - 1) ws
+
+        started-proper : Proper started
+        unfolding started
+        started-proper = proper-put (u - 1) (u - 1) (omega arith) u-table ws (z .proper)
+
+        started-bit : (t v : ℕ) → bitOf started t v ≡ (bitOf ws t v || (eqb t (u - 1) && eqb v (u - 1)))
+        unfolding started
+        started-bit t v = puts-bit (u - 1) (u - 1) (omega arith) u-table ws (z .proper) t v
+
+        -- an entry that isn't e's own
+        started-old : (t v : ℕ) → Begins tr n t → Begins tr n v → (eqb (f t - 1) (u - 1) && eqb (f v - 1) (u - 1)) ≡ false → bitOf started (f t - 1) (f v - 1) ≡ table tr i t v
+        started-old t v c d q = started-bit (f t - 1) (f v - 1) ∙ ap (λ (y : Bool). bitOf ws (f t - 1) (f v - 1) || y) q ∙ sym (or-no (bitOf ws (f t - 1) (f v - 1))) ∙ z .bits t v c d
+
+        lower-row : (v : ℕ) → T (has v) → f v - 1 ≢ u - 1
+        lower-row v h q = let k = rank-lower v h in let m = g .positive v (begins-all v h) in omega (arith, q)
+
+        s₀ : Scan
+        s₀ = record { reach = λ k y. false; row = λ t. table tr i t e; stuck = false }
+
+        tells₀ : Tells f u (table tr i) has (bitOf started) started (zeros 64) s₀
+        unfolding s₀
+        tells₀ = record {
+          proper = started-proper;
+          room = no-sets-room;
+          rows = λ t v h k. started-old t v (begins-all t h) (begins-all v k) (ap (λ (y : Bool). y && eqb (f v - 1) (u - 1)) (ne-eqb (f t - 1) (u - 1) (lower-row t h)));
+          frame = λ t v d. refl;
+          itself = started-bit (u - 1) (u - 1) ∙ passed _ (or-right (bitOf ws (u - 1) (u - 1)) (eqb (u - 1) (u - 1) && eqb (u - 1) (u - 1)) (both-own (eq-eqb (u - 1) (u - 1) refl)));
+          own = λ t h. started-old t e (begins-all t h) e-begins (ap (λ (y : Bool). y && eqb (u - 1) (u - 1)) (ne-eqb (f t - 1) (u - 1) (lower-row t h)));
+          reaches = λ k y c d h. no-member 64 (k - 16) (f y - 1);
+          row-closed = λ t p h k. transitive s i t p e (omega arith) h k;
+          reach-closed = λ k t p h c. absurd c;
+        }
+          where
+            both-own : eqb (u - 1) (u - 1) ≡ true → T (eqb (u - 1) (u - 1) && eqb (u - 1) (u - 1))
+            both-own q = rw q tt
+
+        done : Walks (bitOf started) ready i started (zeros 64) s₀
+        unfolding s₀
+        done = walks (bitOf started) ready i (omega arith) started (zeros 64) s₀ refl tells₀
+
+        begun-is : spec.begun tr f i ws last ≡ walk tr f e u i started (zeros 64)
+        unfolding spec.begun started
+        begun-is =
+            let k = x .in-range (holds a) in
+            sym (begin-is tr f e u (getD last e 0) ws u-some)
+            ∙ sym (walk-skips tr f e u (putBit (u - 1) (u - 1) ws) i (getD last e 0) (z .noted .reached e k) (z .noted .none-after e k))
+
+        left : List ℕ
+        left = walk tr f e u i started (zeros 64) .words
+
+        pass-is : run tr e (table tr i) has i s₀ ≡ scanAt tr i
+        unfolding scanAt s₀
+        pass-is = refl
+
+        words-begin : left ≡ stepWords tr f i ws last
+        unfolding stepWords left
+        words-begin = rw a (sym (ap (λ (y : Walked). y .words) begun-is))
+
+        stuck-begin : stepStuck tr f i ws last ≡ blocked tr i
+        unfolding stepStuck
+        stuck-begin = rw a (ap (λ (y : Walked). y .stuck) begun-is ∙ done .stuck-same ∙ ap (λ (y : Scan). y .stuck) pass-is ∙ scan-refuses tr i)
+
+        module _ (free : blocked tr i ≡ false) where
+          sound-on : Sound tr (suc i)
+          sound-on = sound-next tr i s (next-of x (λ h. free))
+
+          not-refused : run tr e (table tr i) has i s₀ .stuck ≡ false
+          not-refused = ap (λ (y : Scan). y .stuck) pass-is ∙ scan-refuses tr i ∙ free
+
+          gathers : (t : ℕ) → table tr (suc i) t e ≡ (eqb t e || run tr e (table tr i) has i s₀ .row t)
+          gathers t = scan-gathers tr i (holds a) free t ∙ ap (λ (y : Scan). eqb t e || y .row t) (sym pass-is)
+
+          -- rows other than e's
+          other-bits : (t v : ℕ) → Begins tr n t → Begins tr n v → e ≢ v → bitOf left (f t - 1) (f v - 1) ≡ table tr (suc i) t v
+          unfolding left
+          other-bits t v b c d =
+              let k = g .positive v c in
+              let m = g .positive e e-begins in
+              let q : f v - 1 ≡ u - 1 → ⊥ = λ o. d (one-to-one e v e-begins c (omega arith)) in
+              done .frame-left not-refused (f t - 1) (f v - 1) q
+              ∙ started-old t v b c (no-second (ne-eqb (f v - 1) (u - 1) q))
+              ∙ sym (next-begin kind-is t v d)
+            where
+              no-second : eqb (f v - 1) (u - 1) ≡ false → (eqb (f t - 1) (u - 1) && eqb (f v - 1) (u - 1)) ≡ false
+              no-second q = by (eqb (f t - 1) (u - 1)) q
+                where
+                  by : (y : Bool) → eqb (f v - 1) (u - 1) ≡ false → (y && eqb (f v - 1) (u - 1)) ≡ false
+                  by true q = q
+                  by false q = refl
+
+          -- e's own row
+          own-bits : (t : ℕ) → Begins tr n t → bitOf left (f t - 1) (u - 1) ≡ table tr (suc i) t e
+          unfolding left
+          own-bits t b = go (decide-eq t e) (decide (has t))
+            where
+              no-table : t ≢ e → has t ≡ false → T (table tr (suc i) t e) → ⊥
+              no-table d h k =
+                  let c = begun-only sound-on (suc i) t e (omega arith) k in
+                  by c (decide-eq (c .position) i)
+                where
+                  by : (c : Begins tr (suc i) t) → (c .position ≡ i) ⊎ (c .position ≢ i) → ⊥
+                  by c (inl q) = d (sym (c .of-event) ∙ ap (λ (m : ℕ). at tr m .first) q)
+                  by c (inr q) =
+                      let o = c .inside in
+                      true-not-false (begins-begun tr t i (record { position = c .position; inside = omega (arith, q); is-begin = c .is-begin; of-event = c .of-event })) h
+
+              fails : (y : Bool) → (T y → ⊥) → y ≡ false
+              fails true h = absurd (h tt)
+              fails false h = refl
+
+              far : (f t ≡ 0) ⊎ (u < f t) → bitOf (walk tr f e u i started (zeros 64) .words) (f t - 1) (u - 1) ≡ false
+              far (inl q) = let k = g .positive t b in absurd (omega (arith, q))
+              far (inr q) = let k = g .positive e e-begins in sym (bit-none (f t - 1) (u - 1) _ (outside-low (f t - 1) (u - 1) (omega arith)))
+
+              go : (t ≡ e) ⊎ (t ≢ e) → (has t ≡ true) ⊎ (has t ≡ false) → bitOf (walk tr f e u i started (zeros 64) .words) (f t - 1) (u - 1) ≡ table tr (suc i) t e
+              go (inl q) _ =
+                  ap (λ (y : ℕ). bitOf (walk tr f e u i started (zeros 64) .words) (f y - 1) (u - 1)) q ∙ done .itself-left not-refused
+                  ∙ sym (gathers t ∙ ap (λ (y : Bool). y || run tr e (table tr i) has i s₀ .row t) (eq-eqb t e q))
+              go (inr d) (inl h) =
+                  done .own-left not-refused t (holds h)
+                  ∙ sym (gathers t ∙ ap (λ (y : Bool). y || run tr e (table tr i) has i s₀ .row t) (ne-eqb t e d))
+              go (inr d) (inr h) = far (rank-later t h d) ∙ sym (fails (table tr (suc i) t e) (no-table d h))
+
+          goes-begin : Goes
+          unfolding left
+          goes-begin = (stuck-begin ∙ free, sound-on, record {
+            proper = subst Proper words-begin (done .proper-left not-refused);
+            noted = noted-next tr f i ws last small (z .noted);
+            bits = λ t v b c. subst (λ (y : List ℕ). bitOf y (f t - 1) (f v - 1) ≡ table tr (suc i) t v) words-begin (all t v b c (decide-eq e v));
+          })
+            where
+              all : (t v : ℕ) → Begins tr n t → Begins tr n v → (e ≡ v) ⊎ (e ≢ v) → bitOf (walk tr f e u i started (zeros 64) .words) (f t - 1) (f v - 1) ≡ table tr (suc i) t v
+              all t v b c (inl q) = subst (λ (y : ℕ). bitOf (walk tr f e u i started (zeros 64) .words) (f t - 1) (f y - 1) ≡ table tr (suc i) t y) q (own-bits t b)
+              all t v b c (inr d) = other-bits t v b c d
+
+        pub at-begin : Refused ⊎ Goes
+        at-begin = go (decide (blocked tr i))
+          where
+            go : (blocked tr i ≡ true) ⊎ (blocked tr i ≡ false) → Refused ⊎ Goes
+            go (inl y) = inl (stuck-begin ∙ y, holds a, y)
+            go (inr y) = inr (goes-begin y)
+
+      pub step : Refused ⊎ Goes
+      step = go (decide (isBegin r)) (decide (isJoin r)) (decide (starts r))
+        where
+          go : (isBegin r ≡ true) ⊎ (isBegin r ≡ false) → (isJoin r ≡ true) ⊎ (isJoin r ≡ false) → (starts r ≡ true) ⊎ (starts r ≡ false) → Refused ⊎ Goes
+          go (inl a) _ _ = at-begin a
+          go (inr a) (inl b) _ = inr (goes-join a b)
+          go (inr a) (inr b) (inl c) = inr (goes-start a b c)
+          go (inr a) (inr b) (inr c) = inr (goes-other a b c)
+
+  module _ (lawful : (i : ℕ) → i < n → Lawful tr i) (small : n ≤ 65535) where
+    fills : (k i : ℕ) (ws last : List ℕ) → i + k ≡ n → Sound tr i → Fills i ws last → Decides tr f n (fillFrom tr f i k ws last)
+    unfolding fillFrom
+    fills zero i ws last q s z =
+        let m : i ≡ n = omega arith in
+        record { inside = omega arith; sound = s; refuses = λ h. absurd (omega arith); tells = λ o t u b c. z .bits t u b c ∙ ap (λ (y : ℕ). table tr y t u) m }
+    fills (suc k) i ws last q s z =
+        go (step i (omega arith) s (lawful i (omega arith)) ws last z (omega arith))
+        (fills k (suc i) (stepWords tr f i ws last) (stepLast tr f i ws last) (omega arith))
+      where
+        Ends : Bool → Type 0
+        Ends y = Decides tr f n (spec.filledIf y (record { stop = i; words = stepWords tr f i ws last }) (fillFrom tr f (suc i) k (stepWords tr f i ws last) (stepLast tr f i ws last)))
+
+        go : ((stepStuck tr f i ws last ≡ true) × T (isBegin (at tr i)) × (blocked tr i ≡ true))
+            ⊎ ((stepStuck tr f i ws last ≡ false) × Sound tr (suc i) × Fills (suc i) (stepWords tr f i ws last) (stepLast tr f i ws last))
+            → (Sound tr (suc i) → Fills (suc i) (stepWords tr f i ws last) (stepLast tr f i ws last)
+            → Decides tr f n (fillFrom tr f (suc i) k (stepWords tr f i ws last) (stepLast tr f i ws last)))
+            → Decides tr f n (spec.filledIf (stepStuck tr f i ws last) (record { stop = i; words = stepWords tr f i ws last }) (fillFrom tr f (suc i) k (stepWords tr f i ws last) (stepLast tr f i ws last)))
+        go (inl y) h = rw (y .0) (record { inside = omega arith; sound = s; refuses = λ o. (y .1, y .2); tells = λ o. absurd (omega (arith, o)) })
+        go (inr y) h = rw (y .0) (h (y .1) (y .2))
