@@ -7,7 +7,7 @@ use mathlib.Core.List.{List}
 use native.Mathlib.Omega.{arith}
 use borrow.Author.Tests.{eq-eqb, ne-eqb, eqb-true}
 use lib.Dec.{T, eqb, leb, eqb→eq}
-use lib.ListN.{length, getD}
+use lib.ListN.{length, getD, length-replicate}
 use Rattle.slices.specs.Slices.{zeros}
 use Rattle.slices.proofs.Tests.{same, passed, decide-eq, either, or-left, or-right}
 use Rattle.records.specs.declared.Record.{Record}
@@ -425,9 +425,6 @@ module _ {tr : List Record} {f : ℕ → ℕ} {n : ℕ} (g : Ranked tr f n) wher
         go (step i (omega arith) s (lawful i (omega arith)) ws last z (omega arith))
         (fills k (suc i) (stepWords tr f i ws last) (stepLast tr f i ws last) (omega arith))
       where
-        Ends : Bool → Type 0
-        Ends y = Decides tr f n (spec.filledIf y (record { stop = i; words = stepWords tr f i ws last }) (fillFrom tr f (suc i) k (stepWords tr f i ws last) (stepLast tr f i ws last)))
-
         go : ((stepStuck tr f i ws last ≡ true) × T (isBegin (at tr i)) × (blocked tr i ≡ true))
             ⊎ ((stepStuck tr f i ws last ≡ false) × Sound tr (suc i) × Fills (suc i) (stepWords tr f i ws last) (stepLast tr f i ws last))
             → (Sound tr (suc i) → Fills (suc i) (stepWords tr f i ws last) (stepLast tr f i ws last)
@@ -435,3 +432,27 @@ module _ {tr : List Record} {f : ℕ → ℕ} {n : ℕ} (g : Ranked tr f n) wher
             → Decides tr f n (spec.filledIf (stepStuck tr f i ws last) (record { stop = i; words = stepWords tr f i ws last }) (fillFrom tr f (suc i) k (stepWords tr f i ws last) (stepLast tr f i ws last)))
         go (inl y) h = rw (y .0) (record { inside = omega arith; sound = s; refuses = λ o. (y .1, y .2); tells = λ o. absurd (omega (arith, o)) })
         go (inr y) h = rw (y .0) (h (y .1) (y .2))
+
+    zeros-word : (m j : ℕ) → getD (zeros m) j 0 ≡ 0
+    unfolding zeros
+    zeros-word zero j = refl
+    zeros-word (suc m) zero = refl
+    zeros-word (suc m) (suc j) = zeros-word m j
+
+    zeros-length : (m j : ℕ) → j ≤ m → j ≤ length (zeros m)
+    unfolding zeros
+    zeros-length m j h = rw (length-replicate m zero) h
+
+    none-noted : Noted tr 0 (zeros 1025)
+    none-noted = record {
+      room = zeros-length 1025 1025 (omega arith);
+      reached = λ e l. let k = zeros-word 1025 e in omega arith;
+      none-after = λ e l m a b. absurd (omega arith);
+    }
+
+    at-first : Fills 0 (zeros 8704) (zeros 1025)
+    unfolding table
+    at-first = record { proper = proper-zeros; noted = none-noted; bits = λ t u b c. no-bit 8704 (f t - 1) (f u - 1) }
+
+    pub fill-decides : Decides tr f n (fillFrom tr f 0 n (zeros 8704) (zeros 1025))
+    fill-decides = fills n 0 (zeros 8704) (zeros 1025) (omega arith) (sound-zero tr) at-first

@@ -3,3 +3,4 @@ pub mod FillLaws
 pub mod WalkSim
 pub mod LastSend
 pub mod FillSim
+pub mod RankSim
