@@ -17,10 +17,12 @@ use Rattle.records.specs.Records.{at, past, isBegin, begun, begins}
 use Rattle.records.proofs.Positions.{decide, lt-or-ge, true-not-false}
 use Rattle.ranks.specs.Ranks.{withRank, rankIf, ranksUpto, ranksOf}
 use Rattle.precedence.specs.Before.{Begins}
+use Rattle.precedence.specs.Sound.{Sound}
 use Rattle.precedence.proofs.Rows.{begins-later, begins-begun, begun-begins, begun-or-not}
+use Rattle.precedence.proofs.Theorems.{shorter, table-decides, refusal-decides}
 use Rattle.links.specs.Rule.{rankIn}
-use Rattle.links.specs.Fill.{fillAll}
-use Rattle.links.specs.Promise.{Lawful, Ranked, Decides}
+use Rattle.links.specs.Fill.{Filled, fillAll}
+use Rattle.links.specs.Promise.{Lawful, Ranked, Decides, DecidesOrder}
 use Rattle.links.proofs.FillSim.{fill-decides}
 
 holds : {a : Bool} → a ≡ true → T a
@@ -182,3 +184,23 @@ pub all-decided : (tr : List Record) → ((i : ℕ) → i < length tr → Lawful
     → Decides tr (rankIn (ranksOf tr)) (length tr) (fillAll tr)
 unfolding fillAll ranksOf
 all-decided tr lawful few small = fill-decides (ranked tr (length tr) lawful few) lawful small
+
+-- in the documents' words
+module _ {tr : List Record} {f : ℕ → ℕ} {n : ℕ} {done : Filled} (d : Decides tr f n done) where
+  pub order-decided : DecidesOrder tr f n done
+  order-decided = record {
+    free-before = λ i l b k.
+        let m : i ≤ done .stop = omega arith in
+        let s = shorter m (d .sound) in
+        subst T (d .sound .unblocked i l b) (refusal-decides s .1 k);
+    refused-there = λ l. let r = d .refuses l in (r .0, refusal-decides (d .sound) .0 (holds (r .1)));
+    happens-before = λ q t u b c.
+        let e = d .tells q t u b c in
+        let s = subst (Sound tr) q (d .sound) in
+        let k = table-decides s t u c in
+        (λ h. k .0 (subst T e h), λ h. subst T (sym e) (k .1 h));
+  }
+
+pub trace-decided : (tr : List Record) → ((i : ℕ) → i < length tr → Lawful tr i) → begins (past tr (length tr)) ≤ 1024 → length tr ≤ 65535
+    → DecidesOrder tr (rankIn (ranksOf tr)) (length tr) (fillAll tr)
+trace-decided tr lawful few small = order-decided (all-decided tr lawful few small)

@@ -1,6 +1,7 @@
 -- What filling promises of records that pass 4 to 8. Assumes nothing.
 use Prim.Native.Nat.{ℕ, _-_, _≤_, _<_}
 use mathlib.Core.Path.{_≡_}
+use mathlib.Core.Logic.{_↔_}
 use mathlib.Core.Bool.{true, false}
 use mathlib.Core.List.{List}
 use lib.Dec.{T}
@@ -8,7 +9,7 @@ use Rattle.records.specs.declared.Record.{Record}
 use Rattle.records.specs.Records.{at, past, isBegin, isJoin, begun}
 use Rattle.bits.specs.Table.{bitOf}
 use Rattle.precedence.specs.Kinds.{starts}
-use Rattle.precedence.specs.Before.{Begins}
+use Rattle.precedence.specs.Before.{Begins, Before, Blocked}
 use Rattle.precedence.specs.Table.{table, blocked}
 use Rattle.precedence.specs.Sound.{Sound}
 use Rattle.links.specs.Fill.{Filled}
@@ -36,3 +37,10 @@ pub record Decides (tr : List Record) (f : ℕ → ℕ) (n : ℕ) (done : Filled
   pub sound : Sound tr (done .stop)
   pub refuses : done .stop < n → T (isBegin (at tr (done .stop))) × (blocked tr (done .stop) ≡ true)
   pub tells : done .stop ≡ n → (t u : ℕ) → Begins tr n t → Begins tr n u → bitOf (done .words) (f t - 1) (f u - 1) ≡ table tr n t u
+
+-- The same in the documents' words: "Refusal 31, following 7 on a begin and placed there, is for an event that a link puts behind another target not
+-- yet begun." and "t happens before u".
+pub record DecidesOrder (tr : List Record) (f : ℕ → ℕ) (n : ℕ) (done : Filled) : Type 0 where
+  pub free-before : (i : ℕ) → i < done .stop → T (isBegin (at tr i)) → Blocked tr i → ⊥
+  pub refused-there : done .stop < n → T (isBegin (at tr (done .stop))) × Blocked tr (done .stop)
+  pub happens-before : done .stop ≡ n → (t u : ℕ) → Begins tr n t → Begins tr n u → T (bitOf (done .words) (f t - 1) (f u - 1)) ↔ Before tr n t u
