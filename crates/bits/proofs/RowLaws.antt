@@ -279,7 +279,8 @@ module _ (table : List ℕ) (l x : ℕ) (i : l < 4) (h : x < 1024) (ws : List �
   pub takes-into : TakesInto table l x ws
   takes-into k y = rw into-is (go (lt-or-ge k 4) (lt-or-ge y 1024) (eq-or-not k l) (lt-or-ge x y))
     where
-      go : (k < 4) ⊎ (4 ≤ k) → (y < 1024) ⊎ (1024 ≤ y) → (k ≡ l) ⊎ (k ≢ l) → (x < y) ⊎ (y ≤ x) → member into k y ≡ (member ws k y || (eqb k l && bitOf table y x))
+      go : (k < 4) ⊎ (4 ≤ k) → (y < 1024) ⊎ (1024 ≤ y) → (k ≡ l) ⊎ (k ≢ l) → (x < y) ⊎ (y ≤ x)
+          → member into k y ≡ (member ws k y || (eqb k l && bitOf table y x))
       go (inr a) _ _ _ =
           let o : (ltb k 4 && ltb y 1024) ≡ false = rw (le-ltb k 4 a) in
           sym (member-none k y into o) ∙ member-none k y ws o ∙ or-none _ _ (none-in k y (λ e. absurd (omega (arith, e))))

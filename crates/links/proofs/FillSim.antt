@@ -68,7 +68,8 @@ module _ {tr : List Record} {f : ℕ → ℕ} {n : ℕ} (g : Ranked tr f n) wher
   earlier i x y l b h c = go (lt-or-ge (c .position) i)
     where
       go : (c .position < i) ⊎ (i ≤ c .position) → f x < f y
-      go (inl k) = absurd (true-not-false (begins-begun tr y i (record { position = c .position; inside = k; is-begin = c .is-begin; of-event = c .of-event })) h)
+      go (inl k) =
+          absurd (true-not-false (begins-begun tr y i (record { position = c .position; inside = k; is-begin = c .is-begin; of-event = c .of-event })) h)
       go (inr k) =
           let m = b .inside in
           g .rises x y (record { position = b .position; inside = omega arith; is-begin = b .is-begin; of-event = b .of-event }) c (omega arith)
@@ -178,31 +179,40 @@ module _ {tr : List Record} {f : ℕ → ℕ} {n : ℕ} (g : Ranked tr f n) wher
       goes-join a b =
           let k = eqb-true (r .kind) 4 b in
           let m = link-tells (r .second) (r .first) (begun-begins tr (r .second) i (holds (x .waited (holds b)))) (x .join-fresh (holds b)) in
-          let v = subst (Linked (r .second) (r .first)) (words-join k) m in
-          (not-stuck a, no-begin a, record {
-            proper = v .proper′;
-            noted = noted-next tr f i ws last small (z .noted);
-            bits = λ t u c d. v .bits′ t u c d ∙ sym (next-join k t u);
-          })
+          let v = subst (Linked (r .second) (r .first)) (words-join k) m in (
+            not-stuck a,
+            no-begin a,
+            record {
+              proper = v .proper′;
+              noted = noted-next tr f i ws last small (z .noted);
+              bits = λ t u c d. v .bits′ t u c d ∙ sym (next-join k t u);
+            },
+          )
 
       goes-start : isBegin r ≡ false → isJoin r ≡ false → starts r ≡ true → Goes
       goes-start a b c =
           let m = link-tells (r .first) (r .second) (begun-begins tr (r .first) i (holds (x .running (holds c)))) (x .target-fresh (holds c)) in
-          let v = subst (Linked (r .first) (r .second)) (words-start a b c) m in
-          (not-stuck a, no-begin a, record {
-            proper = v .proper′;
-            noted = noted-next tr f i ws last small (z .noted);
-            bits = λ t u d o. v .bits′ t u d o ∙ sym (next-start a b c t u);
-          })
+          let v = subst (Linked (r .first) (r .second)) (words-start a b c) m in (
+            not-stuck a,
+            no-begin a,
+            record {
+              proper = v .proper′;
+              noted = noted-next tr f i ws last small (z .noted);
+              bits = λ t u d o. v .bits′ t u d o ∙ sym (next-start a b c t u);
+            },
+          )
 
       goes-other : isBegin r ≡ false → isJoin r ≡ false → starts r ≡ false → Goes
       goes-other a b c =
-          let q = words-other a b c in
-          (not-stuck a, no-begin a, record {
-            proper = subst Proper q (z .proper);
-            noted = noted-next tr f i ws last small (z .noted);
-            bits = λ t u d o. subst (λ (v : List ℕ). bitOf v (f t - 1) (f u - 1) ≡ table tr i t u) q (z .bits t u d o) ∙ sym (next-other a b c t u);
-          })
+          let q = words-other a b c in (
+            not-stuck a,
+            no-begin a,
+            record {
+              proper = subst Proper q (z .proper);
+              noted = noted-next tr f i ws last small (z .noted);
+              bits = λ t u d o. subst (λ (v : List ℕ). bitOf v (f t - 1) (f u - 1) ≡ table tr i t u) q (z .bits t u d o) ∙ sym (next-other a b c t u);
+            },
+          )
 
       -- a begin
       module _ (a : isBegin r ≡ true) where
@@ -274,8 +284,11 @@ module _ {tr : List Record} {f : ℕ → ℕ} {n : ℕ} (g : Ranked tr f n) wher
         started-bit t v = puts-bit (u - 1) (u - 1) (omega arith) u-table ws (z .proper) t v
 
         -- an entry that isn't e's own
-        started-old : (t v : ℕ) → Begins tr n t → Begins tr n v → (eqb (f t - 1) (u - 1) && eqb (f v - 1) (u - 1)) ≡ false → bitOf started (f t - 1) (f v - 1) ≡ table tr i t v
-        started-old t v c d q = started-bit (f t - 1) (f v - 1) ∙ ap (λ (y : Bool). bitOf ws (f t - 1) (f v - 1) || y) q ∙ sym (or-no (bitOf ws (f t - 1) (f v - 1))) ∙ z .bits t v c d
+        started-old : (t v : ℕ) → Begins tr n t → Begins tr n v → (eqb (f t - 1) (u - 1) && eqb (f v - 1) (u - 1)) ≡ false
+            → bitOf started (f t - 1) (f v - 1) ≡ table tr i t v
+        started-old t v c d q =
+            started-bit (f t - 1) (f v - 1) ∙ ap (λ (y : Bool). bitOf ws (f t - 1) (f v - 1) || y) q ∙ sym (or-no (bitOf ws (f t - 1) (f v - 1)))
+            ∙ z .bits t v c d
 
         lower-row : (v : ℕ) → T (has v) → f v - 1 ≢ u - 1
         lower-row v h q = let k = rank-lower v h in let m = g .positive v (begins-all v h) in omega (arith, q)
@@ -288,9 +301,13 @@ module _ {tr : List Record} {f : ℕ → ℕ} {n : ℕ} (g : Ranked tr f n) wher
         tells₀ = record {
           proper = started-proper;
           room = no-sets-room;
-          rows = λ t v h k. started-old t v (begins-all t h) (begins-all v k) (ap (λ (y : Bool). y && eqb (f v - 1) (u - 1)) (ne-eqb (f t - 1) (u - 1) (lower-row t h)));
+          rows =
+              λ t v h k. started-old t v (begins-all t h) (begins-all v k)
+              (ap (λ (y : Bool). y && eqb (f v - 1) (u - 1)) (ne-eqb (f t - 1) (u - 1) (lower-row t h)));
           frame = λ t v d. refl;
-          itself = started-bit (u - 1) (u - 1) ∙ passed _ (or-right (bitOf ws (u - 1) (u - 1)) (eqb (u - 1) (u - 1) && eqb (u - 1) (u - 1)) (both-own (eq-eqb (u - 1) (u - 1) refl)));
+          itself =
+              started-bit (u - 1) (u - 1)
+              ∙ passed _ (or-right (bitOf ws (u - 1) (u - 1)) (eqb (u - 1) (u - 1) && eqb (u - 1) (u - 1)) (both-own (eq-eqb (u - 1) (u - 1) refl)));
           own = λ t h. started-old t e (begins-all t h) e-begins (ap (λ (y : Bool). y && eqb (u - 1) (u - 1)) (ne-eqb (f t - 1) (u - 1) (lower-row t h)));
           reaches = λ k y c d h. no-member 64 (k - 16) (f y - 1);
           row-closed = λ t p h k. transitive s i t p e (omega arith) h k;
@@ -378,7 +395,8 @@ module _ {tr : List Record} {f : ℕ → ℕ} {n : ℕ} (g : Ranked tr f n) wher
               far (inl q) = let k = g .positive t b in absurd (omega (arith, q))
               far (inr q) = let k = g .positive e e-begins in sym (bit-none (f t - 1) (u - 1) _ (outside-low (f t - 1) (u - 1) (omega arith)))
 
-              go : (t ≡ e) ⊎ (t ≢ e) → (has t ≡ true) ⊎ (has t ≡ false) → bitOf (walk tr f e u i started (zeros 64) .words) (f t - 1) (u - 1) ≡ table tr (suc i) t e
+              go : (t ≡ e) ⊎ (t ≢ e) → (has t ≡ true) ⊎ (has t ≡ false)
+                  → bitOf (walk tr f e u i started (zeros 64) .words) (f t - 1) (u - 1) ≡ table tr (suc i) t e
               go (inl q) _ =
                   ap (λ (y : ℕ). bitOf (walk tr f e u i started (zeros 64) .words) (f y - 1) (u - 1)) q ∙ done .itself-left not-refused
                   ∙ sym (gathers t ∙ ap (λ (y : Bool). y || run tr e (table tr i) has i s₀ .row t) (eq-eqb t e q))
@@ -389,14 +407,20 @@ module _ {tr : List Record} {f : ℕ → ℕ} {n : ℕ} (g : Ranked tr f n) wher
 
           goes-begin : Goes
           unfolding left
-          goes-begin = (stuck-begin ∙ free, sound-on, record {
-            proper = subst Proper words-begin (done .proper-left not-refused);
-            noted = noted-next tr f i ws last small (z .noted);
-            bits = λ t v b c. subst (λ (y : List ℕ). bitOf y (f t - 1) (f v - 1) ≡ table tr (suc i) t v) words-begin (all t v b c (decide-eq e v));
-          })
+          goes-begin = (
+            stuck-begin ∙ free,
+            sound-on,
+            record {
+              proper = subst Proper words-begin (done .proper-left not-refused);
+              noted = noted-next tr f i ws last small (z .noted);
+              bits = λ t v b c. subst (λ (y : List ℕ). bitOf y (f t - 1) (f v - 1) ≡ table tr (suc i) t v) words-begin (all t v b c (decide-eq e v));
+            },
+          )
             where
-              all : (t v : ℕ) → Begins tr n t → Begins tr n v → (e ≡ v) ⊎ (e ≢ v) → bitOf (walk tr f e u i started (zeros 64) .words) (f t - 1) (f v - 1) ≡ table tr (suc i) t v
-              all t v b c (inl q) = subst (λ (y : ℕ). bitOf (walk tr f e u i started (zeros 64) .words) (f t - 1) (f y - 1) ≡ table tr (suc i) t y) q (own-bits t b)
+              all : (t v : ℕ) → Begins tr n t → Begins tr n v → (e ≡ v) ⊎ (e ≢ v)
+                  → bitOf (walk tr f e u i started (zeros 64) .words) (f t - 1) (f v - 1) ≡ table tr (suc i) t v
+              all t v b c (inl q) =
+                  subst (λ (y : ℕ). bitOf (walk tr f e u i started (zeros 64) .words) (f t - 1) (f y - 1) ≡ table tr (suc i) t y) q (own-bits t b)
               all t v b c (inr d) = other-bits t v b c d
 
         pub at-begin : Refused ⊎ Goes

@@ -119,6 +119,7 @@ module _ (tr : List Record) (f : ℕ → ℕ) (i : ℕ) (ws last : List ℕ) (h 
   unfolding stepLast
   noted-next = go (decide (isSend (at tr i)))
     where
-      go : (isSend (at tr i) ≡ true) ⊎ (isSend (at tr i) ≡ false) → Noted tr (suc i) (wordsIf (isSend (at tr i)) (set last (at tr i .second) ((i + 1) % 65536)) last)
+      go : (isSend (at tr i) ≡ true) ⊎ (isSend (at tr i) ≡ false)
+          → Noted tr (suc i) (wordsIf (isSend (at tr i)) (set last (at tr i .second) ((i + 1) % 65536)) last)
       go (inl y) = rw y (noted-send y)
       go (inr y) = rw y (noted-other y)

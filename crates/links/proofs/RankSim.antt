@@ -174,11 +174,13 @@ module _ (tr : List Record) where
             let k = count-begin (b .position) (passed (isBegin (at tr (b .position))) (b .is-begin)) in
             let m = count-rises (suc (b .position)) n (b .inside) in
             omega arith
+
         steps : (x y : ℕ) (b : Begins tr n x) (c : Begins tr n y) → b .position < c .position → suc (count (b .position)) ≤ count (c .position)
         steps x y b c h =
             let k = count-begin (b .position) (passed (isBegin (at tr (b .position))) (b .is-begin)) in
             let m = count-rises (suc (b .position)) (c .position) h in
             omega arith
+
 -- all records of a trace that pass 4 to 8
 pub all-decided : (tr : List Record) → ((i : ℕ) → i < length tr → Lawful tr i) → begins (past tr (length tr)) ≤ 1024 → length tr ≤ 65535
     → Decides tr (rankIn (ranksOf tr)) (length tr) (fillAll tr)

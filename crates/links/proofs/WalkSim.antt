@@ -207,7 +207,8 @@ module _ {tr : List Record} {f : ℕ → ℕ} {e u i : ℕ} {b : Table} {has : �
     unfolding turnWords
     words-step n = rw hits-is (go (decide hitting) (decide (has (r .second))))
       where
-        go : (hitting ≡ true) ⊎ (hitting ≡ false) → (has (r .second) ≡ true) ⊎ (has (r .second) ≡ false) → NewWords (wordsIf hitting (behind (f (r .second)) u ws) ws)
+        go : (hitting ≡ true) ⊎ (hitting ≡ false) → (has (r .second) ≡ true) ⊎ (has (r .second) ≡ false)
+            → NewWords (wordsIf hitting (behind (f (r .second)) u ws) ws)
         go (inr y) _ = subst (λ (x : Bool). NewWords (wordsIf x (behind (f (r .second)) u ws) ws)) (sym y) (old-words (λ t a. none y t))
           where
             none : hitting ≡ false → (t : ℕ) → s .row t ≡ gained t
@@ -348,7 +349,8 @@ module _ {tr : List Record} {f : ℕ → ℕ} {e u i : ℕ} {b : Table} {has : �
   unfolding turn
   stuck-turn s j y = passed _ (or-right (s .stuck) (hit e (s .reach) (at tr j) && not (has (at tr j .second))) (holds y))
 
-  free-turn : (s : Scan) (j : ℕ) → s .stuck ≡ false → (hit e (s .reach) (at tr j) && not (has (at tr j .second))) ≡ false → turn e b has (at tr j) s .stuck ≡ false
+  free-turn : (s : Scan) (j : ℕ) → s .stuck ≡ false → (hit e (s .reach) (at tr j) && not (has (at tr j .second))) ≡ false
+      → turn e b has (at tr j) s .stuck ≡ false
   unfolding turn
   free-turn s j n y = rw n y
 
@@ -358,12 +360,16 @@ module _ {tr : List Record} {f : ℕ → ℕ} {e u i : ℕ} {b : Table} {has : �
     pub proper-left : run tr e b has j s .stuck ≡ false → Proper (walk tr f e u j ws sets .words)
     pub frame-left : run tr e b has j s .stuck ≡ false → (t v : ℕ) → v ≢ u - 1 → bitOf (walk tr f e u j ws sets .words) t v ≡ B t v
     pub itself-left : run tr e b has j s .stuck ≡ false → bitOf (walk tr f e u j ws sets .words) (u - 1) (u - 1) ≡ true
-    pub own-left : run tr e b has j s .stuck ≡ false → (t : ℕ) → T (has t) → bitOf (walk tr f e u j ws sets .words) (f t - 1) (u - 1) ≡ run tr e b has j s .row t
+    pub own-left : run tr e b has j s .stuck ≡ false → (t : ℕ) → T (has t)
+        → bitOf (walk tr f e u j ws sets .words) (f t - 1) (u - 1) ≡ run tr e b has j s .row t
 
   pub walks : (j : ℕ) → j ≤ i → (ws sets : List ℕ) (s : Scan) → s .stuck ≡ false → Tells f u b has B ws sets s → Walks j ws sets s
   unfolding walk run
-  walks zero l ws sets s n z = record { stuck-same = sym n; proper-left = λ h. z .proper; frame-left = λ h. z .frame; itself-left = λ h. z .itself; own-left = λ h. z .own }
-  walks (suc j) l ws sets s n z = go (decide (turnStuck f e u (at tr j) ws sets)) (walks j (omega arith) (turnWords f e u (at tr j) ws sets) (turnSets f e u (at tr j) ws sets) (turn e b has (at tr j) s))
+  walks zero l ws sets s n z =
+      record { stuck-same = sym n; proper-left = λ h. z .proper; frame-left = λ h. z .frame; itself-left = λ h. z .itself; own-left = λ h. z .own }
+  walks (suc j) l ws sets s n z =
+      go (decide (turnStuck f e u (at tr j) ws sets))
+      (walks j (omega arith) (turnWords f e u (at tr j) ws sets) (turnSets f e u (at tr j) ws sets) (turn e b has (at tr j) s))
     where
       stuck₀ : turnStuck f e u (at tr j) ws sets ≡ (hit e (s .reach) (at tr j) && not (has (at tr j .second)))
       stuck₀ = stuck-is B w j l ws sets s z

@@ -47,8 +47,17 @@ fn reach_link(sets: &mut [u64], l: usize, table: &[u64], x: usize)
 }
 
 // Record j in the walk for event e of rank u; true where a target is missing.
-fn link_turn(recs: &[u8], ranks: &[u16], j: usize, e: EventId, u: u16, table: &mut [u64], sets: &mut [u64]) -> bool
-    ensures { λ r. ⌜ Turned (rankIn (now (ranks .entry))) (e .0) u (at (decode (now (recs .entry))) j) (now (table .entry)) (now (sets .entry)) r (now (table .exit)) (now (sets .exit)) ⌝ }
+fn link_turn(
+    recs: &[u8],
+    ranks: &[u16],
+    j: usize,
+    e: EventId,
+    u: u16,
+    table: &mut [u64],
+    sets: &mut [u64],
+) -> bool
+    ensures { λ r. ⌜ Turned (rankIn (now (ranks .entry))) (e .0) u (at (decode (now (recs .entry))) j)
+        (now (table .entry)) (now (sets .entry)) r (now (table .exit)) (now (sets .exit)) ⌝ }
 {
     let kind = access::kind_at(recs, j);
     if kind < 16 {
@@ -73,8 +82,17 @@ fn link_turn(recs: &[u8], ranks: &[u16], j: usize, e: EventId, u: u16, table: &m
 }
 
 // The walk down from position j.
-fn link_walk(recs: &[u8], ranks: &[u16], from: usize, e: EventId, u: u16, table: &mut [u64], sets: &mut [u64]) -> bool
-    ensures { λ r. ⌜ Leaves (walk (decode (now (recs .entry))) (rankIn (now (ranks .entry))) (e .0) u from (now (table .entry)) (now (sets .entry))) r (now (table .exit)) ⌝ }
+fn link_walk(
+    recs: &[u8],
+    ranks: &[u16],
+    from: usize,
+    e: EventId,
+    u: u16,
+    table: &mut [u64],
+    sets: &mut [u64],
+) -> bool
+    ensures { λ r. ⌜ Leaves (walk (decode (now (recs .entry))) (rankIn (now (ranks .entry))) (e .0) u from
+        (now (table .entry)) (now (sets .entry))) r (now (table .exit)) ⌝ }
 {
     let mut j = from;
     while 0 < j {
@@ -94,7 +112,8 @@ fn no_sets() -> [u64; 64]
 }
 
 fn link_rule(recs: &[u8], ranks: &[u16], from: usize, e: EventId, u: u16, table: &mut [u64]) -> bool
-    ensures { λ r. ⌜ Leaves (walk (decode (now (recs .entry))) (rankIn (now (ranks .entry))) (e .0) u from (now (table .entry)) (zeros 64)) r (now (table .exit)) ⌝ }
+    ensures { λ r. ⌜ Leaves (walk (decode (now (recs .entry))) (rankIn (now (ranks .entry))) (e .0) u from
+        (now (table .entry)) (zeros 64)) r (now (table .exit)) ⌝ }
 {
     let mut sets = no_sets();
     link_walk(recs, ranks, from, e, u, table, &mut sets)
@@ -115,7 +134,8 @@ fn link_rows(table: &mut [u64], p: u16, u: u16)
 
 // The begin of e, the last send to which is the last of the first `from` records; true where 31 refuses it.
 fn begin_row(recs: &[u8], ranks: &[u16], from: usize, e: EventId, table: &mut [u64]) -> bool
-    ensures { λ r. ⌜ Leaves (beginRow (decode (now (recs .entry))) (rankIn (now (ranks .entry))) (e .0) (rankIn (now (ranks .entry)) (e .0)) from (now (table .entry))) r (now (table .exit)) ⌝ }
+    ensures { λ r. ⌜ Leaves (beginRow (decode (now (recs .entry))) (rankIn (now (ranks .entry))) (e .0) (rankIn (now (ranks .entry)) (e .0)) from
+        (now (table .entry))) r (now (table .exit)) ⌝ }
 {
     let u = rank_of(ranks, e);
     if u == 0 {
@@ -135,7 +155,8 @@ fn link_events(ranks: &[u16], from: EventId, to: EventId, table: &mut [u64])
 // Record i, where last holds one more than the position of the last send to each event; true where 31 refuses it.
 fn fill_record(recs: &[u8], ranks: &[u16], i: usize, table: &mut [u64], last: &mut [u16]) -> bool
     requires { ⌜ i < 9223372036854775807 ⌝ }
-    ensures { λ r. ⌜ Stepped (decode (now (recs .entry))) (rankIn (now (ranks .entry))) i (now (table .entry)) (now (last .entry)) r (now (table .exit)) (now (last .exit)) ⌝ }
+    ensures { λ r. ⌜ Stepped (decode (now (recs .entry))) (rankIn (now (ranks .entry))) i
+        (now (table .entry)) (now (last .entry)) r (now (table .exit)) (now (last .exit)) ⌝ }
 {
     let kind = access::kind_at(recs, i);
     let e = access::event_at(recs, i);
@@ -166,7 +187,8 @@ fn fill_record(recs: &[u8], ranks: &[u16], i: usize, table: &mut [u64], last: &m
 // The first n records; where it stopped.
 fn fill_rows(recs: &[u8], ranks: &[u16], n: usize, table: &mut [u64], last: &mut [u16]) -> usize
     requires { ⌜ n < 9223372036854775807 ⌝ }
-    ensures { λ r. ⌜ Stops (fillFrom (decode (now (recs .entry))) (rankIn (now (ranks .entry))) 0 n (now (table .entry)) (now (last .entry))) r (now (table .exit)) ⌝ }
+    ensures { λ r. ⌜ Stops (fillFrom (decode (now (recs .entry))) (rankIn (now (ranks .entry))) 0 n
+        (now (table .entry)) (now (last .entry))) r (now (table .exit)) ⌝ }
 {
     let mut i = 0;
     while i < n {
@@ -180,7 +202,8 @@ fn fill_rows(recs: &[u8], ranks: &[u16], n: usize, table: &mut [u64], last: &mut
 
 // The table over all records, taken into the one lent; the position of the first begin that 31 refuses, or the number of records.
 pub fn fill(recs: &[u8], ranks: &[u16], table: &mut [u64]) -> usize
-    ensures { λ r. ⌜ Stops (fillFrom (decode (now (recs .entry))) (rankIn (now (ranks .entry))) 0 (length (decode (now (recs .entry)))) (now (table .entry)) (zeros 1025)) r (now (table .exit)) ⌝ }
+    ensures { λ r. ⌜ Stops (fillFrom (decode (now (recs .entry))) (rankIn (now (ranks .entry))) 0 (length (decode (now (recs .entry))))
+        (now (table .entry)) (zeros 1025)) r (now (table .exit)) ⌝ }
 {
     let n = access::count(recs);
     let mut last = numbers_1025();

@@ -9,7 +9,9 @@ use Rattle.bits.proofs.or_others.Statement.{statement}
 use Rattle.bits.proofs.or_others.Tie as tie
 
 abbrev Inv-loop : tie.InvT-loop
-Inv-loop words₀ a others b n i₀ words i = (i ≤ n) × (length words ≡ length words₀) × (a + n ≤ length words₀) × (b + n ≤ length others) × (orOthers others a b i (n - i) words ≡ orOthers others a b 0 n words₀)
+Inv-loop words₀ a others b n i₀ words i =
+    (i ≤ n) × (length words ≡ length words₀) × (a + n ≤ length words₀) × (b + n ≤ length others) ×
+    (orOthers others a b i (n - i) words ≡ orOthers others a b 0 n words₀)
 
 abbrev μ-loop : tie.MeasureT-loop
 μ-loop words₀ a others b n i₀ words i = n - i

@@ -9,7 +9,8 @@ use Rattle.bits.proofs.or_words.Statement.{statement}
 use Rattle.bits.proofs.or_words.Tie as tie
 
 abbrev Inv-loop : tie.InvT-loop
-Inv-loop words₀ a b n i₀ words i = (i ≤ n) × (length words ≡ length words₀) × (a + n ≤ length words₀) × (b + n ≤ length words₀) × (orFrom a b i (n - i) words ≡ orFrom a b 0 n words₀)
+Inv-loop words₀ a b n i₀ words i =
+    (i ≤ n) × (length words ≡ length words₀) × (a + n ≤ length words₀) × (b + n ≤ length words₀) × (orFrom a b i (n - i) words ≡ orFrom a b 0 n words₀)
 
 abbrev μ-loop : tie.MeasureT-loop
 μ-loop words₀ a b n i₀ words i = n - i

@@ -49,9 +49,9 @@ returns-2 c = let k = c .before .before .before .before .before .before .before 
     let u = c .before .before .before .before .before .before .before .before .before .rank-of .ensures in
     let table = c .before .before .before .before .before .before .put .ensures in
     let w =
-      ap (λ (ws : List ℕ). walk tr ranks (k .e .0) (c .before .before .before .before .before .before .before .before .before .rank-of .result) (k .from) ws (zeros 64)) table
-      ∙ ap (λ (v : ℕ). walk tr ranks (k .e .0) v (k .from) (putBit (v - 1) (v - 1) (now (k .table))) (zeros 64)) u
-      ∙ begin-is tr ranks (k .e .0) _ (k .from) (now (k .table)) (λ z. c .before .before .before .before .before .before .before .before .if1 .left (u ∙ z)) in
+    ap (λ (ws : List ℕ). walk tr ranks (k .e .0) (c .before .before .before .before .before .before .before .before .before .rank-of .result) (k .from) ws (zeros 64)) table
+    ∙ ap (λ (v : ℕ). walk tr ranks (k .e .0) v (k .from) (putBit (v - 1) (v - 1) (now (k .table))) (zeros 64)) u
+    ∙ begin-is tr ranks (k .e .0) _ (k .from) (now (k .table)) (λ z. c .before .before .before .before .before .before .before .before .if1 .left (u ∙ z)) in
     (r .0 ∙ ap (λ (x : Walked). x .stuck) w, r .1 ∙ ap (λ (x : Walked). x .words) w)
 
 pub begin-row-spec : {M : Type 1} → statement M

@@ -43,8 +43,8 @@ returns c = let k = c .before .before .before .before .before .before .before .b
     let ev = c .before .before .before .before .before .before .before .before .event-at .result .0 in
     let r = c .before .before .begin-row .ensures in
     let w =
-      ap (λ (f : ℕ). beginRow tr ranks ev (ranks ev) f (now (k .table))) (c .before .before .before .before .get .ensures)
-      ∙ ap (λ (v : ℕ). beginRow tr ranks v (ranks v) (getD (now (k .last)) v 0) (now (k .table))) (c .before .before .before .before .before .before .before .before .event-at .ensures) in
+    ap (λ (f : ℕ). beginRow tr ranks ev (ranks ev) f (now (k .table))) (c .before .before .before .before .get .ensures)
+    ∙ ap (λ (v : ℕ). beginRow tr ranks v (ranks v) (getD (now (k .last)) v 0) (now (k .table))) (c .before .before .before .before .before .before .before .before .event-at .ensures) in
     step-begin _ _ _ _ _ _ _ (sym (c .before .before .before .before .before .before .before .before .before .kind-at .ensures) ∙ c .before .before .before .before .before .before .before .if1 .taken) (r .0 ∙ ap (λ (x : Walked). x .stuck) w, r .1 ∙ ap (λ (x : Walked). x .words) w)
 
 target-at-requires : tie.Need-target-at-requires

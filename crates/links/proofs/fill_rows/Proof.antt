@@ -14,7 +14,9 @@ use Rattle.links.proofs.fill_rows.Statement.{statement}
 use Rattle.links.proofs.fill_rows.Tie as tie
 
 abbrev Inv-loop : tie.InvT-loop
-Inv-loop recs ranks n table₀ last₀ i₀ table last i = (i ≤ n) × (length table ≡ length table₀) × (length last ≡ length last₀) × (fillFrom (decode recs) (rankIn ranks) i (n - i) table last ≡ fillFrom (decode recs) (rankIn ranks) 0 n table₀ last₀)
+Inv-loop recs ranks n table₀ last₀ i₀ table last i =
+    (i ≤ n) × (length table ≡ length table₀) × (length last ≡ length last₀) ×
+    (fillFrom (decode recs) (rankIn ranks) i (n - i) table last ≡ fillFrom (decode recs) (rankIn ranks) 0 n table₀ last₀)
 
 abbrev μ-loop : tie.MeasureT-loop
 μ-loop recs ranks n table₀ last₀ i₀ table last i = n - i
@@ -28,10 +30,14 @@ fill-record-requires : tie.Need-fill-record-requires Inv-loop μ-loop
 fill-record-requires c κs = omega arith
 
 same-length : tie.Need-same-length Inv-loop μ-loop
-same-length c = c .before .before .before .before .before .fill-record .kept .1 .1 .1 .0 ∙ c .before .before .before .before .before .before .before .before .before .loop .inv .1
+same-length c =
+    c .before .before .before .before .before .fill-record .kept .1 .1 .1 .0
+    ∙ c .before .before .before .before .before .before .before .before .before .loop .inv .1
 
 same-length-2 : tie.Need-same-length-2 Inv-loop μ-loop
-same-length-2 c = c .before .before .before .before .before .fill-record .kept .1 .1 .1 .1 .0 ∙ c .before .before .before .before .before .before .before .before .before .loop .inv .2
+same-length-2 c =
+    c .before .before .before .before .before .fill-record .kept .1 .1 .1 .1 .0
+    ∙ c .before .before .before .before .before .before .before .before .before .loop .inv .2
 
 returns : tie.Need-returns Inv-loop μ-loop
 returns c = let k = c .before .before .before .before .before .before .before .before .before .before .before .before .before .before .args in

@@ -30,7 +30,8 @@ same-length : tie.Need-same-length
 same-length c = search needs
 
 returns-3 : tie.Need-returns-3
-returns-3 c = c .before .before .or-row .ensures ∙ linked-is _ _ _ (c .before .before .before .before .before .if1 .left) (c .before .before .before .before .if2 .left)
+returns-3 c =
+    c .before .before .or-row .ensures ∙ linked-is _ _ _ (c .before .before .before .before .before .if1 .left) (c .before .before .before .before .if2 .left)
 
 pub link-rows-spec : {M : Type 1} → statement M
 link-rows-spec =

@@ -77,7 +77,8 @@ same-length-3 : tie.Need-same-length-3
 same-length-3 c = search needs
 
 returns-5 : tie.Need-returns-5
-returns-5 c = let k = c .before .before .before .before .before .before .before .before .before .before .before .before .before .before .before .before .before .args in
+returns-5 c =
+    let k = c .before .before .before .before .before .before .before .before .before .before .before .before .before .before .before .before .before .args in
     let kind = c .before .before .before .before .before .before .before .before .before .before .before .before .kind-at .ensures in
     let low = subst (λ (v : ℕ). 16 ≤ v) kind (c .before .before .before .before .before .before .before .before .before .before .before .if1 .left) in
     let high = subst (λ (v : ℕ). v ≤ 19) kind (c .before .before .before .before .before .before .before .before .before .before .if2 .left) in

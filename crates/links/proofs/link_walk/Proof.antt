@@ -13,7 +13,9 @@ use Rattle.links.proofs.link_walk.Statement.{statement}
 use Rattle.links.proofs.link_walk.Tie as tie
 
 abbrev Inv-loop : tie.InvT-loop
-Inv-loop recs ranks from e u table₀ sets₀ j₀ table sets j = (length table ≡ length table₀) × (length sets ≡ length sets₀) × (walk (decode recs) (rankIn ranks) (e .0) u j table sets ≡ walk (decode recs) (rankIn ranks) (e .0) u from table₀ sets₀)
+Inv-loop recs ranks from e u table₀ sets₀ j₀ table sets j =
+    (length table ≡ length table₀) × (length sets ≡ length sets₀) ×
+    (walk (decode recs) (rankIn ranks) (e .0) u j table sets ≡ walk (decode recs) (rankIn ranks) (e .0) u from table₀ sets₀)
 
 abbrev μ-loop : tie.MeasureT-loop
 μ-loop recs ranks from e u table₀ sets₀ j₀ table sets j = j
@@ -28,10 +30,14 @@ link-turn-requires : tie.Need-link-turn-requires Inv-loop μ-loop
 link-turn-requires c κs = search needs
 
 same-length : tie.Need-same-length Inv-loop μ-loop
-same-length c = c .before .before .before .before .before .link-turn .kept .1 .1 .1 .1 .1 .0 ∙ c .before .before .before .before .before .before .before .before .before .loop .inv .0
+same-length c =
+    c .before .before .before .before .before .link-turn .kept .1 .1 .1 .1 .1 .0
+    ∙ c .before .before .before .before .before .before .before .before .before .loop .inv .0
 
 same-length-2 : tie.Need-same-length-2 Inv-loop μ-loop
-same-length-2 c = c .before .before .before .before .before .link-turn .kept .1 .1 .1 .1 .1 .1 .0 ∙ c .before .before .before .before .before .before .before .before .before .loop .inv .1
+same-length-2 c =
+    c .before .before .before .before .before .link-turn .kept .1 .1 .1 .1 .1 .1 .0
+    ∙ c .before .before .before .before .before .before .before .before .before .loop .inv .1
 
 returns : tie.Need-returns Inv-loop μ-loop
 returns c = let t = c .before .before .before .before .before .link-turn .ensures in
