@@ -1,8 +1,6 @@
 -- `bits::get` meets its contract. Assumes nothing.
-use mathlib.Core.Path.{_≡_, refl, sym, ap, _∙_}
-use Prim.Native.Nat.{_%_}
+use mathlib.Core.Path.{sym, _∙_}
 use native.Mathlib.Omega.{arith}
-use Rattle.bits.specs.Words.{bitAt}
 use Rattle.bits.proofs.TableLaws.{row-inside, outside-low, outside-high, inside, bit-none, bit-is}
 use borrow.Author.Needs.{needs}
 use Rattle.bits.proofs.get.Statement.{statement}

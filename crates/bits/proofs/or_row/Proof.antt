@@ -1,7 +1,7 @@
 -- `bits::or_row` meets its contract. Assumes nothing.
-use mathlib.Core.Path.{_≡_, refl, sym, ap, _∙_}
+use mathlib.Core.Path.{sym, _∙_}
 use native.Mathlib.Omega.{arith}
-use borrow.Author.Tests.{lt-ltb, le-ltb, le-leb, lt-leb}
+use borrow.Author.Tests.{lt-ltb, le-ltb, lt-leb}
 use Rattle.bits.proofs.TableLaws.{row-inside, or-row-none, or-row-is}
 use borrow.Author.Needs.{needs}
 use Rattle.bits.proofs.or_row.Statement.{statement}

@@ -1,6 +1,6 @@
 -- `bits::put` meets its contract. Assumes nothing.
 use denote.Ref.{now}
-use mathlib.Core.Path.{_≡_, refl, sym, ap, _∙_}
+use mathlib.Core.Path.{sym, _∙_}
 use lib.Seq.{set-out}
 use native.Mathlib.Omega.{arith}
 use Rattle.bits.proofs.TableLaws.{row-inside, outside-low, outside-high, inside, put-none, put-is}

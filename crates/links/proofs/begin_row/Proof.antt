@@ -1,7 +1,7 @@
 -- `links::begin_row` meets its contract. Assumes nothing.
 use Prim.Native.Nat.{ℕ, _-_}
 use denote.Ref.{now}
-use mathlib.Core.Path.{_≡_, sym, ap, _∙_, subst}
+use mathlib.Core.Path.{sym, ap, _∙_}
 use mathlib.Core.List.{List}
 use Rattle.slices.specs.Slices.{zeros}
 use Rattle.records.specs.Bytes.{decode}

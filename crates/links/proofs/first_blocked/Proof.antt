@@ -1,7 +1,7 @@
 -- `links::first_blocked` meets its contract. Assumes nothing.
 use Prim.Native.Nat.{ℕ}
 use denote.Ref.{now}
-use mathlib.Core.Path.{_≡_, ap, ap₂, _∙_}
+use mathlib.Core.Path.{ap₂, _∙_}
 use mathlib.Core.List.{List}
 use lib.ListN.{length}
 use Rattle.slices.specs.Slices.{zeros}

@@ -1,7 +1,7 @@
 -- `links::link_rule` meets its contract. Assumes nothing.
 use Prim.Native.Nat.{ℕ}
 use denote.Ref.{now}
-use mathlib.Core.Path.{_≡_, sym, ap, _∙_}
+use mathlib.Core.Path.{ap, _∙_}
 use mathlib.Core.List.{List}
 use Rattle.records.specs.Bytes.{decode}
 use Rattle.links.specs.Rule.{rankIn, Walked, walk}

@@ -1,7 +1,7 @@
 -- `links::link_turn` meets its contract. Assumes nothing.
 use Prim.Native.Nat.{ℕ, _≤_, _<_}
 use denote.Ref.{now}
-use mathlib.Core.Path.{_≡_, sym, ap, _∙_, subst}
+use mathlib.Core.Path.{sym, ap, _∙_, subst}
 use borrow.Author.Tests.{not-true, not-false}
 use Rattle.links.specs.Rule.{rankIn}
 use Rattle.links.proofs.RuleLaws.{sends-low, sends-high, sends-unranked, sends-is, turn-none, turn-reach, turn-unreached, turn-behind}

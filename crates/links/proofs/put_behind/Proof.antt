@@ -1,7 +1,6 @@
 -- `links::put_behind` meets its contract. Assumes nothing.
 use denote.Ref.{now}
-use mathlib.Core.Path.{_≡_, sym, _∙_}
-use native.Mathlib.Omega.{arith}
+use mathlib.Core.Path.{sym, _∙_}
 use borrow.Author.Tests.{not-true, not-false}
 use Rattle.links.proofs.RuleLaws.{missing-none, missing-later, not-missing, behind-missing, behind-already, behind-new}
 use borrow.Author.Needs.{needs}

@@ -1,5 +1,5 @@
 -- `links::reach_link` meets its contract. Assumes nothing.
-use mathlib.Core.Path.{_≡_, sym, _∙_}
+use mathlib.Core.Path.{sym, _∙_}
 use borrow.Author.Tests.{not-true, not-false}
 use Rattle.links.proofs.RuleLaws.{reach-already, reach-new}
 use borrow.Author.Needs.{needs}
