@@ -1,19 +1,19 @@
 -- Bits of words. Assumes nothing.
-use Prim.Native.Nat.{ℕ, zero, suc, _+_, _*_, _-_, _/_, _%_, _^_, _≤_, _<_, max}
-use mathlib.Core.Path.{_≡_, refl, sym, ap, ap₂, _∙_, subst}
+use Prim.Native.Nat.{ℕ, zero, suc, _+_, _-_, _/_, _%_, _^_, _≤_, _<_, max}
+use mathlib.Core.Path.{_≡_, refl, sym, ap, ap₂, _∙_}
 use mathlib.Core.Logic.{_≢_, _⊎_, inl, inr}
-use mathlib.Core.Bool.{Bool, true, false, _&&_, _||_}
+use mathlib.Core.Bool.{false, _||_}
 use mathlib.Core.List.{List}
 use native.Mathlib.Omega.{arith}
 use native.Mathlib.Nat.{mod-lt, pow-suc, one-mul, div-eq-of-lt, mul-mod-left}
-use borrow.Author.Tests.{eq-eqb, ne-eqb, lt-ltb, le-ltb, le-leb, lt-leb}
+use borrow.Author.Tests.{eq-eqb, ne-eqb}
 use lib.Arith.{digits-mod}
 use lib.Bits.{bitOr, or-shr, or-step}
 use lib.Dec.{eqb, lit<}
-use lib.ListN.{length, getD, set, length-set}
+use lib.ListN.{length, getD}
 use lib.Pow.{pow-add, shl-shr, pow-pos, pow-lt}
 use lib.Seq.{getD-set-same, getD-set-other}
-use Rattle.bits.specs.Words.{bitAt, withBit, orAt, orFrom, orOthers}
+use Rattle.bits.specs.Words.{bitAt, orAt, orFrom, orOthers}
 use Rattle.bits.proofs.WordLaws.{or-at-length}
 use Rattle.bits.proofs.TableLaws.{lt-or-ge}
 

@@ -5,11 +5,10 @@ use mathlib.Core.Logic.{_≢_, _⊎_, inl, inr}
 use mathlib.Core.Bool.{Bool, true, false, _&&_, _||_}
 use mathlib.Core.List.{List}
 use native.Mathlib.Omega.{arith}
-use native.Mathlib.Nat.{mod-lt, div-add-mod'}
-use borrow.Author.Tests.{eq-eqb, ne-eqb, lt-ltb, le-ltb, le-leb, lt-leb}
-use lib.Bits.{bitOr}
-use lib.Dec.{eqb, leb, ltb}
-use lib.ListN.{length, getD, set, replicate, length-set, length-replicate}
+use native.Mathlib.Nat.{div-add-mod'}
+use borrow.Author.Tests.{eq-eqb, ne-eqb, lt-ltb, le-ltb}
+use lib.Dec.{eqb, ltb}
+use lib.ListN.{length, getD, set, length-set, length-replicate}
 use lib.Seq.{getD-set-same, getD-set-other}
 use Rattle.slices.specs.Slices.{zeros}
 use Rattle.bits.specs.Words.{bitAt, withBit, orFrom, orOthers}
@@ -299,25 +298,25 @@ module _ (table : List ℕ) (l x : ℕ) (i : l < 4) (h : x < 1024) (ws : List �
           ∙ sym (ap₂ (λ (z r : Bool). z || r) (member-is k y ws a b) q)
 
 -- words without bits
-zeros-word : (n j : ℕ) → getD (replicate n zero) j zero ≡ zero
+pub zeros-word : (n j : ℕ) → getD (zeros n) j 0 ≡ 0
+unfolding zeros
 zeros-word zero j = refl
 zeros-word (suc n) zero = refl
 zeros-word (suc n) (suc j) = zeros-word n j
 
 zeros-bit : (n j k : ℕ) → bitAt (getD (zeros n) j 0) k ≡ false
-unfolding zeros
 zeros-bit n j k = ap (λ (x : ℕ). bitAt x k) (zeros-word n j) ∙ zero-bit k
 
-zeros-length : (n m : ℕ) → m ≤ n → m ≤ length (zeros n)
+pub zeros-room : (n m : ℕ) → m ≤ n → m ≤ length (zeros n)
 unfolding zeros
-zeros-length n m h = rw (length-replicate n zero) h
+zeros-room n m h = rw (length-replicate n zero) h
 
 and-none : (a b : Bool) → b ≡ false → (a && b) ≡ false
 and-none true b e = e
 and-none false b e = refl
 
 pub proper-zeros : Proper (zeros 8704)
-proper-zeros = record { room = zeros-length 8704 8704 (omega arith); past = λ t u a b c. zeros-bit 8704 (place t u) (t % 64) }
+proper-zeros = record { room = zeros-room 8704 8704 (omega arith); past = λ t u a b c. zeros-bit 8704 (place t u) (t % 64) }
 
 pub no-bit : (n t u : ℕ) → bitOf (zeros n) t u ≡ false
 unfolding bitOf
@@ -328,4 +327,4 @@ unfolding member
 no-member n l x = and-none (ltb l 4 && ltb x 1024) _ (zeros-bit n (16 * l + x / 64) (x % 64))
 
 pub no-sets-room : 64 ≤ length (zeros 64)
-no-sets-room = zeros-length 64 64 (omega arith)
+no-sets-room = zeros-room 64 64 (omega arith)

@@ -1,7 +1,7 @@
 -- Where the rows stand, and what the tests at the head of each function say. Assumes nothing.
 use Prim.Native.Nat.{ℕ, _+_, _*_, _-_, _/_, _%_, _≤_, _<_}
-use mathlib.Core.Path.{_≡_, refl}
-use mathlib.Core.Bool.{Bool, true, false, _&&_}
+use mathlib.Core.Path.{_≡_}
+use mathlib.Core.Bool.{true, false, _&&_}
 use mathlib.Core.List.{List}
 use mathlib.Core.Logic.{_⊎_, inl, inr}
 use native.Mathlib.Omega.{arith}
@@ -9,7 +9,7 @@ use native.Mathlib.Decide.{decLt}
 use borrow.Author.Tests.{lt-ltb, le-ltb, le-leb, lt-leb}
 use lib.Dec.{leb, ltb}
 use lib.ListN.{length, getD, set}
-use Rattle.bits.specs.Words.{bitAt, withBit, orFrom, orOthers, wordsIf}
+use Rattle.bits.specs.Words.{bitAt, withBit, orFrom, orOthers}
 use Rattle.bits.specs.Table.{rowStart, inTable, place, bitOf, putBit, orRow, member, orSet}
 
 pub row-low : (u : ℕ) → u < 512 → rowStart u ≡ 17 * u

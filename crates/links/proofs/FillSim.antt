@@ -2,43 +2,36 @@
 use Prim.Native.Nat.{ℕ, zero, suc, _+_, _-_, _≤_, _<_}
 use mathlib.Core.Path.{_≡_, refl, sym, ap, ap₂, _∙_, subst}
 use mathlib.Core.Logic.{_≢_, _⊎_, inl, inr}
-use mathlib.Core.Bool.{Bool, true, false, not, _&&_, _||_}
+use mathlib.Core.Bool.{Bool, true, false, _&&_, _||_}
 use mathlib.Core.List.{List}
 use native.Mathlib.Omega.{arith}
 use borrow.Author.Tests.{eq-eqb, ne-eqb, eqb-true}
-use lib.Dec.{T, eqb, leb, eqb→eq}
-use lib.ListN.{length, getD, length-replicate}
+use lib.Dec.{T, eqb}
+use lib.ListN.{getD}
 use Rattle.slices.specs.Slices.{zeros}
-use Rattle.slices.proofs.Tests.{same, passed, decide-eq, either, or-left, or-right}
+use Rattle.slices.proofs.Tests.{passed, decide-eq, or-right}
 use Rattle.records.specs.declared.Record.{Record}
 use Rattle.records.specs.Records.{at, past, isBegin, isJoin, begun}
 use Rattle.records.proofs.Positions.{decide, lt-or-ge, true-not-false}
 use Rattle.bits.specs.Laws.{Proper}
-use Rattle.bits.specs.Table.{bitOf, putBit, orRow}
-use Rattle.bits.proofs.RowLaws.{proper-or, takes-row, proper-put, puts-bit, no-member, no-sets-room, proper-zeros, no-bit}
+use Rattle.bits.specs.Table.{bitOf, putBit}
+use Rattle.bits.proofs.RowLaws.{zeros-word, zeros-room, proper-or, takes-row, proper-put, puts-bit, no-member, no-sets-room, proper-zeros, no-bit}
 use Rattle.bits.proofs.TableLaws.{outside-low, bit-none}
 use Rattle.precedence.specs.Kinds.{isSend, starts}
 use Rattle.precedence.specs.Before.{Begins}
-use Rattle.precedence.specs.Table.{Table, table, sets, blocked}
+use Rattle.precedence.specs.Table.{table, sets, blocked}
 use Rattle.precedence.specs.Sound.{Sound, Next}
 use Rattle.precedence.specs.Scan.{Scan, run, scanAt}
-use Rattle.precedence.proofs.Rows.{begins-later, begins-begun, begun-begins, begun-or-not, begins-here, begun-only, transitive}
+use Rattle.precedence.proofs.Rows.{begins-later, begins-begun, begun-begins, begun-or-not, begun-only, transitive}
 use Rattle.precedence.proofs.ScanLaws.{scan-refuses, scan-gathers}
 use Rattle.precedence.proofs.Growing.{sound-zero, sound-next}
 use Rattle.links.specs.Rule.{Walked, walk}
 use Rattle.links.specs.Fill as spec
-use Rattle.links.specs.Fill.{linked, beginRow, stepWords, stepLast, stepStuck, Filled, fillFrom}
+use Rattle.links.specs.Fill.{linked, stepWords, stepLast, stepStuck, fillFrom}
 use Rattle.links.specs.Promise.{Lawful, Ranked, Decides}
 use Rattle.links.proofs.FillLaws.{linked-to-none, linked-is, begin-is}
-use Rattle.links.proofs.WalkSim.{Ready, Tells, Walks, walks}
+use Rattle.links.proofs.WalkSim.{holds, or-no, Ready, Tells, Walks, walks}
 use Rattle.links.proofs.LastSend.{Noted, noted-next, walk-skips}
-
-holds : {a : Bool} → a ≡ true → T a
-holds e = subst T (sym e) tt
-
-or-no : (a : Bool) → a ≡ (a || false)
-or-no true = refl
-or-no false = refl
 
 pub next-of : {tr : List Record} {i : ℕ} → Lawful tr i → (T (isBegin (at tr i)) → blocked tr i ≡ false) → Next tr i
 next-of x free = record {
@@ -457,19 +450,9 @@ module _ {tr : List Record} {f : ℕ → ℕ} {n : ℕ} (g : Ranked tr f n) wher
         go (inl y) h = rw (y .0) (record { inside = omega arith; sound = s; refuses = λ o. (y .1, y .2); tells = λ o. absurd (omega (arith, o)) })
         go (inr y) h = rw (y .0) (h (y .1) (y .2))
 
-    zeros-word : (m j : ℕ) → getD (zeros m) j 0 ≡ 0
-    unfolding zeros
-    zeros-word zero j = refl
-    zeros-word (suc m) zero = refl
-    zeros-word (suc m) (suc j) = zeros-word m j
-
-    zeros-length : (m j : ℕ) → j ≤ m → j ≤ length (zeros m)
-    unfolding zeros
-    zeros-length m j h = rw (length-replicate m zero) h
-
     none-noted : Noted tr 0 (zeros 1025)
     none-noted = record {
-      room = zeros-length 1025 1025 (omega arith);
+      room = zeros-room 1025 1025 (omega arith);
       reached = λ e l. let k = zeros-word 1025 e in omega arith;
       none-after = λ e l m a b. absurd (omega arith);
     }

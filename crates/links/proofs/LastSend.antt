@@ -6,7 +6,7 @@ use mathlib.Core.Bool.{Bool, true, false, not, _&&_}
 use mathlib.Core.List.{List}
 use native.Mathlib.Omega.{arith}
 use native.Mathlib.Nat.{mod-eq-of-lt}
-use borrow.Author.Tests.{eq-eqb, ne-eqb}
+use borrow.Author.Tests.{ne-eqb}
 use lib.Dec.{T, eqb}
 use lib.ListN.{length, getD, set, length-set}
 use lib.Seq.{getD-set-same, getD-set-other}
@@ -14,12 +14,11 @@ use Rattle.slices.specs.Slices.{zeros}
 use Rattle.slices.proofs.Tests.{decide-eq}
 use Rattle.records.specs.declared.Record.{Record}
 use Rattle.records.specs.Records.{at}
-use Rattle.records.proofs.Positions.{decide, lt-or-ge}
+use Rattle.records.proofs.Positions.{decide}
 use Rattle.bits.specs.Words.{wordsIf}
-use Rattle.bits.specs.Table.{member}
 use Rattle.bits.proofs.RowLaws.{no-member}
 use Rattle.precedence.specs.Kinds.{isSend}
-use Rattle.links.specs.Rule.{sends, hits, turnWords, turnSets, turnStuck, Walked, walk}
+use Rattle.links.specs.Rule.{sends, hits, turnWords, turnSets, turnStuck, walk}
 use Rattle.links.specs.Fill.{stepLast}
 
 -- no send to e from position j up to i

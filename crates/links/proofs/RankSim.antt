@@ -1,32 +1,30 @@
 -- The ranks that are filled in are ranks in begin order, and so the whole is decided. Assumes nothing.
-use Prim.Native.Nat.{ℕ, zero, suc, _+_, _-_, _%_, _≤_, _<_}
-use mathlib.Core.Path.{_≡_, refl, sym, ap, _∙_, subst}
+use Prim.Native.Nat.{ℕ, zero, suc, _+_, _%_, _≤_, _<_}
+use mathlib.Core.Path.{_≡_, sym, ap, _∙_, subst}
 use mathlib.Core.Logic.{_≢_, _⊎_, inl, inr}
-use mathlib.Core.Bool.{Bool, true, false, cond}
+use mathlib.Core.Bool.{true, false}
 use mathlib.Core.List.{List}
 use native.Mathlib.Omega.{arith}
 use native.Mathlib.Nat.{mod-eq-of-lt}
-use borrow.Author.Tests.{eqb-true}
 use lib.Dec.{T}
-use lib.ListN.{length, getD, set, length-set, length-replicate}
+use lib.ListN.{length, getD, set, length-set}
 use lib.Seq.{getD-set-same, getD-set-other}
-use Rattle.slices.specs.Slices.{zeros}
 use Rattle.slices.proofs.Tests.{decide-eq, passed}
 use Rattle.records.specs.declared.Record.{Record}
 use Rattle.records.specs.Records.{at, past, isBegin, begun, begins}
-use Rattle.records.proofs.Positions.{decide, lt-or-ge, true-not-false}
-use Rattle.ranks.specs.Ranks.{withRank, rankIf, ranksUpto, ranksOf}
+use Rattle.records.proofs.Positions.{decide, true-not-false}
+use Rattle.ranks.specs.Ranks.{withRank, ranksUpto, ranksOf}
+use Rattle.ranks.proofs.RankLaws.{ranks-length}
+use Rattle.bits.proofs.RowLaws.{zeros-word}
 use Rattle.precedence.specs.Before.{Begins}
 use Rattle.precedence.specs.Sound.{Sound}
-use Rattle.precedence.proofs.Rows.{begins-later, begins-begun, begun-begins, begun-or-not}
+use Rattle.precedence.proofs.Rows.{begins-later, begins-begun, begun-or-not}
 use Rattle.precedence.proofs.Theorems.{shorter, table-decides, refusal-decides}
 use Rattle.links.specs.Rule.{rankIn}
 use Rattle.links.specs.Fill.{Filled, fillAll}
 use Rattle.links.specs.Promise.{Lawful, Ranked, Decides, DecidesOrder}
+use Rattle.links.proofs.WalkSim.{holds}
 use Rattle.links.proofs.FillSim.{fill-decides}
-
-holds : {a : Bool} → a ≡ true → T a
-holds e = subst T (sym e) tt
 
 module _ (tr : List Record) where
   abbrev count : ℕ → ℕ
@@ -72,19 +70,9 @@ module _ (tr : List Record) where
   unfolding ranksUpto withRank
   upto-begin i h = rw h
 
-  zeros-word : (m j : ℕ) → getD (zeros m) j 0 ≡ 0
-  unfolding zeros
-  zeros-word zero j = refl
-  zeros-word (suc m) zero = refl
-  zeros-word (suc m) (suc j) = zeros-word m j
-
-  zeros-length : (m : ℕ) → length (zeros m) ≡ m
-  unfolding zeros
-  zeros-length m = length-replicate m zero
-
   ranks-zero : RanksTo 0
   unfolding ranksUpto
-  ranks-zero = record { room = zeros-length 1025; none = λ x h. zeros-word 1025 x; some = λ x b. let k = b .inside in absurd (omega arith) }
+  ranks-zero = record { room = ranks-length tr 0; none = λ x h. zeros-word 1025 x; some = λ x b. let k = b .inside in absurd (omega arith) }
 
   module _ (i : ℕ) (x : Lawful tr i) (small : count i < 65535) (z : RanksTo i) where
     abbrev e : ℕ

@@ -1,16 +1,15 @@
 -- The link rule, case by case. Assumes nothing.
-use Prim.Native.Nat.{ℕ, zero, suc, _-_, _≤_, _<_}
-use mathlib.Core.Path.{_≡_, refl, sym, ap, _∙_}
+use Prim.Native.Nat.{ℕ, suc, _-_, _≤_, _<_}
+use mathlib.Core.Path.{_≡_, ap, _∙_}
 use mathlib.Core.Logic.{_≢_}
-use mathlib.Core.Bool.{Bool, true, false, not, _&&_, _||_}
+use mathlib.Core.Bool.{Bool, true, false}
 use mathlib.Core.List.{List}
 use native.Mathlib.Omega.{arith}
 use borrow.Author.Tests.{lt-ltb, le-ltb, le-leb, lt-leb, eq-eqb, ne-eqb}
 use Rattle.records.specs.declared.Record.{Record}
 use Rattle.records.specs.Records.{at}
-use Rattle.bits.specs.Words.{wordsIf}
 use Rattle.bits.specs.Table.{bitOf, orRow, member, orSet}
-use Rattle.links.specs.Rule.{missing, behind, reach, sends, hits, turnWords, turnSets, turnStuck, Turned, Walked, walk}
+use Rattle.links.specs.Rule.{missing, behind, reach, sends, hits, turnWords, turnSets, turnStuck, Turned, walk}
 
 -- behind a target
 module _ (t u : ℕ) (ws : List ℕ) where

@@ -19,7 +19,7 @@ use Rattle.bits.proofs.RowLaws.{proper-or, takes-row, takes-into, sets-room}
 use Rattle.precedence.specs.Kinds.{isSend}
 use Rattle.precedence.specs.Table.{Table}
 use Rattle.precedence.specs.Scan.{Scan, hit, reached, turn, run}
-use Rattle.links.specs.Rule.{missing, behind, reach, sends, hits, turnWords, turnSets, turnStuck, Turned, Walked, walk}
+use Rattle.links.specs.Rule.{missing, behind, reach, sends, hits, turnWords, turnSets, turnStuck, Walked, walk}
 use Rattle.links.proofs.RuleLaws.{missing-none, missing-later, not-missing, behind-already, behind-new, reach-already, reach-new}
 
 -- What the walk for e, of rank u, asks of ranks, table and records, where `has` tells which events have begun.
@@ -47,14 +47,10 @@ pub record Tells (f : ℕ → ℕ) (u : ℕ) (b : Table) (has : ℕ → Bool) (B
   pub row-closed : (t p : ℕ) → T (b t p) → T (s .row p) → T (s .row t)
   pub reach-closed : (k t p : ℕ) → T (b t p) → T (s .reach k p) → T (s .reach k t)
 
-holds : {a : Bool} → a ≡ true → T a
+pub holds : {a : Bool} → a ≡ true → T a
 holds e = subst T (sym e) tt
 
-fails : (a : Bool) → (T a → ⊥) → a ≡ false
-fails true h = absurd (h tt)
-fails false h = refl
-
-or-no : (a : Bool) → a ≡ (a || false)
+pub or-no : (a : Bool) → a ≡ (a || false)
 or-no true = refl
 or-no false = refl
 
