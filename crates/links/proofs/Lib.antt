@@ -1,0 +1,6 @@
+pub mod RuleLaws
+pub mod FillLaws
+pub mod WalkSim
+pub mod LastSend
+pub mod FillSim
+pub mod RankSim
