@@ -6,7 +6,7 @@ use lib.Dec.{lit<, lit≤}
 use lib.ListN.{getD}
 use Rattle.ranks.specs.declared.Ordering.{Ordering}
 use Rattle.ranks.specs.declared.Ordering.the-variants.{Link, Begin, Nothing}
-use Rattle.order.specs.Schedule.{begins, Ordered}
+use Rattle.order.specs.loops.Standing.{begins, Ordered}
 use Rattle.order.specs.loops.Walk.{walk, fillWalk}
 use Rattle.clocks.specs.Rows.{hasRow, reach, mergeAt, mergeFrom, mergeRow, span, clearPast, copyAt, copyFrom, copyRow}
 use Rattle.order.proofs.ScheduleLaws.{ordered-zero, ordered-suc}

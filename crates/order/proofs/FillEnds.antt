@@ -18,7 +18,8 @@ use Rattle.trace.specs.Reply.{refused, gives, demand, unless}
 use Rattle.order.specs.Fill.{eventsIn, rowPastWidth, chainsUsed, traceClocks, noChains}
 use Rattle.order.specs.Lent.{enoughChains, clocksFilled, chainsFilled}
 use Rattle.order.specs.declared.Filling.{Filling}
-use Rattle.order.specs.Paper.{fillPaper, FillsTrace}
+use Rattle.order.specs.Paper.{fillPaper}
+use Rattle.order.specs.loops.FillsTrace.{FillsTrace}
 use Rattle.order.specs.loops.PassEnds.{Ready, Passes}
 use Rattle.order.proofs.SpaceLaws.{has-room}
 

@@ -15,7 +15,8 @@ use Rattle.order.specs.Chains.{bit, chain, used, members}
 use Rattle.order.specs.Clocks.{largest, chainOf, entry, merged}
 use Rattle.ranks.specs.declared.Ordering.{Ordering}
 use Rattle.ranks.specs.declared.Ordering.the-variants.{Link, Begin}
-use Rattle.order.specs.Schedule.{begins, linked, Ordered, Makes}
+use Rattle.order.specs.Schedule.{linked}
+use Rattle.order.specs.loops.Standing.{begins, Ordered, Makes}
 use Rattle.slices.proofs.Tests.{both, eq→eqb, decide-eq, decide-lt, rises}
 use Rattle.order.proofs.CountLaws.{count-less, count-mono}
 use Rattle.order.proofs.ScheduleLaws.{begins-mono, linked-exact, link-between}

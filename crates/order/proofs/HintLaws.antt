@@ -16,7 +16,8 @@ use Rattle.ranks.specs.declared.Ordering.{Ordering}
 use Rattle.ranks.specs.declared.Ordering.the-variants.{Link, Begin, Nothing}
 use Rattle.clocks.specs.Rows.{mergeRow, copyRow}
 use Rattle.order.specs.Clocks.{largest, flat}
-use Rattle.order.specs.Schedule.{begins, linked, Ordered}
+use Rattle.order.specs.Schedule.{linked}
+use Rattle.order.specs.loops.Standing.{begins, Ordered}
 use Rattle.order.specs.loops.Walk.{FillWalked, stops, fillOn, linkedBy, hintedBy, fillWalk, orderingBy}
 use Rattle.slices.proofs.Tests.{decide-eq, decide-lt}
 use Rattle.order.proofs.ScheduleLaws.{begins-suc, begins-mono, linked-exact, begin-next, link-between}

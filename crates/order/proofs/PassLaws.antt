@@ -24,7 +24,7 @@ use Rattle.order.specs.Links.{Links, Forward, _∈_, leq}
 use Rattle.clocks.specs.Rows.{rowsIf, clearRow}
 use Rattle.order.specs.Chains.{bit}
 use Rattle.order.specs.Clocks.{table, flat, largest, chainOf, entry, merged, clocksOf}
-use Rattle.order.specs.Schedule.{begins}
+use Rattle.order.specs.loops.Standing.{begins}
 use Rattle.order.specs.loops.Walk.{FillWalked, FillWalks}
 use Rattle.order.specs.loops.Pass.{tick, chooseIn, Rows, enterRow, beginRow, RoomToBegin, Are}
 use Rattle.order.specs.loops.PassEnds.{Ready, Passes}

@@ -20,7 +20,8 @@ use Rattle.order.specs.declared.Filling.{Filling}
 use Rattle.order.specs.Fill.{rowPastWidth, chainsUsed, chainTable, traceClocks, noChains}
 use Rattle.order.specs.Lent.{workFor, noWork, spaced, enoughChains, onClocks, clocksAfter, chainsFilled, fillReady, fillReply}
 use Rattle.order.specs.Prepare.{asked, readWithin, noTrace}
-use Rattle.order.specs.Paper.{fillPaper, Fills, FillsTrace, Prepares}
+use Rattle.order.specs.Paper.{fillPaper, Fills, Prepares}
+use Rattle.order.specs.loops.FillsTrace.{FillsTrace}
 use Rattle.order.proofs.EntryLaws.{read-acceptable, read-events}
 use Rattle.order.proofs.TableLaws.{events-few}
 use Rattle.order.proofs.LentLaws.{asks, none-asking, fits, same-work, filling}

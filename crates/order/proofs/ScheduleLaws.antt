@@ -10,7 +10,8 @@ use borrow.Author.Tests.{eq-eqb, ne-eqb}
 use Rattle.order.specs.Links.{Forward, _∈_}
 use Rattle.ranks.specs.declared.Ordering.{Ordering}
 use Rattle.ranks.specs.declared.Ordering.the-variants.{Link, Begin, Nothing}
-use Rattle.order.specs.Schedule.{beginsBy, begins, linkedBy, linked, linksOf, Stands, Ordered, Makes}
+use Rattle.order.specs.Schedule.{linkedBy, linked, linksOf}
+use Rattle.order.specs.loops.Standing.{beginsBy, begins, Stands, Ordered, Makes}
 use Rattle.slices.proofs.Tests.{decide-eq, rises}
 
 module _ (op : ℕ → Ordering) where

@@ -19,7 +19,7 @@ use Rattle.records.proofs.Positions.{Found}
 use Rattle.trace.proofs.Blocks.{begins-once, event-begins, join-before-begin, body-after-begin, fork-before-begin, join-after-end}
 use Rattle.order.specs.Links.{Forward, leq, _⊢_≼_, _∈_}
 use Rattle.order.specs.Links as links
-use Rattle.order.specs.Schedule.{begins, beginsBy, Stands, Ordered}
+use Rattle.order.specs.loops.Standing.{begins, beginsBy, Stands, Ordered}
 use Rattle.slices.proofs.Tests.{and, either, or-left, or-right, eq→eqb}
 use Rattle.order.proofs.OrderLaws.{≼→leq, leq→≼}
 use Rattle.order.proofs.ScheduleLaws.{begins-zero, begins-suc, linked-exact, links-forward}

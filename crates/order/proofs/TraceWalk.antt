@@ -7,7 +7,7 @@ use lib.ListN.{length}
 use Rattle.records.specs.declared.Record.{Record}
 use Rattle.trace.specs.Reading.{Acceptable}
 use Rattle.ranks.specs.Ranks.{ranksOf}
-use Rattle.order.specs.Schedule.{begins}
+use Rattle.order.specs.loops.Standing.{begins}
 use Rattle.order.specs.loops.Walk.{FillWalked, orderingBy, FillWalks}
 use Rattle.order.specs.HappensBefore.{orderingAt}
 use Rattle.order.proofs.TraceOrder.{ops-ordered, link-target}

@@ -20,7 +20,8 @@ use Rattle.ranks.specs.OrderingOf.{orderingOf}
 use Rattle.clocks.specs.Rows.{mergeRow}
 use Rattle.order.specs.Links.{Links, _∈_}
 use Rattle.order.specs.Clocks.{largest, flat}
-use Rattle.order.specs.Schedule.{begins, linked, Ordered, Makes}
+use Rattle.order.specs.Schedule.{linked}
+use Rattle.order.specs.loops.Standing.{begins, Ordered, Makes}
 use Rattle.order.specs.loops.Walk.{Walked, stops, mergedBy, walkOn, walk, orderingBy, walkFrom}
 use Rattle.slices.proofs.Tests.{decide-eq, decide-lt}
 use Rattle.order.proofs.SetLaws.{largest-in, largest-le}

@@ -3,7 +3,6 @@ use Prim.Native.Nat.{ℕ}
 use mathlib.Core.Path.{_≡_}
 use mathlib.Core.List.{List}
 use lib.ListN.{length}
-use Rattle.records.specs.declared.Record.{Record}
 use Rattle.records.specs.declared.Trace.{Trace}
 use Rattle.trace.specs.declared.Refusal.{Refusal}
 use Rattle.ranks.specs.Ranks.{ranksOf}
@@ -12,7 +11,7 @@ use Rattle.order.specs.declared.Filling.the-variants.{Filled, Refused}
 use Rattle.trace.specs.Reply.{Reply, refused, gives, unless}
 use Rattle.trace.specs.Reading.{recordsIn}
 use Rattle.order.specs.Fill.{chainsUsed, noChains}
-use Rattle.order.specs.Lent.{enoughChains, onClocks, clocksFilled, clocksAfter, chainsFilled, fillReady, fillReply}
+use Rattle.order.specs.Lent.{onClocks, clocksAfter, chainsFilled, fillReady, fillReply}
 use Rattle.order.specs.Prepare.{noTrace}
 
 abbrev pub fillPaper : Filling → Reply ℕ
@@ -28,13 +27,6 @@ refusalIn (Refused f) = f
 pub record Fills (b : List ℕ) (width : ℕ) (clocks clocks′ : List ℕ) (r : Filling) : Type 0 where
   pub answer : fillPaper r ≡ fillReply b width (length clocks)
   pub clocks-after : clocks′ ≡ clocksAfter b (fillReady b width (length clocks)) width clocks
-
--- the same of an accepted trace's records that the clocks have space for, the chain of each row, and the ranks of all events
-pub record FillsTrace (tr : List Record) (events width : ℕ) (clocks clocks′ : List ℕ) (r : Filling) (chosen ranks : List ℕ) : Type 0 where
-  pub answer : fillPaper r ≡ enoughChains tr events width (gives (chainsUsed tr))
-  pub clocks-after : clocks′ ≡ clocksFilled tr events width clocks
-  pub chains-after : chosen ≡ chainsFilled tr events width
-  pub ranks-after : ranks ≡ ranksOf tr
 
 -- filling for a call that goes on with the trace `ready`: the answer, the trace that it gets, the lent clocks, the chain of each row, and the
 -- ranks of all events

@@ -5,3 +5,5 @@ pub mod Raising
 pub mod Walk
 pub mod Pass
 pub mod PassEnds
+pub mod Standing
+pub mod FillsTrace

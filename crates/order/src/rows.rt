@@ -22,7 +22,7 @@ ghost use Rattle.trace.specs.Reading.{Acceptable};
 ghost use Rattle.clocks.specs.Rows.{spaceFor, rowsIf, clearRow};
 ghost use Rattle.order.specs.Fill.{eventsIn, noChains};
 ghost use Rattle.order.specs.Prepare.{noTrace};
-ghost use Rattle.order.specs.Paper.{FillsTrace};
+ghost use Rattle.order.specs.loops.FillsTrace.{FillsTrace};
 ghost use Rattle.order.specs.loops.PassEnds.{Ready, Passes};
 ghost use Rattle.order.specs.loops.Pass.{Rows, chooseIn, NoneFull, beginRow, RoomToChoose, RoomToBegin, Are};
 

@@ -26,7 +26,8 @@ use Rattle.order.proofs.PrepareLaws.{prepared}
 use Rattle.slices.proofs.Tests.{both, and, same}
 use Rattle.pair.specs.declared.PairAnswer.{PairAnswer}
 use Rattle.races.specs.loops.FilledClocks as hand
-use Rattle.pair.specs.Pair.{PairMark, pairPaper, isRecord, areRecords, pairFilled, AnswersFilled, pairReady, pairReply, PairPromise, ListAfter, entriesGiven}
+use Rattle.pair.specs.Pair.{PairMark, pairPaper, isRecord, areRecords, pairFilled, pairReady, pairReply, PairPromise, ListAfter, entriesGiven}
+use Rattle.pair.specs.loops.Answers.{AnswersFilled}
 use Rattle.races.specs.loops.FilledClocks.{Clear}
 use Rattle.races.proofs.PreparedLaws.{marks-cleared, after-work, fitting, filled-whole, work-clear}
 

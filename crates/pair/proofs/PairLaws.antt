@@ -21,7 +21,8 @@ use Rattle.races.specs.Traces.{settingOf}
 use Rattle.races.specs.loops.FilledClocks.{FilledClocks, rows, Clear}
 use Rattle.pair.specs.loops.Leading.{mark, Marks}
 use Rattle.trace.specs.Reply.{refused, gives, demand}
-use Rattle.pair.specs.Pair.{isOpen, pairPaper, answered, withEntries, keptEntries, pairFilled, GivesCover, AnswersRace, AnswersFilled}
+use Rattle.pair.specs.Pair.{isOpen, pairPaper, answered, withEntries, keptEntries, pairFilled, GivesCover}
+use Rattle.pair.specs.loops.Answers.{AnswersRace, AnswersFilled}
 use Rattle.pair.specs.loops.Kept.{Markable, MarksKept}
 use Rattle.races.proofs.FilledLaws.{ranks-length}
 use Rattle.races.proofs.CandidateLaws.{racing}

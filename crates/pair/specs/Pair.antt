@@ -103,16 +103,6 @@ ListAfter tr a b (refused n p) count list list′ = list′ ≡ list
 ListAfter tr a b (gives (isOpen n)) count list list′ = list′ ≡ withEntries (keptEntries tr b) list
 ListAfter tr a b (gives isCovered) count list list′ = GivesCover tr a b count list list′
 
--- of a race: the answer and the list space
-pub record AnswersRace (tr : List Record) (a b : ℕ) (list list′ : List ℕ) (r : PairAnswer) : Type 0 where
-  pub answer : pairPaper r ≡ gives (answered (coveredb (settingOf tr) a b) (length (entries (settingOf tr) b)))
-  pub list-after : ListAfter tr a b (gives (answered (coveredb (settingOf tr) a b) (length (entries (settingOf tr) b)))) (entriesGiven r) list list′
-
--- over clocks that are filled: the answer and the list space
-pub record AnswersFilled (tr : List Record) (events a b : ℕ) (list list′ : List ℕ) (r : PairAnswer) : Type 0 where
-  pub answer : pairPaper r ≡ pairFilled tr events (length list) a b
-  pub list-after : ListAfter tr a b (pairFilled tr events (length list) a b) (entriesGiven r) list list′
-
 -- The promise of the pair question: the answer, and all that is lent.
 pub record PairPromise (bytes : List ℕ) (width : ℕ) (clocks clocks′ work work′ list list′ : List ℕ) (a b : ℕ) (r : PairAnswer) : Type 0 where
   pub answer : pairPaper r ≡ pairReply bytes width (length clocks) (length work) (length list) a b

@@ -2,3 +2,4 @@
 pub mod Leading
 pub mod Kept
 pub mod PairSearch
+pub mod Answers

@@ -24,7 +24,8 @@ ghost use Rattle.coverage.specs.Race.{raceb};
 ghost use Rattle.coverage.specs.Leading.{entries};
 ghost use Rattle.races.specs.Traces.{settingOf};
 ghost use Rattle.races.specs.loops.FilledClocks.{FilledClocks, rows, Clear};
-ghost use Rattle.pair.specs.Pair.{entryNumbers, pairPaper, withEntries, keptEntries, AnswersFilled, PairPromise};
+ghost use Rattle.pair.specs.Pair.{entryNumbers, pairPaper, withEntries, keptEntries, PairPromise};
+ghost use Rattle.pair.specs.loops.Answers.{AnswersFilled};
 ghost use Rattle.pair.specs.loops.PairSearch.{PutsEnd};
 ghost use Rattle.pair.specs.loops.Leading.{Marks};
 

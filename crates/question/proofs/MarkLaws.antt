@@ -9,7 +9,7 @@ use Rattle.order.specs.Links.{Links, Forward, _⊢_≼_, same, step, leq}
 use Rattle.order.specs.Chains.{pick, lasts, chain}
 use Rattle.ranks.specs.declared.Ordering.{Ordering}
 use Rattle.ranks.specs.declared.Ordering.the-variants.{Link, Begin, Nothing}
-use Rattle.order.specs.Schedule.{begins, Ordered, Makes}
+use Rattle.order.specs.loops.Standing.{begins, Ordered, Makes}
 use Rattle.question.specs.loops.Marking.{markBy, marksDown, marks}
 use Rattle.slices.proofs.Tests.{both, and, either, or-left, or-right, decide-eq, eq→eqb, same as equal-tests, decide-lt}
 use Rattle.order.proofs.OrderLaws.{≼-trans, ≼-first, ≼-forward, ≼→leq, leq→≼}

@@ -12,7 +12,7 @@ use borrow.Author.Tests.{eq-eqb, ne-eqb}
 use Rattle.order.specs.Links.{Links, Forward, leq}
 use Rattle.ranks.specs.declared.Ordering.{Ordering}
 use Rattle.ranks.specs.declared.Ordering.the-variants.{Link, Begin, Nothing}
-use Rattle.order.specs.Schedule.{begins, Stands, Ordered, Makes}
+use Rattle.order.specs.loops.Standing.{begins, Stands, Ordered, Makes}
 use Rattle.slices.specs.Slices.{zeros}
 use Rattle.slices.proofs.Cleared.{zeros-length, zeros-at}
 use Rattle.question.specs.loops.Marking.{markBy, marksDown, marked, markIn, marksDownIn, marksIn}

@@ -19,7 +19,7 @@ use Rattle.records.proofs.Positions.{lt-or-ge}
 use Rattle.order.specs.Links.{leq}
 use Rattle.order.specs.Chains.{lasts, chain, used, needs, first}
 use Rattle.order.specs.Clocks.{table, chainOf}
-use Rattle.order.specs.Schedule.{begins}
+use Rattle.order.specs.loops.Standing.{begins}
 use Rattle.slices.specs.Slices.{zeros}
 use Rattle.slices.proofs.Cleared.{zeros-at}
 use Rattle.question.specs.loops.Marking.{marked, marksIn, marksDownIn, markIn}

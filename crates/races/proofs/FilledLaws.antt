@@ -30,7 +30,8 @@ use Rattle.order.proofs.ComparedLaws.{same-rows, compared-before}
 use Rattle.order.proofs.TraceLaws.{le-refl, forward}
 use Rattle.coverage.specs.Race.{before, raceb}
 use Rattle.coverage.specs.Neighbours.{conflicts}
-use Rattle.races.specs.Traces.{cellsOf, settingOf, conflict, clash}
+use Rattle.races.specs.Traces.{cellsOf, settingOf}
+use Rattle.races.specs.loops.Clashes.{conflict, clash}
 use Rattle.slices.proofs.Tests.{eq→eqb}
 use Rattle.races.specs.loops.FilledClocks.{FilledClocks, RowsIn, BothIn}
 

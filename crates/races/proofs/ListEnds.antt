@@ -29,7 +29,8 @@ use Rattle.order.proofs.PrepareLaws.{none-asked, prepared}
 use Rattle.races.specs.declared.Listing.{Listing}
 use Rattle.races.specs.declared.Summary.{Summary}
 use Rattle.races.specs.Lists.{pairsOf, numbers, listFilled, listReady, listReply, listAfter}
-use Rattle.races.specs.Paper.{listPaper, Lists, ListsFilled}
+use Rattle.races.specs.Paper.{listPaper, Lists}
+use Rattle.races.specs.loops.ListsFilled.{ListsFilled}
 use Rattle.races.specs.loops.ListPass.{pairsBelow, raws, WritesAll, Ample, Counts, ListsAll}
 use Rattle.races.specs.loops.Raising.{Unmarked, MarksList}
 use Rattle.races.proofs.EntryStores.{raws-length}

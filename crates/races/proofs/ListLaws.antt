@@ -23,7 +23,8 @@ use Rattle.coverage.specs.Lists.{allRaces, shortList}
 use Rattle.slices.proofs.Tests.{both, and, or-left, or-right, decide, eq→eqb, passed, same as equal-tests}
 use Rattle.coverage.proofs.Below.{found, find}
 use Rattle.coverage.proofs.Lists.{upto-ext, upto-zero, upto-yes, upto-no, upto-empty}
-use Rattle.races.specs.Traces.{isAccess, cellsOf, settingOf, conflict}
+use Rattle.races.specs.Traces.{isAccess, cellsOf, settingOf}
+use Rattle.races.specs.loops.Clashes.{conflict}
 use Rattle.races.specs.Lists.{pairsOf}
 use Rattle.races.specs.loops.Candidates.{cell, accesses, writes, Upto, lastWrite, firstsFrom, firstsTo}
 use Rattle.records.specs.Search.{leastKind, mayRace}

@@ -16,7 +16,7 @@ use Rattle.coverage.specs.Race.{Race}
 use Rattle.coverage.specs.Leading.{coveredb}
 use Rattle.order.specs.Clocks.{chainOf, entry, flat, clocksOf}
 use Rattle.order.specs.Fill.{eventsIn, traceClocks}
-use Rattle.order.specs.Schedule.{begins}
+use Rattle.order.specs.loops.Standing.{begins}
 use Rattle.order.specs.HappensBefore.{orderingAt, traceLinks}
 use Rattle.order.proofs.RankLaws.{ranks-are}
 use Rattle.order.proofs.RowLaws.{flat-length, place}

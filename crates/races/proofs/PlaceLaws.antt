@@ -14,7 +14,7 @@ use Rattle.order.specs.Links.{leq}
 use Rattle.order.specs.Chains.{used}
 use Rattle.order.specs.Clocks.{chainOf, entry, flat, clocksOf}
 use Rattle.order.specs.Fill.{eventsIn, rowPastWidth, chainTable, traceClocks}
-use Rattle.order.specs.Schedule.{begins}
+use Rattle.order.specs.loops.Standing.{begins}
 use Rattle.order.specs.HappensBefore.{orderingAt, traceLinks}
 use Rattle.order.specs.loops.Walk.{walkFrom}
 use Rattle.order.proofs.ChainLaws.{used-zero, used-suc, used-mono, chain-le-used, chain-below, needs-none}

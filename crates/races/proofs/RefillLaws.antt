@@ -18,7 +18,7 @@ use Rattle.order.specs.Links.{leq}
 use Rattle.order.specs.Chains.{bit, used}
 use Rattle.order.specs.Clocks.{chainOf, entry, largest, table, flat, clocksOf}
 use Rattle.order.specs.Fill.{eventsIn, chainTable, traceClocks}
-use Rattle.order.specs.Schedule.{begins}
+use Rattle.order.specs.loops.Standing.{begins}
 use Rattle.order.specs.HappensBefore.{orderingAt, traceLinks}
 use Rattle.order.specs.loops.Walk.{Walked, walkFrom}
 use Rattle.order.proofs.SetLaws.{largest-le}

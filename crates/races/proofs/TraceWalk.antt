@@ -12,7 +12,7 @@ use Rattle.trace.specs.Reading.{Acceptable}
 use Rattle.ranks.specs.Ranks.{ranksOf}
 use Rattle.ranks.specs.OrderingOf.{orderingOf}
 use Rattle.order.specs.Clocks.{flat}
-use Rattle.order.specs.Schedule.{begins}
+use Rattle.order.specs.loops.Standing.{begins}
 use Rattle.order.specs.HappensBefore.{orderingAt}
 use Rattle.order.specs.loops.Walk.{walkFrom, orderingBy}
 use Rattle.order.proofs.TraceOrder.{ops-ordered, link-target}

@@ -4,14 +4,13 @@ use mathlib.Core.Path.{_≡_}
 use mathlib.Core.Bool.{Bool}
 use mathlib.Core.List.{List}
 use lib.ListN.{length}
-use Rattle.records.specs.declared.Record.{Record}
 use Rattle.trace.specs.Reply.{Reply, refused, gives}
 use Rattle.trace.specs.Reading.{recordsRead}
 use Rattle.order.specs.Lent.{clocksAfter, workAfter}
 use Rattle.races.specs.declared.Listing.{Listing}
 use Rattle.races.specs.declared.Listing.the-variants.{Listed, Refused}
 use Rattle.races.specs.declared.Summary.{Summary}
-use Rattle.races.specs.Lists.{pairsOf, listFilled, listReady, listReply, listAfter}
+use Rattle.races.specs.Lists.{pairsOf, listReady, listReply, listAfter}
 
 abbrev pub listPaper : Listing → Reply Summary
 listPaper (Listed s) = gives s
@@ -24,9 +23,3 @@ pub record Lists (short : Bool) (b : List ℕ) (width : ℕ) (clocks clocks′ w
   pub work-after : work′ ≡ workAfter (listReady b width (length clocks) (length work)) work
   pub list-after : list′ ≡ listAfter (recordsRead b) (listReply short b width (length clocks) (length work) (length list))
       (pairsOf (recordsRead b) short) list
-
--- the same of a trace whose clocks are filled
-pub record ListsFilled (short : Bool) (tr : List Record) (events : ℕ) (clocks clocks′ list list′ : List ℕ) (r : Listing) : Type 0 where
-  pub answer : listPaper r ≡ listFilled short tr events (length list)
-  pub clocks-after : clocks′ ≡ clocks
-  pub list-after : list′ ≡ listAfter tr (listFilled short tr events (length list)) (pairsOf tr short) list

@@ -1,6 +1,5 @@
 -- A trace as a setting of races and cover. Assumes nothing.
-use mathlib.Core.Bool.{Bool, not, _&&_, _||_}
-use lib.Dec.{eqb}
+use mathlib.Core.Bool.{Bool, _||_}
 use mathlib.Core.List.{List}
 use lib.ListN.{length}
 use Rattle.records.specs.declared.Record.{Record}
@@ -20,11 +19,3 @@ cellsOf tr = record { cell = λ i. at tr i .second; isAccess = λ i. isAccess (a
 -- "ev is the event action of a record"; "same cell, at least one write"; "t happens before u (t ≼ u)"
 abbrev pub settingOf : List Record → Setting
 settingOf tr = record { size = length tr; ev = λ i. eventOf (at tr i); conf = conflicts (cellsOf tr); le = happensBefore tr }
-
--- the same of two records
-unfoldable pub conflict : Record → Record → Bool
-conflict a b = (isAccess a && isAccess b) && (eqb (a .second) (b .second) && (isWrite a || isWrite b))
-
--- so do they, in two event actions
-unfoldable pub clash : Record → Record → Bool
-clash a b = conflict a b && not (eqb (eventOf a) (eventOf b))

@@ -5,3 +5,5 @@ pub mod ListPass
 pub mod Marking
 pub mod Raising
 pub mod Refilling
+pub mod ListsFilled
+pub mod Clashes

@@ -9,7 +9,8 @@ use lib.ListN.{length, length-set, length-replicate}
 use Rattle.records.specs.declared.Record.{Record}
 use Rattle.records.specs.Records.{at, past, isBegin, begins}
 use Rattle.slices.specs.Slices.{zeros}
-use Rattle.ranks.specs.Ranks.{withRank, rankIf, ranksUpto, ranksOf, RanksTo}
+use Rattle.ranks.specs.Ranks.{withRank, rankIf, ranksUpto, ranksOf}
+use Rattle.ranks.specs.loops.RanksTo.{RanksTo}
 
 rank-if-length : (b : Bool) (m : List ℕ) (e k : ℕ) → length (rankIf b m e k) ≡ length m
 unfolding withRank

@@ -1,2 +1,3 @@
 pub mod OrderingOf
 pub mod Ranks
+pub mod loops

@@ -1,6 +1,5 @@
 -- Ranks by event number, as a list. Assumes nothing.
 use Prim.Native.Nat.{ℕ, zero, suc, _+_, _%_}
-use mathlib.Core.Path.{_≡_}
 use mathlib.Core.Bool.{Bool, true, false}
 use mathlib.Core.List.{List}
 use lib.ListN.{length, set}
@@ -22,11 +21,6 @@ rankIf false m e k = m
 unfoldable pub ranksUpto : List Record → ℕ → List ℕ
 ranksUpto tr zero = noRanks
 ranksUpto tr (suc i) = rankIf (isBegin (at tr i)) (ranksUpto tr i) (at tr i .first) (begins (past tr i) + 1)
-
--- a table has them, and there are that many begins
-pub record RanksTo (tr : List Record) (i : ℕ) (ranks : List ℕ) (found : ℕ) : Type 0 where
-  pub ranks-are : ranks ≡ ranksUpto tr i
-  pub begins-are : found ≡ begins (past tr i)
 
 unfoldable pub ranksOf : List Record → List ℕ
 ranksOf tr = ranksUpto tr (length tr)

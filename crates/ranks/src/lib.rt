@@ -14,7 +14,8 @@ ghost use Rattle.ranks.specs.OrderingOf.{linkOf, orderingOf};
 ghost use mathlib.Core.Bool.{cond};
 ghost use Prim.Native.Nat.{_+_, _-_, _≤_, _<_};
 ghost use lib.Dec.{eqb};
-ghost use Rattle.ranks.specs.Ranks.{withRank, rankIf, ranksUpto, ranksOf, RanksTo};
+ghost use Rattle.ranks.specs.Ranks.{withRank, rankIf, ranksUpto, ranksOf};
+ghost use Rattle.ranks.specs.loops.RanksTo.{RanksTo};
 
 // What a record says of links and begins, between rows.
 pub enum Ordering {

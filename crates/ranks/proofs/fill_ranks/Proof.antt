@@ -2,7 +2,8 @@
 -- Assumes nothing.
 use Rattle.records.proofs.Decoded.{decoded-length}
 use Rattle.slices.proofs.Cleared.{cleared-whole}
-use Rattle.ranks.specs.Ranks.{ranksUpto, ranksOf, RanksTo}
+use Rattle.ranks.specs.Ranks.{ranksUpto, ranksOf}
+use Rattle.ranks.specs.loops.RanksTo.{RanksTo}
 use Rattle.records.specs.Records.{past, begins}
 use Rattle.records.specs.Bytes.{decode}
 use mathlib.Core.Path.{_≡_, refl, ap, _∙_}

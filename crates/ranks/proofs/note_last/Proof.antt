@@ -1,6 +1,7 @@
 -- `ranks::note_last` meets its contract.
 -- Assumes nothing.
-use Rattle.ranks.specs.Ranks.{ranksUpto, RanksTo}
+use Rattle.ranks.specs.Ranks.{ranksUpto}
+use Rattle.ranks.specs.loops.RanksTo.{RanksTo}
 use Rattle.records.specs.Bytes.{decode}
 use lib.ListN.{length}
 use mathlib.Core.Path.{_≡_, refl, ap, _∙_}

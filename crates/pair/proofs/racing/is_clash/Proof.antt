@@ -1,4 +1,4 @@
-use Rattle.races.specs.Traces.{conflict, clash}
+use Rattle.races.specs.loops.Clashes.{conflict, clash}
 use Rattle.records.specs.Records.{at}
 use Rattle.records.specs.Bytes.{decode}
 use borrow.Author.Tests.{not-true, not-false}

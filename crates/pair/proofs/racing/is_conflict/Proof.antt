@@ -2,7 +2,8 @@
 -- Assumes nothing.
 use mathlib.Core.Bool.{true}
 use mathlib.Core.Path.{_≡_, sym, _∙_}
-use Rattle.races.specs.Traces.{conflict, isAccess}
+use Rattle.races.specs.Traces.{isAccess}
+use Rattle.races.specs.loops.Clashes.{conflict}
 use borrow.Author.Tests.{eq-eqb, ne-eqb, not-true, not-false}
 use borrow.Author.Needs.{needs}
 use Rattle.pair.proofs.racing.is_conflict.Statement.{statement}

@@ -1,0 +1,2 @@
+-- What loops compute, for contracts inside the crates: no promise to a caller rests on these.
+pub mod RanksTo
