@@ -1,0 +1,4 @@
+pub mod WordLaws
+pub mod TableLaws
+pub mod BitLaws
+pub mod RowLaws

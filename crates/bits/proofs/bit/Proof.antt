@@ -1,0 +1,16 @@
+-- `bits::bit` meets its contract. Assumes nothing.
+use mathlib.Core.Path.{refl}
+use Rattle.bits.specs.Words.{bitAt}
+use borrow.Author.Needs.{needs}
+use Rattle.bits.proofs.bit.Statement.{statement}
+use Rattle.bits.proofs.bit.Tie as tie
+
+shr-result : tie.Need-shr-result
+shr-result c = search needs
+
+returns : tie.Need-returns
+unfolding bitAt
+returns c = refl
+
+pub bit-spec : {M : Type 1} → statement M
+bit-spec = tie.close (tie.spec shr-result returns)

@@ -1,0 +1,204 @@
+// Happens-before with links that deliver in order, as a table of bits by rank, and refusal 31.
+use bits::get;
+use bits::has;
+use bits::or_row;
+use bits::or_set;
+use bits::put;
+use ranks::rank_of;
+use ranks::ranks;
+use records::EventId;
+use records::access;
+use slices::numbers;
+use slices::zeros::numbers_1025;
+ghost use mathlib.Core.Path.{_≡_};
+ghost use Prim.Native.Nat.{_<_};
+ghost use lib.ListN.{length};
+ghost use Rattle.slices.specs.Slices.{zeros};
+ghost use Rattle.records.specs.Bytes.{decode};
+ghost use Rattle.records.specs.Records.{at};
+ghost use Rattle.links.specs.Rule.{rankIn, missing, behind, reach, Turned, Leaves, walk};
+ghost use Rattle.links.specs.Fill.{linked, beginRow, Stepped, Stops, fillFrom, fillAll};
+
+// The event of rank u comes behind that of rank t; true where that has not begun.
+fn put_behind(table: &mut [u64], t: u16, u: u16) -> bool
+    ensures { λ r. ⌜ (r ≡ missing t u) × (now (table .exit) ≡ behind t u (now (table .entry))) ⌝ }
+{
+    if t == 0 {
+        return true;
+    }
+    if u < t {
+        return true;
+    }
+    let p = (t - 1) as usize;
+    let v = (u - 1) as usize;
+    if !get(table, p, v) {
+        or_row(table, p, v);
+    }
+    false
+}
+
+// Row x reaches link l.
+fn reach_link(sets: &mut [u64], l: usize, table: &[u64], x: usize)
+    ensures { λ r. ⌜ now (sets .exit) ≡ reach l x (now (table .entry)) (now (sets .entry)) ⌝ }
+{
+    if !has(sets, l, x) {
+        or_set(sets, l, table, x);
+    }
+}
+
+// Record j in the walk for event e of rank u; true where a target is missing.
+fn link_turn(recs: &[u8], ranks: &[u16], j: usize, e: EventId, u: u16, table: &mut [u64], sets: &mut [u64]) -> bool
+    ensures { λ r. ⌜ Turned (rankIn (now (ranks .entry))) (e .0) u (at (decode (now (recs .entry))) j) (now (table .entry)) (now (sets .entry)) r (now (table .exit)) (now (sets .exit)) ⌝ }
+{
+    let kind = access::kind_at(recs, j);
+    if kind < 16 {
+        return false;
+    }
+    if 19 < kind {
+        return false;
+    }
+    let x = rank_of(ranks, access::event_at(recs, j));
+    if x == 0 {
+        return false;
+    }
+    let target = access::target_at(recs, j);
+    if target.0 == e.0 {
+        reach_link(sets, (kind - 16) as usize, table, (x - 1) as usize);
+        return false;
+    }
+    if !has(sets, (kind - 16) as usize, (x - 1) as usize) {
+        return false;
+    }
+    put_behind(table, rank_of(ranks, target), u)
+}
+
+// The walk down from position j.
+fn link_walk(recs: &[u8], ranks: &[u16], from: usize, e: EventId, u: u16, table: &mut [u64], sets: &mut [u64]) -> bool
+    ensures { λ r. ⌜ Leaves (walk (decode (now (recs .entry))) (rankIn (now (ranks .entry))) (e .0) u from (now (table .entry)) (now (sets .entry))) r (now (table .exit)) ⌝ }
+{
+    let mut j = from;
+    while 0 < j {
+        j -= 1;
+        if link_turn(recs, ranks, j, e, u, table, sets) {
+            return true;
+        }
+    }
+    false
+}
+
+// Four empty sets.
+fn no_sets() -> [u64; 64]
+    ensures { λ r. ⌜ r ≡ zeros 64 ⌝ }
+{
+    [0; 64]
+}
+
+fn link_rule(recs: &[u8], ranks: &[u16], from: usize, e: EventId, u: u16, table: &mut [u64]) -> bool
+    ensures { λ r. ⌜ Leaves (walk (decode (now (recs .entry))) (rankIn (now (ranks .entry))) (e .0) u from (now (table .entry)) (zeros 64)) r (now (table .exit)) ⌝ }
+{
+    let mut sets = no_sets();
+    link_walk(recs, ranks, from, e, u, table, &mut sets)
+}
+
+// A direct link by ranks.
+fn link_rows(table: &mut [u64], p: u16, u: u16)
+    ensures { λ r. ⌜ now (table .exit) ≡ linked p u (now (table .entry)) ⌝ }
+{
+    if p == 0 {
+        return;
+    }
+    if u == 0 {
+        return;
+    }
+    or_row(table, (p - 1) as usize, (u - 1) as usize);
+}
+
+// The begin of e, the last send to which is the last of the first `from` records; true where 31 refuses it.
+fn begin_row(recs: &[u8], ranks: &[u16], from: usize, e: EventId, table: &mut [u64]) -> bool
+    ensures { λ r. ⌜ Leaves (beginRow (decode (now (recs .entry))) (rankIn (now (ranks .entry))) (e .0) (rankIn (now (ranks .entry)) (e .0)) from (now (table .entry))) r (now (table .exit)) ⌝ }
+{
+    let u = rank_of(ranks, e);
+    if u == 0 {
+        return false;
+    }
+    put(table, (u - 1) as usize, (u - 1) as usize);
+    link_rule(recs, ranks, from, e, u, table)
+}
+
+// A direct link from one event action to another.
+fn link_events(ranks: &[u16], from: EventId, to: EventId, table: &mut [u64])
+    ensures { λ r. ⌜ now (table .exit) ≡ linked (rankIn (now (ranks .entry)) (from .0)) (rankIn (now (ranks .entry)) (to .0)) (now (table .entry)) ⌝ }
+{
+    link_rows(table, rank_of(ranks, from), rank_of(ranks, to));
+}
+
+// Record i, where last holds one more than the position of the last send to each event; true where 31 refuses it.
+fn fill_record(recs: &[u8], ranks: &[u16], i: usize, table: &mut [u64], last: &mut [u16]) -> bool
+    requires { ⌜ i < 9223372036854775807 ⌝ }
+    ensures { λ r. ⌜ Stepped (decode (now (recs .entry))) (rankIn (now (ranks .entry))) i (now (table .entry)) (now (last .entry)) r (now (table .exit)) (now (last .exit)) ⌝ }
+{
+    let kind = access::kind_at(recs, i);
+    let e = access::event_at(recs, i);
+    if kind == 1 {
+        let from = numbers::get(last, e.0 as usize);
+        return begin_row(recs, ranks, from as usize, e, table);
+    }
+    let target = access::target_at(recs, i);
+    if kind == 4 {
+        link_events(ranks, target, e, table);
+        return false;
+    }
+    if kind == 3 {
+        link_events(ranks, e, target, table);
+        return false;
+    }
+    if kind < 16 {
+        return false;
+    }
+    if 19 < kind {
+        return false;
+    }
+    link_events(ranks, e, target, table);
+    numbers::put(last, target.0 as usize, ((i + 1) % 65536) as u16);
+    false
+}
+
+// The first n records; where it stopped.
+fn fill_rows(recs: &[u8], ranks: &[u16], n: usize, table: &mut [u64], last: &mut [u16]) -> usize
+    requires { ⌜ n < 9223372036854775807 ⌝ }
+    ensures { λ r. ⌜ Stops (fillFrom (decode (now (recs .entry))) (rankIn (now (ranks .entry))) 0 n (now (table .entry)) (now (last .entry))) r (now (table .exit)) ⌝ }
+{
+    let mut i = 0;
+    while i < n {
+        if fill_record(recs, ranks, i, table, last) {
+            return i;
+        }
+        i += 1;
+    }
+    n
+}
+
+// The table over all records, taken into the one lent; the position of the first begin that 31 refuses, or the number of records.
+pub fn fill(recs: &[u8], ranks: &[u16], table: &mut [u64]) -> usize
+    ensures { λ r. ⌜ Stops (fillFrom (decode (now (recs .entry))) (rankIn (now (ranks .entry))) 0 (length (decode (now (recs .entry)))) (now (table .entry)) (zeros 1025)) r (now (table .exit)) ⌝ }
+{
+    let n = access::count(recs);
+    let mut last = numbers_1025();
+    fill_rows(recs, ranks, n, table, &mut last)
+}
+
+// A table without bits.
+fn no_bits() -> [u64; 8704]
+    ensures { λ r. ⌜ r ≡ zeros 8704 ⌝ }
+{
+    [0; 8704]
+}
+
+// The position of the first begin that 31 refuses, or the number of records.
+pub fn first_blocked(recs: &[u8]) -> usize
+    ensures { λ r. ⌜ r ≡ fillAll (decode (now (recs .entry))) .stop ⌝ }
+{
+    let all = ranks(recs);
+    let mut table = no_bits();
+    fill(recs, &all, &mut table)
+}
