@@ -38,3 +38,7 @@ pub mod ByEvent
 pub mod OwnPart
 pub mod Variants
 pub mod Upward
+-- Links that deliver in order
+pub mod LinkRuleLaws
+pub mod LinkedTrace
+pub mod Accepted
