@@ -42,3 +42,4 @@ pub mod Upward
 pub mod LinkRuleLaws
 pub mod LinkedTrace
 pub mod Accepted
+pub mod FromTableLaws

@@ -5,3 +5,4 @@ pub mod Raising
 pub mod Walk
 pub mod Pass
 pub mod PassEnds
+pub mod FromTable

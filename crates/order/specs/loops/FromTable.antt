@@ -1,0 +1,23 @@
+-- The row of an event action straight from the order: each event action before it, in order of begin, leaves its own entry at its chain.
+-- Definitions alone. Assumes nothing.
+use Prim.Native.Nat.{ℕ, zero, suc, _+_, _*_}
+use mathlib.Core.Bool.{Bool, cond, _&&_}
+use mathlib.Core.List.{List}
+use lib.Dec.{eqb}
+use lib.ListN.{getD, set}
+use Rattle.clocks.specs.Rows.{rowsIf}
+
+-- the entry at chain c after the first k event actions, over any row; `own` tells own entries, `before` those to take
+module _ (ch own : ℕ → ℕ) (before : ℕ → Bool) (row : ℕ → ℕ) where
+  unfoldable pub rowFrom : ℕ → ℕ → ℕ
+  rowFrom zero c = row c
+  rowFrom (suc t) c = cond (eqb (ch t) c && before t) (own t) (rowFrom t c)
+
+-- in clocks, where a list holds the chain of each row: row u at t's chain becomes t's own entry
+unfoldable pub takeOwn : ℕ → ℕ → List ℕ → ℕ → List ℕ → List ℕ
+takeOwn width u chosen t cs = set cs (u * width + getD chosen t 0) (getD cs (t * width + getD chosen t 0) 0)
+
+unfoldable pub takeBefore : (ℕ → Bool) → ℕ → ℕ → List ℕ → ℕ → List ℕ → List ℕ
+takeBefore before width u chosen zero cs = cs
+takeBefore before width u chosen (suc t) cs =
+    rowsIf (before t) (takeOwn width u chosen t (takeBefore before width u chosen t cs)) (takeBefore before width u chosen t cs)
