@@ -1,23 +1,23 @@
 -- The row made straight from the order is the largest of the direct predecessors' rows. Assumes nothing.
-use Prim.Native.Nat.{ℕ, zero, suc, _≤_, _<_}
+use Prim.Native.Nat.{ℕ, zero, suc, _+_, _*_, _≤_, _<_}
 use mathlib.Core.Path.{_≡_, refl, sym, _∙_, ap}
 use mathlib.Core.Logic.{_≢_, _⊎_, inl, inr}
-use mathlib.Core.Bool.{Bool, cond, _&&_}
+use mathlib.Core.Bool.{Bool, true, false, cond, _&&_}
 use mathlib.Core.List.{List, _++_}
 use native.Mathlib.Omega.{arith}
 use lib.Dec.{T, eqb, eqb→eq}
-use lib.ListN.{getD}
+use lib.ListN.{length, getD, length-set}
 use borrow.Author.Tests.{eq-eqb, ne-eqb}
 use Rattle.clocks.specs.Rows.{rowsIf}
 use Rattle.order.specs.Links.{Links, Forward, leq}
 use Rattle.order.specs.Chains.{count}
 use Rattle.order.specs.Clocks.{flat, chainOf, entry, merged}
-use Rattle.order.specs.loops.FromTable.{rowFrom, takeOwn, takeBefore}
+use Rattle.order.specs.loops.FromTable.{rowFrom, takeOwn, takeBefore, RoomToTake}
 use Rattle.slices.proofs.Tests.{both, decide, decide-eq, passed, failed}
 use Rattle.order.proofs.OrderLaws.{≼-trans}
 use Rattle.order.proofs.CountLaws.{count-mono}
 use Rattle.order.proofs.ClockLaws.{below, of-below, is-below, chain-≼, clock, merged-count}
-use Rattle.order.proofs.RowLaws.{SameBut, same-but, flat-same}
+use Rattle.order.proofs.RowLaws.{SameBut, same-but, flat-same, place}
 use Rattle.order.proofs.FlatLaws.{flat-read, flat-store}
 
 -- Members of a chain are ordered, so the last one met has the largest own entry: it counts all that are before u.
@@ -133,3 +133,31 @@ module _ (l : Links) (fw : Forward l) (m : ℕ) (before : ℕ → ℕ → Bool) 
       row =
           from-table l fw u (λ t. getD chosen t 0) (λ t. r t (getD chosen t 0)) (λ t. before t u) (r u) chains
           (λ t a. entries t (getD chosen t 0) a ∙ ap (entry l t) (chains t a)) (λ t a. tests t u a h) zeros
+
+-- the loop, turn by turn
+module _ (before : ℕ → Bool) (w u : ℕ) (chosen : List ℕ) where
+  pub take-none : (cs : List ℕ) → takeBefore before w u chosen 0 cs ≡ cs
+  unfolding takeBefore
+  take-none cs = refl
+
+  pub take-more : (t : ℕ) (cs : List ℕ) → takeBefore before w u chosen (t + 1) cs
+      ≡ rowsIf (before t) (takeOwn w u chosen t (takeBefore before w u chosen t cs)) (takeBefore before w u chosen t cs)
+  unfolding takeBefore
+  take-more t cs = let e : t + 1 ≡ suc t = omega arith in rw e
+
+  pub take-length : (t : ℕ) (cs : List ℕ) → length (takeBefore before w u chosen t cs) ≡ length cs
+  unfolding takeBefore takeOwn
+  take-length zero cs = refl
+  take-length (suc t) cs = go (before t) (take-length t cs)
+    where
+      go : (b : Bool) → length (takeBefore before w u chosen t cs) ≡ length cs
+          → length (rowsIf b (takeOwn w u chosen t (takeBefore before w u chosen t cs)) (takeBefore before w u chosen t cs)) ≡ length cs
+      go true e = length-set (takeBefore before w u chosen t cs) _ _ ∙ e
+      go false e = e
+
+pub room-after : {w u : ℕ} {cs cs′ chosen : List ℕ} → length cs′ ≡ length cs → RoomToTake w u cs chosen → RoomToTake w u cs′ chosen
+room-after e s = let r = s .row in record { narrow = s .narrow; few = s .few; row = omega arith; chosen-room = s .chosen-room; fits = s .fits }
+
+-- t's own entry stands before row u
+pub own-place : {w u t : ℕ} {cs chosen : List ℕ} → RoomToTake w u cs chosen → t < u → t * w + getD chosen t 0 < u * w
+own-place {w} {u} {t} {cs} {chosen} s h = place w u t (getD chosen t 0) h (s .fits t h)

@@ -1,10 +1,10 @@
 -- The row of an event action straight from the order: each event action before it, in order of begin, leaves its own entry at its chain.
 -- Definitions alone. Assumes nothing.
-use Prim.Native.Nat.{ℕ, zero, suc, _+_, _*_}
+use Prim.Native.Nat.{ℕ, zero, suc, _+_, _*_, _≤_, _<_}
 use mathlib.Core.Bool.{Bool, cond, _&&_}
 use mathlib.Core.List.{List}
 use lib.Dec.{eqb}
-use lib.ListN.{getD, set}
+use lib.ListN.{length, getD, set}
 use Rattle.clocks.specs.Rows.{rowsIf}
 
 -- the entry at chain c after the first k event actions, over any row; `own` tells own entries, `before` those to take
@@ -21,3 +21,11 @@ unfoldable pub takeBefore : (ℕ → Bool) → ℕ → ℕ → List ℕ → ℕ 
 takeBefore before width u chosen zero cs = cs
 takeBefore before width u chosen (suc t) cs =
     rowsIf (before t) (takeOwn width u chosen t (takeBefore before width u chosen t cs)) (takeBefore before width u chosen t cs)
+
+-- what the lists must have room for
+pub record RoomToTake (width u : ℕ) (cs chosen : List ℕ) : Type 0 where
+  pub narrow : width ≤ 1024
+  pub few : u < 1024
+  pub row : u * width + width ≤ length cs
+  pub chosen-room : u ≤ length chosen
+  pub fits : (t : ℕ) → t < u → getD chosen t 0 < width

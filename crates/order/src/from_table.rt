@@ -1,0 +1,31 @@
+// The row of an event action straight from the table of bits that tells what happens before it.
+use bits::get;
+ghost use mathlib.Core.Path.{_≡_};
+ghost use Prim.Native.Nat.{_<_};
+ghost use Rattle.bits.specs.Table.{bitOf};
+ghost use Rattle.clocks.specs.Rows.{rowsIf};
+ghost use Rattle.order.specs.loops.FromTable.{takeOwn, takeBefore, RoomToTake};
+
+// Row u at t's chain becomes t's own entry, where t is before u.
+fn take_own(table: &[u64], t: usize, u: usize, width: usize, clocks: &mut [u16], chosen: &[u16])
+    requires { ⌜ RoomToTake width u (now clocks) (now chosen) × (t < u) ⌝ }
+    ensures { λ r. ⌜ now (clocks .exit) ≡ rowsIf (bitOf (now (table .entry)) t u)
+        (takeOwn width u (now (chosen .entry)) t (now (clocks .entry))) (now (clocks .entry)) ⌝ }
+{
+    if get(table, t, u) {
+        let c = chosen[t] as usize;
+        clocks[u * width + c] = clocks[t * width + c];
+    }
+}
+
+// Each event action before u, in order of begin, leaves its own entry at its chain in row u.
+pub(crate) fn take_before(table: &[u64], u: usize, width: usize, clocks: &mut [u16], chosen: &[u16])
+    requires { ⌜ RoomToTake width u (now clocks) (now chosen) ⌝ }
+    ensures { λ r. ⌜ now (clocks .exit) ≡ takeBefore (λ t. bitOf (now (table .entry)) t u) width u (now (chosen .entry)) u (now (clocks .entry)) ⌝ }
+{
+    let mut t = 0;
+    while t < u {
+        take_own(table, t, u, width, clocks, chosen);
+        t += 1;
+    }
+}
