@@ -43,3 +43,4 @@ pub mod LinkRuleLaws
 pub mod LinkedTrace
 pub mod Accepted
 pub mod FromTableLaws
+pub mod FillTable

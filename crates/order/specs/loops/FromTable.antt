@@ -5,7 +5,8 @@ use mathlib.Core.Bool.{Bool, cond, _&&_}
 use mathlib.Core.List.{List}
 use lib.Dec.{eqb}
 use lib.ListN.{length, getD, set}
-use Rattle.clocks.specs.Rows.{rowsIf}
+use Rattle.clocks.specs.Rows.{rowsIf, clearRow}
+use Rattle.order.specs.loops.Pass.{Rows, beginRow}
 
 -- the entry at chain c after the first k event actions, over any row; `own` tells own entries, `before` those to take
 module _ (ch own : ℕ → ℕ) (before : ℕ → Bool) (row : ℕ → ℕ) where
@@ -29,3 +30,16 @@ pub record RoomToTake (width u : ℕ) (cs chosen : List ℕ) : Type 0 where
   pub row : u * width + width ≤ length cs
   pub chosen-room : u ≤ length chosen
   pub fits : (t : ℕ) → t < u → getD chosen t 0 < width
+
+-- Row u made: cleared, taken from the order, and begun; and so the first rows.
+unfoldable pub makeRow : (ℕ → ℕ → Bool) → ℕ → ℕ → Rows → Rows
+makeRow before width u s = beginRow width u (record {
+  clocks = takeBefore (λ t. before t u) width u (s .chosen) u (clearRow width u (s .clocks));
+  sizes = s .sizes;
+  chosen = s .chosen;
+  chains = s .chains;
+})
+
+unfoldable pub makeRows : (ℕ → ℕ → Bool) → ℕ → ℕ → Rows → Rows
+makeRows before width zero s = s
+makeRows before width (suc u) s = makeRow before width u (makeRows before width u s)

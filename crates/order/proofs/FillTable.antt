@@ -1,0 +1,127 @@
+-- All rows straight from the order: the same clocks, chains and numbers of members as along the links. Assumes nothing.
+use Prim.Native.Nat.{ℕ, zero, suc, _+_, _*_, _-_, _≤_, _<_}
+use mathlib.Core.Path.{_≡_, refl, sym, _∙_, ap, ap₂}
+use mathlib.Core.Logic.{_≢_, _⊎_, inl, inr}
+use mathlib.Core.Bool.{Bool, cond}
+use mathlib.Core.List.{List, _++_, append-assoc}
+use native.Mathlib.Omega.{arith}
+use borrow.Author.Tests.{eq-eqb, ne-eqb}
+use lib.Dec.{eqb}
+use lib.ListN.{getD, set, replicate, List·getD-append}
+use lib.Seq.{set-at}
+use Rattle.slices.specs.Slices.{zeros}
+use Rattle.clocks.specs.Rows.{clearRow}
+use Rattle.order.specs.Links.{Links, Forward, leq}
+use Rattle.order.specs.Chains.{used, needs}
+use Rattle.order.specs.Clocks.{table, flat, chainOf, entry, merged, clocksOf}
+use Rattle.order.specs.Fill.{noChains}
+use Rattle.order.specs.loops.Pass.{tick, chooseIn, Rows}
+use Rattle.order.specs.loops.FromTable.{takeBefore, makeRow, makeRows}
+use Rattle.slices.proofs.Tests.{decide-eq}
+use Rattle.order.proofs.CountLaws.{firstFrom-local}
+use Rattle.order.proofs.ChainLaws.{chain-below, needs-at}
+use Rattle.order.proofs.ClockLaws.{entry-law, chain-merged}
+use Rattle.order.proofs.RowLaws.{flat-same, table-length, table-at}
+use Rattle.order.proofs.FlatLaws.{zeroIn, zero-own, zero-other, addAt, add-own, add-other, flat-read, cleared-row, ticked-row}
+use Rattle.order.proofs.FillLaws.{Taken, taken-start, taken-more}
+use Rattle.order.proofs.PassLaws.{enter-room, enter-full}
+use Rattle.order.proofs.FromTableLaws.{clocks-from-table}
+
+module _ (l : Links) where
+  -- the chains of the first k rows
+  abbrev pub chainsOf : ℕ → List ℕ
+  chainsOf k = table k (chainOf l) ++ replicate (1024 - k) 0
+
+  chains-at : (k t : ℕ) → t < k → getD (chainsOf k) t 0 ≡ chainOf l t
+  chains-at k t h =
+      List·getD-append (table k (chainOf l)) (replicate (1024 - k) 0) 0 t (omega (arith, table-length k (chainOf l))) ∙ table-at k (chainOf l) t h
+
+  chains-more : (k : ℕ) → k < 1024 → set (chainsOf k) k (chainOf l k) ≡ chainsOf (suc k)
+  unfolding table
+  chains-more k h =
+      let e : 1024 - k ≡ suc (1024 - suc k) = omega arith in
+      rw (e, append-assoc) (set-at (table k (chainOf l)) 0 (replicate (1024 - suc k) 0) (chainOf l k) k (table-length k (chainOf l)))
+
+module _
+    (l : Links) (fw : Forward l) (m : ℕ) (before : ℕ → ℕ → Bool) (tests : (p u : ℕ) → p < u → u < m → before p u ≡ leq l p u)
+    (w : ℕ) (narrow : w ≤ 1024) (few : m ≤ 1024) (rest : List ℕ) where
+  -- Once the first u rows are made.
+  pub record Made (u : ℕ) (s : Rows) : Type 0 where
+    pub rows : ℕ → ℕ → ℕ
+    pub clocks-are : s .clocks ≡ flat w m rows ++ rest
+    pub done : (t c : ℕ) → t < u → rows t c ≡ entry l t c
+    pub taken : Taken l w u (s .sizes) (s .chains)
+    pub chosen-are : s .chosen ≡ chainsOf l u
+
+  pub made-start : (cs : List ℕ) (rows : ℕ → ℕ → ℕ) → cs ≡ flat w m rows ++ rest
+      → Made 0 (record { clocks = cs; sizes = noChains; chosen = noChains; chains = 0 })
+  unfolding zeros table
+  made-start cs rows e = record { rows = rows; clocks-are = e; done = λ t c h. absurd (omega arith); taken = taken-start l w 1024 narrow; chosen-are = refl }
+
+  module _ (u : ℕ) (s : Rows) (p : Made u s) (h : u < m) where
+    -- the rows once row u is taken from the order
+    abbrev rowsThen : ℕ → ℕ → ℕ
+    rowsThen v c = cond (eqb v u) (merged l u c) (zeroIn (p .rows) u v c)
+
+    abbrev clocksThen : List ℕ
+    clocksThen = takeBefore (λ t. before t u) w u (s .chosen) u (clearRow w u (s .clocks))
+
+    abbrev stateThen : Rows
+    stateThen = record { clocks = clocksThen; sizes = s .sizes; chosen = s .chosen; chains = s .chains }
+
+    then-own : (c : ℕ) → rowsThen u c ≡ merged l u c
+    then-own c = rw (eq-eqb u u refl)
+
+    then-other : (v c : ℕ) → v ≢ u → rowsThen v c ≡ p .rows v c
+    then-other v c n = rw (ne-eqb v u n)
+
+    clocks-then : clocksThen ≡ flat w m rowsThen ++ rest
+    clocks-then =
+        ap (λ cs. takeBefore (λ t. before t u) w u (s .chosen) u (clearRow w u cs)) (p .clocks-are)
+        ∙ (ap (takeBefore (λ t. before t u) w u (s .chosen) u) (cleared-row w m rest (p .rows) u narrow h)
+        ∙ clocks-from-table l fw m before tests w u rest (s .chosen) (zeroIn (p .rows) u) h (λ t a. ap (λ cs. getD cs t 0) (p .chosen-are) ∙ chains-at l u t a)
+        (λ t a. omega (arith, chain-below (leq l) t u a, p .taken .chains-are, p .taken .chains-fit))
+        (λ t c a. zero-other (p .rows) u t c (λ e. omega arith) ∙ p .done t c a) (zero-own (p .rows) u))
+
+    -- the chain choice is the chain of the event action
+    merged-is : (c : ℕ) → c < w → getD clocksThen (u * w + c) 0 ≡ merged l u c
+    merged-is c k = ap (λ cs. getD cs (u * w + c) 0) clocks-then ∙ (flat-read w m rest rowsThen u c h k ∙ then-own c)
+
+    chosen-is : chooseIn w u clocksThen (s .sizes) (s .chains) ≡ chainOf l u
+    unfolding chooseIn
+    chosen-is =
+        firstFrom-local _ _ 0 (s .chains) (λ c g k. let j : c < w = omega (arith, p .taken .chains-fit) in ap₂ eqb (merged-is c j) (p .taken .sizes-are c j))
+        ∙ rw (p .taken .chains-are) (sym (chain-merged l fw u))
+
+    -- a chain is left for it
+    pub made-more : chainOf l u < w → Made (suc u) (makeRow before w u s)
+    unfolding makeRow
+    made-more k = rw (chosen-is, enter-room w u stateThen (chainOf l u) k) (record {
+      rows = addAt rowsThen u (chainOf l u);
+      clocks-are = ap (tick w u (chainOf l u)) clocks-then ∙ ticked-row w m rest rowsThen u (chainOf l u) h k;
+      done = λ t c a. done t c a (decide-eq t u);
+      taken = taken-more l w u (s .sizes) (s .chains) (p .taken) k;
+      chosen-are = ap (λ (cs : List ℕ). set cs u (chainOf l u)) (p .chosen-are) ∙ chains-more l u (omega arith);
+    })
+      where
+        done : (t c : ℕ) → t < suc u → (t ≡ u) ⊎ (t ≢ u) → addAt rowsThen u (chainOf l u) t c ≡ entry l t c
+        done t c a (inl e) = rw e (omega (arith, add-own rowsThen u (chainOf l u) c, then-own c, entry-law l fw u c))
+        done t c a (inr n) = add-other rowsThen u (chainOf l u) t c n ∙ (then-other t c n ∙ p .done t c (omega arith))
+
+    -- none is left: it is the begin that needs one
+    pub made-short : w ≤ chainOf l u → (makeRow before w u s .chains ≡ suc w) × (needs (leq l) w m ≡ u)
+    unfolding makeRow
+    made-short k = (
+      rw chosen-is (ap (λ (r : Rows). r .chains) (enter-full w u stateThen (chainOf l u) k)),
+      needs-at (leq l) w m u h (omega (arith, p .taken .chains-are, p .taken .chains-fit)) k,
+    )
+
+  -- where the width has all chains: the clocks, the chain of each row, and how many chains are taken
+  pub made-rows : used (leq l) m ≤ w → (s : Rows) → Made 0 s → (u : ℕ) → u ≤ m → Made u (makeRows before w u s)
+  unfolding makeRows
+  made-rows f s p zero h = p
+  made-rows f s p (suc u) h = made-more u (makeRows before w u s) (made-rows f s p u (omega arith)) h (omega (arith, chain-below (leq l) u m h))
+
+  pub made-end : (s : Rows) → Made m s → (s .clocks ≡ clocksOf l w m ++ rest) × (s .chosen ≡ chainsOf l m) × (s .chains ≡ used (leq l) m)
+  unfolding clocksOf
+  made-end s p = (p .clocks-are ∙ ap (λ cs. cs ++ rest) (flat-same w m (p .rows) (entry l) (λ u c h k. p .done u c h)), p .chosen-are, p .taken .chains-are)
