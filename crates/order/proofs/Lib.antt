@@ -41,6 +41,7 @@ pub mod Upward
 -- Links that deliver in order
 pub mod LinkRuleLaws
 pub mod LinkedTrace
+pub mod LinkedExamples
 pub mod Accepted
 pub mod FromTableLaws
 pub mod FillTable

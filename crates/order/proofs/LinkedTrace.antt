@@ -1,7 +1,7 @@
 -- The links of a whole trace with sends go forward, are the direct links by event number, and give happens-before. Assumes nothing.
-use Prim.Native.Nat.{ℕ, zero, suc, _-_, _<_}
+use Prim.Native.Nat.{ℕ, zero, suc, _-_, _<_, _≤_}
 use mathlib.Core.Path.{_≡_, refl, sym, ap, _∙_, subst}
-use mathlib.Core.Bool.{_&&_, _||_}
+use mathlib.Core.Bool.{Bool, _&&_, _||_}
 use mathlib.Core.List.{List, List·Memᴰ·append-cases, Memᴰ·append-left, Memᴰ·append-right}
 use mathlib.Core.Logic.{_≢_, _⊎_, inl, inr, _↔_}
 use native.Mathlib.Omega.{arith}
@@ -18,17 +18,20 @@ use Rattle.precedence.specs.Sound.{Whole}
 use Rattle.precedence.proofs.Rows.{link-first, link-second, begins-later, begun-begins, start-before, target-begun, final}
 use Rattle.precedence.proofs.Exact.{record-told, told, record-complete, begins-back}
 use Rattle.precedence.proofs.Theorems.{table-decides, begins-order, test-sound, test-complete, test-decides, link-holds, link-differs}
+use Rattle.precedence.proofs.Setting.{settingOf}
 use Rattle.ranks.specs.declared.Ordering.the-variants.{Link as link}
 use Rattle.ranks.specs.OrderingOf.{linkOf}
-use Rattle.order.specs.Links.{Forward, _⊢_≼_, _∈_}
+use Rattle.order.specs.Links.{Forward, leq, _⊢_≼_, _∈_}
 use Rattle.order.specs.Links as links
+use Rattle.order.specs.Clocks.{chainOf}
 use Rattle.order.specs.Schedule.{linked}
 use Rattle.order.specs.HappensBefore.{rank, leqRanks}
 use Rattle.order.specs.LinkRule.{orderingOf, orderingAt, targetsAt, behind, linkedTrace}
-use Rattle.order.specs.loops.Numbering.{Preds}
+use Rattle.order.specs.loops.Numbering.{Numbered, InOrder, Preds}
 use Rattle.order.proofs.OrderLaws.{≼-trans, leq-decides}
+use Rattle.order.proofs.ClockLaws.{chain-≼}
 use Rattle.order.proofs.ScheduleLaws.{linked-exact}
-use Rattle.order.proofs.TraceOrder.{counted, counted-passes, rank-at, rank-found}
+use Rattle.order.proofs.TraceOrder.{counted, counted-more, counted-passes, rank-at, rank-found}
 use Rattle.order.proofs.EventRows.{events, nameOf, beginOf, begun}
 use Rattle.order.proofs.LinkRuleLaws.{Linked, says-link, says-start, says-join, Behind, behind-found, behind-here, Sends, sends-found, sends-in}
 
@@ -298,3 +301,31 @@ module _ {tr : List Record} (w : Whole tr) where
           let e : g .to ≡ u = suc-inj (sym (g .to-rank) ∙ named u h) in
           let m = subst (λ (z : ℕ). g .from ∈ linkedTrace tr .preds z) e (g .linked) in
           (g .from, m, rank-one (nameOf tr (g .from)) x (g .from) (named (g .from) (omega (arith, forward-links u (g .from) m))) (g .from-rank))
+
+  -- by number: the order of rows is the table's
+  row-begins : (r : ℕ) → r < events tr → Begins tr (length tr) (nameOf tr r)
+  row-begins r h = rank-begins (nameOf tr r) r (named r h)
+
+  pub rows-table : (p u : ℕ) → p < events tr → u < events tr → leq (linkedTrace tr) p u ≡ table tr (length tr) (nameOf tr p) (nameOf tr u)
+  rows-table p u h k = rw (named p h, named u k) at (ranks-table (nameOf tr p) (nameOf tr u) (row-begins p h) (row-begins u k))
+
+  pub rows-test : (p u : ℕ) → p < events tr → u < events tr → leq (linkedTrace tr) p u ≡ happensBefore tr (nameOf tr p) (nameOf tr u)
+  rows-test p u h k = rw (named p h, named u k) at (ranks-test (nameOf tr p) (nameOf tr u) (row-begins p h))
+
+  -- what cover rows ask of the numbers and of the chains
+  pub numbered : (conf : ℕ → ℕ → Bool) → Numbered (settingOf tr conf) (events tr) (nameOf tr)
+  numbered conf = record {
+    place = beginOf tr;
+    inside = λ r h. begun tr r h .inside;
+    at = λ r h. refl;
+    distinct = λ r s h k e. suc-inj (sym (named r h) ∙ ap (rank tr) e ∙ named s k);
+    rising = λ r s h k.
+        let x = begun tr r (omega arith) .number in
+        let y = begun tr s k .number in
+        let g : beginOf tr s ≤ beginOf tr r → ⊥ = λ z. omega (arith, counted-more tr (beginOf tr s) (beginOf tr r) z) in
+        omega (arith, g);
+  }
+
+  pub in-order : (conf : ℕ → ℕ → Bool) → InOrder (settingOf tr conf) (events tr) (nameOf tr) (chainOf (linkedTrace tr))
+  in-order conf s r h k e =
+      subst T (rows-test s r (omega arith) k) (leq-decides (linkedTrace tr) forward-links s r .1 (chain-≼ (linkedTrace tr) forward-links s r h e))
