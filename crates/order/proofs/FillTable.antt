@@ -7,8 +7,9 @@ use mathlib.Core.List.{List, _++_, append-assoc}
 use native.Mathlib.Omega.{arith}
 use borrow.Author.Tests.{eq-eqb, ne-eqb}
 use lib.Dec.{eqb}
-use lib.ListN.{getD, set, replicate, List·getD-append}
-use lib.Seq.{set-at}
+use lib.ListN.{length, getD, set, replicate, length-append, length-set, length-replicate, List·getD-append}
+use native.Mathlib.Nat.{mul-le-mul-right, suc-mul}
+use lib.Seq.{set-at, set-set, getD-set-same}
 use Rattle.slices.specs.Slices.{zeros}
 use Rattle.clocks.specs.Rows.{clearRow}
 use Rattle.order.specs.Links.{Links, Forward, leq}
@@ -16,12 +17,12 @@ use Rattle.order.specs.Chains.{used, needs}
 use Rattle.order.specs.Clocks.{table, flat, chainOf, entry, merged, clocksOf}
 use Rattle.order.specs.Fill.{noChains}
 use Rattle.order.specs.loops.Pass.{tick, chooseIn, Rows}
-use Rattle.order.specs.loops.FromTable.{takeBefore, makeRow, makeRows}
+use Rattle.order.specs.loops.FromTable.{takeBefore, readyRow, makeRow, makeRows, RoomToMake}
 use Rattle.slices.proofs.Tests.{decide-eq}
-use Rattle.order.proofs.CountLaws.{firstFrom-local}
-use Rattle.order.proofs.ChainLaws.{chain-below, needs-at}
-use Rattle.order.proofs.ClockLaws.{entry-law, chain-merged}
-use Rattle.order.proofs.RowLaws.{flat-same, table-length, table-at}
+use Rattle.order.proofs.CountLaws.{firstFrom-local, count-le}
+use Rattle.order.proofs.ChainLaws.{chain-below, members-le, needs-at}
+use Rattle.order.proofs.ClockLaws.{below, merged-count, entry-law, chain-merged}
+use Rattle.order.proofs.RowLaws.{flat-length, flat-same, table-length, table-at}
 use Rattle.order.proofs.FlatLaws.{zeroIn, zero-own, zero-other, addAt, add-own, add-other, flat-read, cleared-row, ticked-row}
 use Rattle.order.proofs.FillLaws.{Taken, taken-start, taken-more}
 use Rattle.order.proofs.PassLaws.{enter-room, enter-full}
@@ -67,7 +68,7 @@ module _
     clocksThen = takeBefore (λ t. before t u) w u (s .chosen) u (clearRow w u (s .clocks))
 
     abbrev stateThen : Rows
-    stateThen = record { clocks = clocksThen; sizes = s .sizes; chosen = s .chosen; chains = s .chains }
+    stateThen = record { clocks = clocksThen; sizes = s .sizes; chosen = set (s .chosen) u 1024; chains = s .chains }
 
     then-own : (c : ℕ) → rowsThen u c ≡ merged l u c
     then-own c = rw (eq-eqb u u refl)
@@ -75,12 +76,15 @@ module _
     then-other : (v c : ℕ) → v ≢ u → rowsThen v c ≡ p .rows v c
     then-other v c n = rw (ne-eqb v u n)
 
+    fits : (t : ℕ) → t < u → chainOf l t < w
+    fits t a = omega (arith, chain-below (leq l) t u a, p .taken .chains-are, p .taken .chains-fit)
+
     clocks-then : clocksThen ≡ flat w m rowsThen ++ rest
     clocks-then =
         ap (λ cs. takeBefore (λ t. before t u) w u (s .chosen) u (clearRow w u cs)) (p .clocks-are)
         ∙ (ap (takeBefore (λ t. before t u) w u (s .chosen) u) (cleared-row w m rest (p .rows) u narrow h)
         ∙ clocks-from-table l fw m before tests w u rest (s .chosen) (zeroIn (p .rows) u) h (λ t a. ap (λ cs. getD cs t 0) (p .chosen-are) ∙ chains-at l u t a)
-        (λ t a. omega (arith, chain-below (leq l) t u a, p .taken .chains-are, p .taken .chains-fit))
+        fits
         (λ t c a. zero-other (p .rows) u t c (λ e. omega arith) ∙ p .done t c a) (zero-own (p .rows) u))
 
     -- the chain choice is the chain of the event action
@@ -93,15 +97,52 @@ module _
         firstFrom-local _ _ 0 (s .chains) (λ c g k. let j : c < w = omega (arith, p .taken .chains-fit) in ap₂ eqb (merged-is c j) (p .taken .sizes-are c j))
         ∙ rw (p .taken .chains-are) (sym (chain-merged l fw u))
 
+    -- there is room for all of it
+    long : length (s .chosen) ≡ 1024
+    long =
+        ap length (p .chosen-are)
+        ∙ omega (arith, length-append (table u (chainOf l)) (replicate (1024 - u) 0), table-length u (chainOf l), length-replicate {A = ℕ} (1024 - u) 0)
+
+    row-fits : (r : ℕ → ℕ → ℕ) → u * w + w ≤ length (flat w m r ++ rest)
+    row-fits r = omega (arith, length-append (flat w m r) rest, flat-length w m r, mul-le-mul-right w h, suc-mul u w)
+
+    merged-few : (c : ℕ) → merged l u c ≤ u
+    merged-few c = omega (arith, merged-count l fw u c, count-le (below l u c) u)
+
+    pub made-room : RoomToMake before w u s
+    unfolding readyRow
+    made-room = record {
+      to-take = record {
+        narrow = narrow;
+        few = omega arith;
+        row = rw (p .clocks-are) (row-fits (p .rows));
+        chosen-room = omega (arith, long);
+        fits = λ t a. omega (arith, ap (λ cs. getD cs t 0) (p .chosen-are), chains-at l u t a, fits t a);
+      };
+      inside = omega (arith, long);
+      to-begin = record {
+        narrow = narrow;
+        room = record { row = rw clocks-then (row-fits rowsThen); chains-fit = p .taken .chains-fit; sizes-room = p .taken .sizes-room };
+        chosen-room = omega (arith, long, length-set (s .chosen) u 1024);
+        few-entries = λ c a. omega (arith, merged-is c a, merged-few c);
+        few-members = λ c a. omega (arith, p .taken .sizes-are c a, members-le (leq l) u c);
+        hint-low = omega (arith, hint);
+        hinted = λ c a. absurd (omega (arith, hint));
+      };
+    }
+      where
+        hint : getD (set (s .chosen) u 1024) u 0 ≡ 1024
+        hint = getD-set-same (s .chosen) u 1024 0 (omega (arith, long))
+
     -- a chain is left for it
     pub made-more : chainOf l u < w → Made (suc u) (makeRow before w u s)
-    unfolding makeRow
+    unfolding makeRow readyRow
     made-more k = rw (chosen-is, enter-room w u stateThen (chainOf l u) k) (record {
       rows = addAt rowsThen u (chainOf l u);
       clocks-are = ap (tick w u (chainOf l u)) clocks-then ∙ ticked-row w m rest rowsThen u (chainOf l u) h k;
       done = λ t c a. done t c a (decide-eq t u);
       taken = taken-more l w u (s .sizes) (s .chains) (p .taken) k;
-      chosen-are = ap (λ (cs : List ℕ). set cs u (chainOf l u)) (p .chosen-are) ∙ chains-more l u (omega arith);
+      chosen-are = set-set (s .chosen) u 1024 (chainOf l u) ∙ (ap (λ (cs : List ℕ). set cs u (chainOf l u)) (p .chosen-are) ∙ chains-more l u (omega arith));
     })
       where
         done : (t c : ℕ) → t < suc u → (t ≡ u) ⊎ (t ≢ u) → addAt rowsThen u (chainOf l u) t c ≡ entry l t c
@@ -110,7 +151,7 @@ module _
 
     -- none is left: it is the begin that needs one
     pub made-short : w ≤ chainOf l u → (makeRow before w u s .chains ≡ suc w) × (needs (leq l) w m ≡ u)
-    unfolding makeRow
+    unfolding makeRow readyRow
     made-short k = (
       rw chosen-is (ap (λ (r : Rows). r .chains) (enter-full w u stateThen (chainOf l u) k)),
       needs-at (leq l) w m u h (omega (arith, p .taken .chains-are, p .taken .chains-fit)) k,

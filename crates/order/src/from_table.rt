@@ -1,10 +1,13 @@
 // The row of an event action straight from the table of bits that tells what happens before it.
+use crate::rows::begin_row;
 use bits::get;
+use clocks::clear_row;
 ghost use mathlib.Core.Path.{_≡_};
 ghost use Prim.Native.Nat.{_<_};
 ghost use Rattle.bits.specs.Table.{bitOf};
 ghost use Rattle.clocks.specs.Rows.{rowsIf};
-ghost use Rattle.order.specs.loops.FromTable.{takeOwn, takeBefore, RoomToTake};
+ghost use Rattle.order.specs.loops.FromTable.{takeOwn, takeBefore, makeRow, RoomToTake, RoomToMake};
+ghost use Rattle.order.specs.loops.Pass.{Are};
 
 // Row u at t's chain becomes t's own entry, where t is before u.
 fn take_own(table: &[u64], t: usize, u: usize, width: usize, clocks: &mut [u16], chosen: &[u16])
@@ -28,4 +31,25 @@ pub(crate) fn take_before(table: &[u64], u: usize, width: usize, clocks: &mut [u
         take_own(table, t, u, width, clocks, chosen);
         t += 1;
     }
+}
+
+// Row u from the table: the chains taken after it, or more than the width where none is left for it.
+pub(crate) fn make_row(
+    table: &[u64],
+    u: usize,
+    width: usize,
+    clocks: &mut [u16],
+    sizes: &mut [u16],
+    chosen: &mut [u16],
+    chains: usize,
+) -> usize
+    requires { ⌜ RoomToMake (bitOf (now table)) width u (record { clocks = now clocks; sizes = now sizes; chosen = now chosen; chains = chains }) ⌝ }
+    ensures { λ r. ⌜ Are (makeRow (bitOf (now (table .entry))) width u
+        (record { clocks = now (clocks .entry); sizes = now (sizes .entry); chosen = now (chosen .entry); chains = chains }))
+        (now (clocks .exit)) (now (sizes .exit)) (now (chosen .exit)) r ⌝ }
+{
+    clear_row(clocks, width, u as u16);
+    take_before(table, u, width, clocks, chosen);
+    chosen[u] = 1024;
+    begin_row(clocks, width, u, sizes, chosen, chains)
 }

@@ -6,7 +6,7 @@ use mathlib.Core.List.{List}
 use lib.Dec.{eqb}
 use lib.ListN.{length, getD, set}
 use Rattle.clocks.specs.Rows.{rowsIf, clearRow}
-use Rattle.order.specs.loops.Pass.{Rows, beginRow}
+use Rattle.order.specs.loops.Pass.{Rows, beginRow, RoomToBegin}
 
 -- the entry at chain c after the first k event actions, over any row; `own` tells own entries, `before` those to take
 module _ (ch own : ℕ → ℕ) (before : ℕ → Bool) (row : ℕ → ℕ) where
@@ -31,15 +31,25 @@ pub record RoomToTake (width u : ℕ) (cs chosen : List ℕ) : Type 0 where
   pub chosen-room : u ≤ length chosen
   pub fits : (t : ℕ) → t < u → getD chosen t 0 < width
 
--- Row u made: cleared, taken from the order, and begun; and so the first rows.
-unfoldable pub makeRow : (ℕ → ℕ → Bool) → ℕ → ℕ → Rows → Rows
-makeRow before width u s = beginRow width u (record {
+-- Row u before it begins: cleared, and taken from the order. Its hint, 1,024, says to look for a chain from chain 0 on.
+unfoldable pub readyRow : (ℕ → ℕ → Bool) → ℕ → ℕ → Rows → Rows
+readyRow before width u s = record {
   clocks = takeBefore (λ t. before t u) width u (s .chosen) u (clearRow width u (s .clocks));
   sizes = s .sizes;
-  chosen = s .chosen;
+  chosen = set (s .chosen) u 1024;
   chains = s .chains;
-})
+}
+
+-- row u made; and so the first rows
+unfoldable pub makeRow : (ℕ → ℕ → Bool) → ℕ → ℕ → Rows → Rows
+makeRow before width u s = beginRow width u (readyRow before width u s)
 
 unfoldable pub makeRows : (ℕ → ℕ → Bool) → ℕ → ℕ → Rows → Rows
 makeRows before width zero s = s
 makeRows before width (suc u) s = makeRow before width u (makeRows before width u s)
+
+-- what making a row must have room for
+pub record RoomToMake (before : ℕ → ℕ → Bool) (width u : ℕ) (s : Rows) : Type 0 where
+  pub to-take : RoomToTake width u (s .clocks) (s .chosen)
+  pub inside : u < length (s .chosen)
+  pub to-begin : RoomToBegin width u (readyRow before width u s)
