@@ -7,23 +7,23 @@ use mathlib.Core.List.{List, _++_, append-assoc}
 use native.Mathlib.Omega.{arith}
 use borrow.Author.Tests.{eq-eqb, ne-eqb}
 use lib.Dec.{eqb}
-use lib.ListN.{length, getD, set, replicate, length-append, length-set, length-replicate, List·getD-append}
+use lib.ListN.{length, getD, set, drop, replicate, length-append, length-set, length-replicate, List·getD-append}
 use native.Mathlib.Nat.{mul-le-mul-right, suc-mul}
-use lib.Seq.{set-at, set-set, getD-set-same}
+use lib.Seq.{set-at, set-set, getD-set-same, drop-at}
 use Rattle.slices.specs.Slices.{zeros}
 use Rattle.clocks.specs.Rows.{clearRow}
 use Rattle.order.specs.Links.{Links, Forward, leq}
 use Rattle.order.specs.Chains.{used, needs}
 use Rattle.order.specs.Clocks.{table, flat, chainOf, entry, merged, clocksOf}
 use Rattle.order.specs.Fill.{noChains}
-use Rattle.order.specs.loops.Pass.{tick, chooseIn, Rows}
-use Rattle.order.specs.loops.FromTable.{takeBefore, readyRow, makeRow, makeRows, RoomToMake}
-use Rattle.slices.proofs.Tests.{decide-eq}
+use Rattle.order.specs.loops.Pass.{tick, chooseIn, Rows, Are}
+use Rattle.order.specs.loops.FromTable.{takeBefore, readyRow, makeRow, makeRows, RoomToMake, Tells, ReadyToMake, MakesRows}
+use Rattle.slices.proofs.Tests.{decide-eq, decide-lt}
 use Rattle.order.proofs.CountLaws.{firstFrom-local, count-le}
-use Rattle.order.proofs.ChainLaws.{chain-below, members-le, needs-at}
+use Rattle.order.proofs.ChainLaws.{chain-below, members-le, needs-at, needs-none}
 use Rattle.order.proofs.ClockLaws.{below, merged-count, entry-law, chain-merged}
 use Rattle.order.proofs.RowLaws.{flat-length, flat-same, table-length, table-at}
-use Rattle.order.proofs.FlatLaws.{zeroIn, zero-own, zero-other, addAt, add-own, add-other, flat-read, cleared-row, ticked-row}
+use Rattle.order.proofs.FlatLaws.{zeroIn, zero-own, zero-other, addAt, add-own, add-other, flat-read, flat-any, cleared-row, ticked-row}
 use Rattle.order.proofs.FillLaws.{Taken, taken-start, taken-more}
 use Rattle.order.proofs.PassLaws.{enter-room, enter-full}
 use Rattle.order.proofs.FromTableLaws.{clocks-from-table}
@@ -157,6 +157,13 @@ module _
       needs-at (leq l) w m u h (omega (arith, p .taken .chains-are, p .taken .chains-fit)) k,
     )
 
+    -- and what is past the rows stays
+    pub made-rest : w ≤ chainOf l u → drop (m * w) (makeRow before w u s .clocks) ≡ rest
+    unfolding makeRow readyRow
+    made-rest k =
+        rw (chosen-is, enter-full w u stateThen (chainOf l u) k)
+        (ap (drop (m * w)) clocks-then ∙ drop-at (flat w m rowsThen) rest (m * w) (flat-length w m rowsThen))
+
   -- where the width has all chains: the clocks, the chain of each row, and how many chains are taken
   pub made-rows : used (leq l) m ≤ w → (s : Rows) → Made 0 s → (u : ℕ) → u ≤ m → Made u (makeRows before w u s)
   unfolding makeRows
@@ -166,3 +173,80 @@ module _
   pub made-end : (s : Rows) → Made m s → (s .clocks ≡ clocksOf l w m ++ rest) × (s .chosen ≡ chainsOf l m) × (s .chains ≡ used (leq l) m)
   unfolding clocksOf
   made-end s p = (p .clocks-are ∙ ap (λ cs. cs ++ rest) (flat-same w m (p .rows) (entry l) (λ u c h k. p .done u c h)), p .chosen-are, p .taken .chains-are)
+
+-- The loop that makes all rows, row by row.
+module _ (before : ℕ → ℕ → Bool) (m w : ℕ) (clocks₀ : List ℕ) where
+  pub record Going (l : Links) (clocks sizes chosen : List ℕ) (chains u : ℕ) : Type 0 where
+    pub tells : Tells before m l
+    pub narrow : w ≤ 1024
+    pub few : m ≤ 1024
+    pub within : u ≤ m
+    pub made : Made l (tells .forward) m before (tells .tests) w narrow few (drop (m * w) clocks₀) u
+        (record { clocks = clocks; sizes = sizes; chosen = chosen; chains = chains })
+
+  pub going-start : (sizes chosen : List ℕ) → ReadyToMake before m w clocks₀ sizes chosen → (l : Links) → Tells before m l → Going l clocks₀ sizes chosen 0 0
+  going-start sizes chosen r l t = record {
+    tells = t;
+    narrow = r .narrow;
+    few = r .few;
+    within = omega arith;
+    made = rw (r .sizes-clear, r .chosen-clear)
+        (made-start l (t .forward) m before (t .tests) w (r .narrow) (r .few) (drop (m * w) clocks₀) clocks₀
+        (λ u c. getD clocks₀ (u * w + c) 0) (flat-any w m clocks₀ (r .room)));
+  }
+
+  module _ (l : Links) (clocks sizes chosen : List ℕ) (chains u : ℕ) (g : Going l clocks sizes chosen chains u) where
+    abbrev state : Rows
+    state = record { clocks = clocks; sizes = sizes; chosen = chosen; chains = chains }
+
+    pub going-room : u < m → RoomToMake before w u state
+    going-room h = made-room l (g .tells .forward) m before (g .tells .tests) w (g .narrow) (g .few) (drop (m * w) clocks₀) u state (g .made) h
+
+    module _ (h : u < m) (clocks′ sizes′ chosen′ : List ℕ) (chains′ : ℕ) (e : Are (makeRow before w u state) clocks′ sizes′ chosen′ chains′) where
+      short : w ≤ chainOf l u → (makeRow before w u state .chains ≡ suc w) × (needs (leq l) w m ≡ u)
+      short = made-short l (g .tells .forward) m before (g .tells .tests) w (g .narrow) (g .few) (drop (m * w) clocks₀) u state (g .made) h
+
+      more : chainOf l u < w
+          → Made l (g .tells .forward) m before (g .tells .tests) w (g .narrow) (g .few) (drop (m * w) clocks₀) (suc u) (makeRow before w u state)
+      more = made-more l (g .tells .forward) m before (g .tells .tests) w (g .narrow) (g .few) (drop (m * w) clocks₀) u state (g .made) h
+
+      same-rest : w ≤ chainOf l u → drop (m * w) (makeRow before w u state .clocks) ≡ drop (m * w) clocks₀
+      same-rest = made-rest l (g .tells .forward) m before (g .tells .tests) w (g .narrow) (g .few) (drop (m * w) clocks₀) u state (g .made) h
+
+      pub going-next : chains′ ≤ w → Going l clocks′ sizes′ chosen′ chains′ (u + 1)
+      going-next k = go (decide-lt (chainOf l u) w)
+        where
+          go : (chainOf l u < w) ⊎ (w ≤ chainOf l u) → Going l clocks′ sizes′ chosen′ chains′ (u + 1)
+          go (inl j) = let n : u + 1 ≡ suc u = omega arith in rw n (record {
+            tells = g .tells;
+            narrow = g .narrow;
+            few = g .few;
+            within = h;
+            made = rw (e .clocks-are, e .sizes-are, e .chosen-are, e .chains-are) (more j);
+          })
+          go (inr j) = absurd (omega (arith, short j .0, e .chains-are))
+
+      pub going-stop : w < chains′ → MakesRows l m w clocks₀ clocks′ chosen′ u chains
+      going-stop k = go (decide-lt (chainOf l u) w)
+        where
+          go : (chainOf l u < w) ⊎ (w ≤ chainOf l u) → MakesRows l m w clocks₀ clocks′ chosen′ u chains
+          go (inl j) = absurd (omega (arith, more j .taken .chains-fit, e .chains-are))
+          go (inr j) = record {
+            rows-are = sym (short j .1);
+            clocks-are = λ z. absurd (omega arith);
+            chosen-are = λ z. absurd (omega arith);
+            chains-are = λ z. absurd (omega arith);
+            rest = ap (drop (m * w)) (e .clocks-are) ∙ same-rest j;
+          }
+
+    pub going-end : m ≤ u → MakesRows l m w clocks₀ clocks chosen u chains
+    going-end k =
+        let n : u ≡ m = omega (arith, g .within) in
+        let x = made-end l (g .tells .forward) m before (g .tells .tests) w (g .narrow) (g .few) (drop (m * w) clocks₀) state (rw n at (g .made)) in
+        record {
+          rows-are = n ∙ sym (needs-none (leq l) w m .1 (omega (arith, x .2, g .made .taken .chains-fit)));
+          clocks-are = λ z. x .0;
+          chosen-are = λ z. x .1;
+          chains-are = λ z. x .2;
+          rest = ap (drop (m * w)) (g .made .clocks-are) ∙ drop-at (flat w m (g .made .rows)) (drop (m * w) clocks₀) (m * w) (flat-length w m (g .made .rows));
+        }

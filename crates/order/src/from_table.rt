@@ -3,10 +3,11 @@ use crate::rows::begin_row;
 use bits::get;
 use clocks::clear_row;
 ghost use mathlib.Core.Path.{_≡_};
+ghost use Rattle.order.specs.Links.{Links};
 ghost use Prim.Native.Nat.{_<_};
 ghost use Rattle.bits.specs.Table.{bitOf};
 ghost use Rattle.clocks.specs.Rows.{rowsIf};
-ghost use Rattle.order.specs.loops.FromTable.{takeOwn, takeBefore, makeRow, RoomToTake, RoomToMake};
+ghost use Rattle.order.specs.loops.FromTable.{takeOwn, takeBefore, makeRow, RoomToTake, RoomToMake, Tells, ReadyToMake, MakesRows};
 ghost use Rattle.order.specs.loops.Pass.{Are};
 
 // Row u at t's chain becomes t's own entry, where t is before u.
@@ -52,4 +53,42 @@ pub(crate) fn make_row(
     take_before(table, u, width, clocks, chosen);
     chosen[u] = 1024;
     begin_row(clocks, width, u, sizes, chosen, chains)
+}
+
+// How many rows were made, and the chains taken.
+pub(crate) struct MadeRows {
+    pub rows: usize,
+    pub chains: usize,
+}
+
+// All rows from the table, up to the first that needs more chains than the width has.
+pub(crate) fn make_rows(
+    table: &[u64],
+    events: usize,
+    width: usize,
+    clocks: &mut [u16],
+    sizes: &mut [u16],
+    chosen: &mut [u16],
+) -> MadeRows
+    requires { ⌜ ReadyToMake (bitOf (now table)) events width (now clocks) (now sizes) (now chosen) ⌝ }
+    ensures { λ r. ⌜ ((l : Links) → Tells (bitOf (now (table .entry))) events l
+        → MakesRows l events width (now (clocks .entry)) (now (clocks .exit)) (now (chosen .exit)) (r .rows) (r .chains)) ⌝ }
+{
+    let mut chains = 0;
+    let mut u = 0;
+    while u < events {
+        let next = make_row(table, u, width, clocks, sizes, chosen, chains);
+        if width < next {
+            return MadeRows {
+                rows: u,
+                chains: chains,
+            };
+        }
+        chains = next;
+        u += 1;
+    }
+    MadeRows {
+        rows: u,
+        chains: chains,
+    }
 }

@@ -48,17 +48,20 @@ same-length-2 c = search needs
 same-length-3 : tie.Need-same-length-3
 same-length-3 c =
     let at-begin = c .before .before .before .before .before .before in
-    let k = at-begin .before .before .before .before .before .before .before .before .before .before .before .before .before .before .before .before .before .args in
+    let at-take = at-begin .before .before .before .before .before .before in
+    let start = at-take .before .before .before .before .before .before .before .before .before .before .before in
+    let k = start .args in
     at-begin .begin-row .kept .1 .1 .1 .1 .0 ∙ length-set (now (k .chosen)) (k .u) 1024
 
 returns : tie.Need-returns
 unfolding makeRow readyRow
 returns c =
     let at-begin = c .before .before .before .before .before .before in
-    let k = at-begin .before .before .before .before .before .before .before .before .before .before .before .before .before .before .before .before .before .args in
+    let at-take = at-begin .before .before .before .before .before .before in
+    let start = at-take .before .before .before .before .before .before .before .before .before .before .before in
+    let k = start .args in
     let b = at-begin .begin-row in
     let taken = takeBefore (λ t. bitOf (now (k .table)) t (k .u)) (k .width) (k .u) (now (k .chosen)) (k .u) in
-    let at-take = at-begin .before .before .before .before .before .before in
     let e = at-take .take-before .ensures ∙ ap taken (at-take .before .before .before .before .before .clear-row .ensures) in
     subst (λ (cs : List ℕ).
     Are (beginRow (k .width) (k .u) (record { clocks = cs; sizes = now (k .sizes); chosen = set (now (k .chosen)) (k .u) 1024; chains = k .chains }))
