@@ -2,7 +2,10 @@
 -- Assumes nothing.
 use native.Mathlib.Omega.{arith}
 use borrow.Author.Needs.{needs}
-use mathlib.Core.Path.{sym, _∙_}
+use mathlib.Core.Bool.{true, false}
+use mathlib.Core.Path.{_≡_, sym, _∙_}
+use denote.Ref.{now}
+use Rattle.bits.specs.Table.{bitOf}
 use Rattle.order.specs.loops.FromTable.{takeOwn}
 use Rattle.order.proofs.FromTableLaws.{own-place}
 use Rattle.order.proofs.from_table.take_own.Statement.{statement}
@@ -65,10 +68,16 @@ same-length c = search needs
 
 returns : tie.Need-returns
 unfolding takeOwn
-returns c = rw (sym (c .before .before .before .get .ensures) ∙ c .before .before .if1 .taken)
+returns c =
+    let k = c .before .before .before .before .before .before .before .args in
+    let e : bitOf (now (k .table)) (k .t) (k .u) ≡ true = sym (c .before .before .before .get .ensures) ∙ c .before .before .if1 .taken in
+    rw e
 
 returns-2 : tie.Need-returns-2
-returns-2 c = rw (sym (c .before .get .ensures) ∙ c .if1 .left)
+returns-2 c =
+    let k = c .before .before .before .before .before .args in
+    let e : bitOf (now (k .table)) (k .t) (k .u) ≡ false = sym (c .before .get .ensures) ∙ c .if1 .left in
+    rw e
 
 pub take-own-spec : {M : Type 1} → statement M
 take-own-spec =
