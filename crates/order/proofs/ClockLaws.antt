@@ -34,10 +34,10 @@ module _ (l : Links) (fw : Forward l) where
       go (inl i) = same i
       go (inr n) = leq→≼ l fw t u (chain-ordered (leq l) (leq-trans l fw) u t (omega arith) e)
 
-  of-below : (u c t : ℕ) → T (below l u c t) → (chainOf l t ≡ c) × (l ⊢ t ≼ u)
+  pub of-below : (u c t : ℕ) → T (below l u c t) → (chainOf l t ≡ c) × (l ⊢ t ≼ u)
   of-below u c t h = let r = both (eqb (chainOf l t) c) (leq l t u) h in (eqb→eq (chainOf l t) c (r .0), leq→≼ l fw t u (r .1))
 
-  is-below : (u c t : ℕ) → chainOf l t ≡ c → l ⊢ t ≼ u → T (below l u c t)
+  pub is-below : (u c t : ℕ) → chainOf l t ≡ c → l ⊢ t ≼ u → T (below l u c t)
   is-below u c t e h = and (eqb (chainOf l t) c) (leq l t u) (eq→eqb (chainOf l t) c e) (≼→leq l fw h)
 
   -- what happens before each event action: the sets of which its rows are

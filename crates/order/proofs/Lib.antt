@@ -38,3 +38,10 @@ pub mod ByEvent
 pub mod OwnPart
 pub mod Variants
 pub mod Upward
+-- Links that deliver in order
+pub mod LinkRuleLaws
+pub mod LinkedTrace
+pub mod LinkedExamples
+pub mod Accepted
+pub mod FromTableLaws
+pub mod FillTable

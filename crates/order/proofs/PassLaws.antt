@@ -45,11 +45,11 @@ use Rattle.order.proofs.TraceOrder.{counted, counted-passes, ops-begins
 use Rattle.order.proofs.TraceWalk.{arrives}
 
 -- a begin for which a chain is left, and one for which none is
-enter-room : (w u : ℕ) (s : Rows) (c : ℕ) → c < w → enterRow w u s c ≡ record { clocks = tick w u c (s .clocks); sizes = set (s .sizes) c (getD (s .sizes) c 0 + 1); chosen = set (s .chosen) u c; chains = max (s .chains) (suc c) }
+pub enter-room : (w u : ℕ) (s : Rows) (c : ℕ) → c < w → enterRow w u s c ≡ record { clocks = tick w u c (s .clocks); sizes = set (s .sizes) c (getD (s .sizes) c 0 + 1); chosen = set (s .chosen) u c; chains = max (s .chains) (suc c) }
 unfolding enterRow
 enter-room w u s c h = rw (lt-leb w c h)
 
-enter-full : (w u : ℕ) (s : Rows) (c : ℕ) → w ≤ c → enterRow w u s c ≡ record { clocks = s .clocks; sizes = s .sizes; chosen = s .chosen; chains = suc w }
+pub enter-full : (w u : ℕ) (s : Rows) (c : ℕ) → w ≤ c → enterRow w u s c ≡ record { clocks = s .clocks; sizes = s .sizes; chosen = s .chosen; chains = suc w }
 unfolding enterRow
 enter-full w u s c h = rw (le-leb w c h)
 

@@ -76,7 +76,7 @@ module _ (tr : List Record) where
       go (yes k) (no m) = rw (eq-eqb (at tr i .kind) 1 k, ne-eqb (at tr i .first) e m)
       go (yes k) (yes q) = absurd (n (k, q))
 
-  rank-at : (e j i : ℕ) → j < i → at tr j .kind ≡ 1 → at tr j .first ≡ e → ((k : ℕ) → k < i → at tr k .kind ≡ 1 → at tr k .first ≡ e → k ≡ j) → rankIn e (past tr i) ≡ counted j + 1
+  pub rank-at : (e j i : ℕ) → j < i → at tr j .kind ≡ 1 → at tr j .first ≡ e → ((k : ℕ) → k < i → at tr k .kind ≡ 1 → at tr k .first ≡ e → k ≡ j) → rankIn e (past tr i) ≡ counted j + 1
   rank-at e j zero l k q f = absurd (not-suc-le-zero l)
   rank-at e j (suc i) l k q f = go (eq-or-lt-of-le (le-of-suc-le-suc l)) (rank-at e j i)
     where
@@ -84,7 +84,7 @@ module _ (tr : List Record) where
       go (inl z) ih = rw z (rank-here e i (rw (← z) k) (rw (← z) q))
       go (inr m) ih = rank-before e i (λ p. omega (arith, f i (omega arith) (p .0) (p .1), m)) ∙ ih m k q (λ x h a b. f x (omega arith) a b)
 
-  rank-found : (e i : ℕ) → rankIn e (past tr i) ≢ 0 → Found tr isBegin e i
+  pub rank-found : (e i : ℕ) → rankIn e (past tr i) ≢ 0 → Found tr isBegin e i
   unfolding rankIn past
   rank-found e zero n = absurd (n refl)
   rank-found e (suc i) n = go (ℕ-discrete (at tr i .kind) 1) (ℕ-discrete (at tr i .first) e) (rank-found e i)

@@ -3,6 +3,7 @@ pub mod Chains
 pub mod Clocks
 pub mod Schedule
 pub mod HappensBefore
+pub mod LinkRule
 pub mod Compared
 pub mod Fill
 pub mod Lent

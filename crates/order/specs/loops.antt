@@ -7,3 +7,4 @@ pub mod Pass
 pub mod PassEnds
 pub mod Standing
 pub mod FillsTrace
+pub mod FromTable

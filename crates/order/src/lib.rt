@@ -1,4 +1,5 @@
 // Happens-before, chains and vector clocks.
+mod from_table;
 mod linking;
 pub mod links;
 mod merge;

@@ -47,7 +47,7 @@ fn choose_hinted(
 }
 
 // Row u begins: the chains taken after it, or more than the width where none is left for it.
-fn begin_row(
+pub(crate) fn begin_row(
     clocks: &mut [u16],
     width: usize,
     u: usize,
