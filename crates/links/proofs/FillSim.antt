@@ -21,7 +21,7 @@ use Rattle.precedence.specs.Kinds.{isSend, starts}
 use Rattle.precedence.specs.Before.{Begins}
 use Rattle.precedence.specs.Table.{table, sets, blocked}
 use Rattle.precedence.specs.Sound.{Sound, Next}
-use Rattle.precedence.specs.Scan.{Scan, run, scanAt}
+use Rattle.precedence.specs.Scan.{Scan, run, scanFor, scanAt}
 use Rattle.precedence.proofs.Rows.{begins-later, begins-begun, begun-begins, begun-or-not, begun-only, transitive}
 use Rattle.precedence.proofs.ScanLaws.{scan-refuses, scan-gathers}
 use Rattle.precedence.proofs.Growing.{sound-zero, sound-next}
@@ -325,7 +325,7 @@ module _ {tr : List Record} {f : ℕ → ℕ} {n : ℕ} (g : Ranked tr f n) wher
         left = walk tr f e u i started (zeros 64) .words
 
         pass-is : run tr e (table tr i) has i s₀ ≡ scanAt tr i
-        unfolding scanAt s₀
+        unfolding scanFor s₀
         pass-is = refl
 
         words-begin : left ≡ stepWords tr f i ws last
@@ -334,14 +334,14 @@ module _ {tr : List Record} {f : ℕ → ℕ} {n : ℕ} (g : Ranked tr f n) wher
 
         stuck-begin : stepStuck tr f i ws last ≡ blocked tr i
         unfolding stepStuck
-        stuck-begin = rw a (ap (λ (y : Walked). y .stuck) begun-is ∙ done .stuck-same ∙ ap (λ (y : Scan). y .stuck) pass-is ∙ scan-refuses tr i)
+        stuck-begin = rw a (ap (λ (y : Walked). y .stuck) begun-is ∙ done .stuck-same ∙ ap (λ (y : Scan). y .stuck) pass-is ∙ scan-refuses tr i e)
 
         module _ (free : blocked tr i ≡ false) where
           sound-on : Sound tr (suc i)
           sound-on = sound-next tr i s (next-of x (λ h. free))
 
           not-refused : run tr e (table tr i) has i s₀ .stuck ≡ false
-          not-refused = ap (λ (y : Scan). y .stuck) pass-is ∙ scan-refuses tr i ∙ free
+          not-refused = ap (λ (y : Scan). y .stuck) pass-is ∙ scan-refuses tr i e ∙ free
 
           gathers : (t : ℕ) → table tr (suc i) t e ≡ (eqb t e || run tr e (table tr i) has i s₀ .row t)
           gathers t = scan-gathers tr i (holds a) free t ∙ ap (λ (y : Scan). eqb t e || y .row t) (sym pass-is)

@@ -182,8 +182,8 @@ module _ {tr : List Record} {f : ℕ → ℕ} {n : ℕ} {done : Filled} (d : Dec
     free-before = λ i l b k.
         let m : i ≤ done .stop = omega arith in
         let s = shorter m (d .sound) in
-        subst T (d .sound .unblocked i l b) (refusal-decides s .1 k);
-    refused-there = λ l. let r = d .refuses l in (r .0, refusal-decides (d .sound) .0 (holds (r .1)));
+        subst T (d .sound .unblocked i l b) (refusal-decides s (at tr i .first) .1 k);
+    refused-there = λ l. let r = d .refuses l in (r .0, refusal-decides (d .sound) (at tr (done .stop) .first) .0 (holds (r .1)));
     happens-before = λ q t u b c.
         let e = d .tells q t u b c in
         let s = subst (Sound tr) q (d .sound) in
