@@ -4,3 +4,4 @@ pub mod WalkSim
 pub mod LastSend
 pub mod FillSim
 pub mod RankSim
+pub mod BeginLaws
