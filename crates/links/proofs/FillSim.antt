@@ -46,7 +46,7 @@ next-of x free = record {
 
 module _ {tr : List Record} {f : ℕ → ℕ} {n : ℕ} (g : Ranked tr f n) where
   -- ranks tell events that begin apart
-  one-to-one : (x y : ℕ) → Begins tr n x → Begins tr n y → f x ≡ f y → x ≡ y
+  pub one-to-one : (x y : ℕ) → Begins tr n x → Begins tr n y → f x ≡ f y → x ≡ y
   one-to-one x y b c e = go (lt-or-ge (b .position) (c .position)) (lt-or-ge (c .position) (b .position))
     where
       go : (b .position < c .position) ⊎ (c .position ≤ b .position) → (c .position < b .position) ⊎ (b .position ≤ c .position) → x ≡ y

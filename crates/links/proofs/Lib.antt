@@ -5,3 +5,4 @@ pub mod LastSend
 pub mod FillSim
 pub mod RankSim
 pub mod BeginLaws
+pub mod BeginSim
