@@ -21,20 +21,23 @@ use Rattle.ranks.specs.Ranks.{ranksOf}
 use Rattle.bits.specs.Words.{wordsIf}
 use Rattle.precedence.specs.Kinds.{isSend, sameLink}
 use Rattle.precedence.specs.Table.{table, missing, blockedFor}
-use Rattle.precedence.specs.Before.{Begins}
+use Rattle.precedence.specs.Before.{Begins, Blocked}
 use Rattle.precedence.specs.Sound.{Sound}
 use Rattle.precedence.specs.Scan.{Scan}
 use Rattle.precedence.proofs.Steps.{Puts, puts}
 use Rattle.precedence.proofs.Rows.{begins-later, begins-begun, begun-begins, begun-or-not, transitive}
 use Rattle.precedence.proofs.ScanLaws.{row-aside}
-use Rattle.links.specs.Rule.{Walked, walk}
-use Rattle.links.specs.Promise.{Lawful, Ranked, Decides, DecidesOrder}
+use Rattle.precedence.proofs.Theorems.{refusal-decides}
+use Rattle.links.specs.Rule.{rankIn, Walked, walk}
+use Rattle.links.specs.Fill.{Filled, fillFrom}
+use Rattle.links.specs.Promise.{Lawful, Ranked, Decides, BeginDecides}
 use Rattle.links.specs.Begin as spec
 use Rattle.links.specs.Begin.{sendTo, lastSend, mayTurn, maySent, may, tableBlocked, beginBlocked}
 use Rattle.links.proofs.WalkSim.{holds, or-no, Ready, Tells, walks}
 use Rattle.links.proofs.LastSend.{NoSend, walk-skips}
-use Rattle.links.proofs.FillSim.{one-to-one, fill-whole}
-use Rattle.links.proofs.BeginLaws.{to-it}
+use Rattle.links.proofs.FillSim.{one-to-one, fill-decides, fill-whole}
+use Rattle.links.proofs.RankSim.{ranked, ranks-reach, order-decided}
+use Rattle.links.proofs.BeginLaws.{to-it, by-table, blocked-none, blocked-free, blocked-told}
 
 -- after the last send to e there is none
 module _ (tr : List Record) (e : ℕ) where
@@ -254,3 +257,68 @@ module _ {tr : List Record} {f : ℕ → ℕ} {n : ℕ} (g : Ranked tr f n) (s :
       ap (λ (y : Walked). y .stuck) (sym (walk-skips tr f e u (putBit (u - 1) (u - 1) ws) n (lastSend tr e n) (l .0) (l .1)))
       ∙ walks (bitOf started) ready n (omega arith) started (zeros 64) s₀ refl tells₀ .stuck-same
       ∙ row-aside tr n e (λ t. false)
+
+-- Records that pass 4 to 8, none of whose begins 31 refuses, and where there is room for one more event action.
+module _ (tr : List Record) (lawful : (i : ℕ) → i < length tr → Lawful tr i) (few : begins (past tr (length tr)) ≤ 1023) (small : length tr ≤ 65535)
+    (accepted : (i : ℕ) → i < length tr → T (isBegin (at tr i)) → Blocked tr i → ⊥) where
+  abbrev n : ℕ
+  n = length tr
+
+  abbrev count : ℕ
+  count = begins (past tr (length tr))
+
+  abbrev f : ℕ → ℕ
+  f = rankIn (ranksOf tr)
+
+  abbrev done : Filled
+  done = fillFrom tr (rankIn (ranksOf tr)) 0 (length tr) (zeros 8704) (zeros 1025)
+
+  by-rank : Ranked tr f n
+  unfolding ranksOf
+  by-rank = ranked tr n lawful (omega arith)
+
+  under : (x : ℕ) → Begins tr n x → f x ≤ count
+  unfolding ranksOf
+  under x b = ranks-reach tr n lawful (omega arith) x b
+
+  decides : Decides tr f n done
+  decides = fill-decides by-rank lawful small
+
+  to-the-end : done .stop ≡ n
+  to-the-end = go (lt-or-ge (done .stop) n)
+    where
+      go : (done .stop < n) ⊎ (n ≤ done .stop) → done .stop ≡ n
+      go (inl h) = let r = order-decided decides .refused-there h in absurd (accepted (done .stop) h (r .0) (r .1))
+      go (inr h) = let k = decides .inside in omega arith
+
+  all-sound : Sound tr n
+  all-sound = subst (Sound tr) to-the-end (decides .sound)
+
+  module _ (e : ℕ) where
+    abbrev last : ℕ
+    last = lastSend tr e (length tr)
+
+    table-told : tableBlocked tr f last e count ≡ blockedFor tr n e
+    table-told =
+        let w = fill-whole by-rank lawful small to-the-end in
+        let q : count + 1 - 1 ≡ count = omega arith in
+        sym (by-table tr f last e count few)
+        ∙ ap (λ (k : ℕ). walk tr f e (count + 1) last (putBit k k (done .words)) (zeros 64) .stuck) (sym q)
+        ∙ walk-decides by-rank all-sound e (count + 1) (λ x b. let k = under x b in omega arith) (omega arith) (omega arith) (done .words) (w .0)
+        (decides .tells to-the-end) (λ t. w .1 t (count + 1 - 1) past-ranks)
+      where
+        past-ranks : (x : ℕ) → Begins tr n x → count + 1 - 1 ≢ f x - 1
+        past-ranks x b q = let k = under x b in let m = by-rank .positive x b in omega (arith, q)
+
+    begin-told : beginBlocked tr e ≡ blockedFor tr n e
+    begin-told = go (decide-eq last 0) (decide (may tr f e last (zeros 4)))
+      where
+        go : (last ≡ 0) ⊎ (last ≢ 0) → (may tr f e last (zeros 4) ≡ true) ⊎ (may tr f e last (zeros 4) ≡ false) → beginBlocked tr e ≡ blockedFor tr n e
+        go (inl z) _ = sym (blocked-none tr e last (ranksOf tr) refl z) ∙ sym (no-send-free tr f n e z)
+        go (inr d) (inr m) = sym (blocked-free tr e last (ranksOf tr) refl d refl m) ∙ sym (may-not-free tr f n e (by-rank .none) m)
+        go (inr d) (inl m) = sym (blocked-told tr e last (ranksOf tr) refl d refl m count refl) ∙ table-told
+
+    pub begin-decided : BeginDecides tr e (beginBlocked tr e)
+    begin-decided =
+        let k = refusal-decides all-sound e in
+        record { computed = begin-told; literal = (λ h. k .0 (subst T begin-told h), λ h. subst T (sym begin-told) (k .1 h)) }
