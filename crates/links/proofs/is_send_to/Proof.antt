@@ -22,10 +22,24 @@ target-at-requires : tie.Need-target-at-requires
 target-at-requires c κs = search needs
 
 returns-3 : tie.Need-returns-3
-returns-3 c = to-it _ _ (a-send (at (decode (now (c .before .before .before .before .before .before .before .before .args .recs))) (c .before .before .before .before .before .before .before .before .args .j)) (subst (λ (v : ℕ). 16 ≤ v) (c .before .before .before .before .before .before .kind-at .ensures) (c .before .before .before .before .before .if1 .left)) (subst (λ (v : ℕ). v ≤ 19) (c .before .before .before .before .before .before .kind-at .ensures) (c .before .before .before .before .if2 .left))) (sym (c .before .before .before .target-at .ensures) ∙ c .if3 .taken)
+returns-3 c =
+    let k = c .before .before .before .before .before .before .before .before .args in
+    let kind = c .before .before .before .before .before .before .kind-at .ensures in
+    let low = subst (λ (v : ℕ). 16 ≤ v) kind (c .before .before .before .before .before .if1 .left) in
+    let high = subst (λ (v : ℕ). v ≤ 19) kind (c .before .before .before .before .if2 .left) in
+    let s = a-send (at (decode (now (k .recs))) (k .j)) low high in
+    let target = c .before .before .before .target-at .ensures in
+    to-it _ _ s (sym target ∙ c .if3 .taken)
 
 returns-4 : tie.Need-returns-4
-returns-4 c = to-other _ _ (a-send (at (decode (now (c .before .before .before .before .before .before .before .before .args .recs))) (c .before .before .before .before .before .before .before .before .args .j)) (subst (λ (v : ℕ). 16 ≤ v) (c .before .before .before .before .before .before .kind-at .ensures) (c .before .before .before .before .before .if1 .left)) (subst (λ (v : ℕ). v ≤ 19) (c .before .before .before .before .before .before .kind-at .ensures) (c .before .before .before .before .if2 .left))) (λ z. c .if3 .left (c .before .before .before .target-at .ensures ∙ z))
+returns-4 c =
+    let k = c .before .before .before .before .before .before .before .before .args in
+    let kind = c .before .before .before .before .before .before .kind-at .ensures in
+    let low = subst (λ (v : ℕ). 16 ≤ v) kind (c .before .before .before .before .before .if1 .left) in
+    let high = subst (λ (v : ℕ). v ≤ 19) kind (c .before .before .before .before .if2 .left) in
+    let s = a-send (at (decode (now (k .recs))) (k .j)) low high in
+    let target = c .before .before .before .target-at .ensures in
+    to-other _ _ s (λ z. c .if3 .left (target ∙ z))
 
 pub is-send-to-spec : {M : Type 1} → statement M
 is-send-to-spec =

@@ -34,14 +34,28 @@ same-length : tie.Need-same-length
 same-length c = search needs
 
 returns-3 : tie.Need-returns-3
-returns-3 c = may-mark _ _ _ _ (a-send (at (decode (now (c .before .before .before .before .before .before .before .before .before .before .before .before .before .before .args .recs))) (c .before .before .before .before .before .before .before .before .before .before .before .before .before .before .args .j)) (subst (λ (v : ℕ). 16 ≤ v) (c .before .before .before .before .before .before .before .before .before .before .kind-at .ensures) (c .before .before .before .before .before .before .before .before .before .if1 .left)) (subst (λ (v : ℕ). v ≤ 19) (c .before .before .before .before .before .before .before .before .before .before .kind-at .ensures) (c .before .before .before .before .before .before .before .before .if2 .left))) _ (c .before .before .before .before .before .before .before .before .before .before .kind-at .ensures) (sym (c .before .before .before .before .before .before .before .target-at .ensures) ∙ c .before .before .before .before .if3 .taken) _ (c .before .before .put .ensures)
+returns-3 c =
+    let k = c .before .before .before .before .before .before .before .before .before .before .before .before .before .before .args in
+    let kind = c .before .before .before .before .before .before .before .before .before .before .kind-at .ensures in
+    let low = subst (λ (v : ℕ). 16 ≤ v) kind (c .before .before .before .before .before .before .before .before .before .if1 .left) in
+    let high = subst (λ (v : ℕ). v ≤ 19) kind (c .before .before .before .before .before .before .before .before .if2 .left) in
+    let s = a-send (at (decode (now (k .recs))) (k .j)) low high in
+    let target = c .before .before .before .before .before .before .before .target-at .ensures in
+    may-mark _ _ _ _ s _ kind (sym target ∙ c .before .before .before .before .if3 .taken) _ (c .before .before .put .ensures)
 
 rank-of-requires : tie.Need-rank-of-requires
 rank-of-requires c κs = search needs
 
 returns-4 : tie.Need-returns-4
-returns-4 c = may-begun _ _ _ _ (a-send (at (decode (now (c .before .before .before .before .before .before .before .before .before .before .before .before .args .recs))) (c .before .before .before .before .before .before .before .before .before .before .before .before .args .j)) (subst (λ (v : ℕ). 16 ≤ v) (c .before .before .before .before .before .before .before .before .kind-at .ensures) (c .before .before .before .before .before .before .before .if1 .left)) (subst (λ (v : ℕ). v ≤ 19) (c .before .before .before .before .before .before .before .before .kind-at .ensures) (c .before .before .before .before .before .before .if2 .left))) _ (c .before .before .before .before .before .before .before .before .kind-at .ensures) (λ z. c .before .before .if3 .left (c .before .before .before .before .before .target-at .ensures ∙ z))
-    (λ z. c .if4 .taken (c .before .rank-of .ensures ∙ ap (rankIn (now (c .before .before .before .before .before .before .before .before .before .before .before .before .args .ranks))) (c .before .before .before .before .before .target-at .ensures) ∙ z))
+returns-4 c =
+    let k = c .before .before .before .before .before .before .before .before .before .before .before .before .args in
+    let kind = c .before .before .before .before .before .before .before .before .kind-at .ensures in
+    let low = subst (λ (v : ℕ). 16 ≤ v) kind (c .before .before .before .before .before .before .before .if1 .left) in
+    let high = subst (λ (v : ℕ). v ≤ 19) kind (c .before .before .before .before .before .before .if2 .left) in
+    let s = a-send (at (decode (now (k .recs))) (k .j)) low high in
+    let target = c .before .before .before .before .before .target-at .ensures in
+    let rank = c .before .rank-of .ensures ∙ ap (rankIn (now (k .ranks))) target in
+    may-begun _ _ _ _ s _ kind (λ z. c .before .before .if3 .left (target ∙ z)) (λ z. c .if4 .taken (rank ∙ z))
 
 cast-get : tie.Need-cast-get
 cast-get c = search needs
@@ -53,15 +67,31 @@ same-length-2 : tie.Need-same-length-2
 same-length-2 c = search needs
 
 returns-5 : tie.Need-returns-5
-returns-5 c = may-told _ _ _ _ (a-send (at (decode (now (c .before .before .before .before .before .before .before .before .before .before .before .before .before .before .before .args .recs))) (c .before .before .before .before .before .before .before .before .before .before .before .before .before .before .before .args .j)) (subst (λ (v : ℕ). 16 ≤ v) (c .before .before .before .before .before .before .before .before .before .before .before .kind-at .ensures) (c .before .before .before .before .before .before .before .before .before .before .if1 .left)) (subst (λ (v : ℕ). v ≤ 19) (c .before .before .before .before .before .before .before .before .before .before .before .kind-at .ensures) (c .before .before .before .before .before .before .before .before .before .if2 .left))) _ (c .before .before .before .before .before .before .before .before .before .before .before .kind-at .ensures) true (λ z. c .before .before .before .before .before .if3 .left (c .before .before .before .before .before .before .before .before .target-at .ensures ∙ z))
-    (sym (c .before .before .before .before .rank-of .ensures ∙ ap (rankIn (now (c .before .before .before .before .before .before .before .before .before .before .before .before .before .before .before .args .ranks))) (c .before .before .before .before .before .before .before .before .target-at .ensures)) ∙ c .before .before .before .if4 .left) (eq-eqb _ 1 (sym (c .before .get .ensures) ∙ c .if5 .taken))
+returns-5 c =
+    let k = c .before .before .before .before .before .before .before .before .before .before .before .before .before .before .before .args in
+    let kind = c .before .before .before .before .before .before .before .before .before .before .before .kind-at .ensures in
+    let low = subst (λ (v : ℕ). 16 ≤ v) kind (c .before .before .before .before .before .before .before .before .before .before .if1 .left) in
+    let high = subst (λ (v : ℕ). v ≤ 19) kind (c .before .before .before .before .before .before .before .before .before .if2 .left) in
+    let s = a-send (at (decode (now (k .recs))) (k .j)) low high in
+    let target = c .before .before .before .before .before .before .before .before .target-at .ensures in
+    let rank = c .before .before .before .before .rank-of .ensures ∙ ap (rankIn (now (k .ranks))) target in
+    may-told _ _ _ _ s _ kind true (λ z. c .before .before .before .before .before .if3 .left (target ∙ z)) (sym rank ∙ c .before .before .before .if4 .left)
+    (eq-eqb _ 1 (sym (c .before .get .ensures) ∙ c .if5 .taken))
 
 same-length-3 : tie.Need-same-length-3
 same-length-3 c = search needs
 
 returns-6 : tie.Need-returns-6
-returns-6 c = may-told _ _ _ _ (a-send (at (decode (now (c .before .before .before .before .before .before .before .before .before .before .before .before .before .before .before .args .recs))) (c .before .before .before .before .before .before .before .before .before .before .before .before .before .before .before .args .j)) (subst (λ (v : ℕ). 16 ≤ v) (c .before .before .before .before .before .before .before .before .before .before .before .kind-at .ensures) (c .before .before .before .before .before .before .before .before .before .before .if1 .left)) (subst (λ (v : ℕ). v ≤ 19) (c .before .before .before .before .before .before .before .before .before .before .before .kind-at .ensures) (c .before .before .before .before .before .before .before .before .before .if2 .left))) _ (c .before .before .before .before .before .before .before .before .before .before .before .kind-at .ensures) false (λ z. c .before .before .before .before .before .if3 .left (c .before .before .before .before .before .before .before .before .target-at .ensures ∙ z))
-    (sym (c .before .before .before .before .rank-of .ensures ∙ ap (rankIn (now (c .before .before .before .before .before .before .before .before .before .before .before .before .before .before .before .args .ranks))) (c .before .before .before .before .before .before .before .before .target-at .ensures)) ∙ c .before .before .before .if4 .left) (ne-eqb _ 1 (λ z. c .if5 .left (c .before .get .ensures ∙ z)))
+returns-6 c =
+    let k = c .before .before .before .before .before .before .before .before .before .before .before .before .before .before .before .args in
+    let kind = c .before .before .before .before .before .before .before .before .before .before .before .kind-at .ensures in
+    let low = subst (λ (v : ℕ). 16 ≤ v) kind (c .before .before .before .before .before .before .before .before .before .before .if1 .left) in
+    let high = subst (λ (v : ℕ). v ≤ 19) kind (c .before .before .before .before .before .before .before .before .before .if2 .left) in
+    let s = a-send (at (decode (now (k .recs))) (k .j)) low high in
+    let target = c .before .before .before .before .before .before .before .before .target-at .ensures in
+    let rank = c .before .before .before .before .rank-of .ensures ∙ ap (rankIn (now (k .ranks))) target in
+    may-told _ _ _ _ s _ kind false (λ z. c .before .before .before .before .before .if3 .left (target ∙ z)) (sym rank ∙ c .before .before .before .if4 .left)
+    (ne-eqb _ 1 (λ z. c .if5 .left (c .before .get .ensures ∙ z)))
 
 pub may-turn-spec : {M : Type 1} → statement M
 may-turn-spec =
