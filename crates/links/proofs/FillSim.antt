@@ -21,7 +21,7 @@ use Rattle.precedence.specs.Kinds.{isSend, starts}
 use Rattle.precedence.specs.Before.{Begins}
 use Rattle.precedence.specs.Table.{table, sets, blocked}
 use Rattle.precedence.specs.Sound.{Sound, Next}
-use Rattle.precedence.specs.Scan.{Scan, run, scanAt}
+use Rattle.precedence.specs.Scan.{Scan, run, scanFor, scanAt}
 use Rattle.precedence.proofs.Rows.{begins-later, begins-begun, begun-begins, begun-or-not, begun-only, transitive}
 use Rattle.precedence.proofs.ScanLaws.{scan-refuses, scan-gathers}
 use Rattle.precedence.proofs.Growing.{sound-zero, sound-next}
@@ -46,7 +46,7 @@ next-of x free = record {
 
 module _ {tr : List Record} {f : ℕ → ℕ} {n : ℕ} (g : Ranked tr f n) where
   -- ranks tell events that begin apart
-  one-to-one : (x y : ℕ) → Begins tr n x → Begins tr n y → f x ≡ f y → x ≡ y
+  pub one-to-one : (x y : ℕ) → Begins tr n x → Begins tr n y → f x ≡ f y → x ≡ y
   one-to-one x y b c e = go (lt-or-ge (b .position) (c .position)) (lt-or-ge (c .position) (b .position))
     where
       go : (b .position < c .position) ⊎ (c .position ≤ b .position) → (c .position < b .position) ⊎ (b .position ≤ c .position) → x ≡ y
@@ -78,10 +78,15 @@ module _ {tr : List Record} {f : ℕ → ℕ} {n : ℕ} (g : Ranked tr f n) wher
           let m : f u - 1 ≡ f q - 1 → ⊥ = λ e. d (one-to-one q u b c (omega arith)) in
           rw (ne-eqb q u d) (ne-eqb (f u - 1) (f q - 1) m)
 
+  -- rows of no rank have no bits
+  abbrev Spare : List ℕ → Type 0
+  Spare ws = (t v : ℕ) → ((x : ℕ) → Begins tr n x → v ≢ f x - 1) → bitOf ws t v ≡ false
+
   pub record Fills (i : ℕ) (ws last : List ℕ) : Type 0 where
     pub proper : Proper ws
     pub noted : Noted tr i last
     pub bits : (t u : ℕ) → Begins tr n t → Begins tr n u → bitOf ws (f t - 1) (f u - 1) ≡ table tr i t u
+    pub spare : Spare ws
 
   module _ (i : ℕ) (l : i < n) (s : Sound tr i) (x : Lawful tr i) (ws last : List ℕ) (z : Fills i ws last) where
     abbrev r : Record
@@ -90,6 +95,7 @@ module _ {tr : List Record} {f : ℕ → ℕ} {n : ℕ} (g : Ranked tr f n) wher
     record Linked (p q : ℕ) (ws′ : List ℕ) : Type 0 where
       proper′ : Proper ws′
       bits′ : (t u : ℕ) → Begins tr n t → Begins tr n u → bitOf ws′ (f t - 1) (f u - 1) ≡ (table tr i t u || (eqb q u && table tr i t p))
+      spare′ : Spare ws′
 
     -- a direct link from p, which has begun, to q, which has not
     link-tells : (p q : ℕ) → Begins tr i p → begun q (past tr i) ≡ false → Linked p q (linked (f p) (f q) ws)
@@ -105,6 +111,7 @@ module _ {tr : List Record} {f : ℕ → ℕ} {n : ℕ} (g : Ranked tr f n) wher
         go (inr k) = subst (Linked p q) (linked-to-none (f p) (f q) ws p-some (g .none q k)) (record {
           proper′ = z .proper;
           bits′ = λ t u a c. z .bits t u a c ∙ or-no (table tr i t u) ∙ ap (λ (v : Bool). table tr i t u || v) (sym (other t u c));
+          spare′ = z .spare;
         })
           where
             other : (t u : ℕ) → Begins tr n u → (eqb q u && table tr i t p) ≡ false
@@ -122,6 +129,8 @@ module _ {tr : List Record} {f : ℕ → ℕ} {n : ℕ} (g : Ranked tr f n) wher
               proper′ = proper-or (f p - 1) (f q - 1) a₁ a₂ ws (z .proper);
               bits′ = λ t u a d. takes-row (f p - 1) (f q - 1) a₁ a₂ ws (z .proper) (f t - 1) (f u - 1)
                   ∙ ap₂ (λ (v v′ : Bool). v || v′) (z .bits t u a d) (ap₂ (λ (v v′ : Bool). v && v′) (same-row q u c d) (z .bits t p a p-begins));
+              spare′ = λ t v d. takes-row (f p - 1) (f q - 1) a₁ a₂ ws (z .proper) t v
+                  ∙ ap₂ (λ (y y′ : Bool). y || (y′ && bitOf ws t (f p - 1))) (z .spare t v d) (ne-eqb v (f q - 1) (d q c));
             })
 
     -- the table after record i, by its kind
@@ -179,6 +188,7 @@ module _ {tr : List Record} {f : ℕ → ℕ} {n : ℕ} (g : Ranked tr f n) wher
               proper = v .proper′;
               noted = noted-next tr f i ws last small (z .noted);
               bits = λ t u c d. v .bits′ t u c d ∙ sym (next-join k t u);
+              spare = v .spare′;
             },
           )
 
@@ -192,6 +202,7 @@ module _ {tr : List Record} {f : ℕ → ℕ} {n : ℕ} (g : Ranked tr f n) wher
               proper = v .proper′;
               noted = noted-next tr f i ws last small (z .noted);
               bits = λ t u d o. v .bits′ t u d o ∙ sym (next-start a b c t u);
+              spare = v .spare′;
             },
           )
 
@@ -204,6 +215,7 @@ module _ {tr : List Record} {f : ℕ → ℕ} {n : ℕ} (g : Ranked tr f n) wher
               proper = subst Proper q (z .proper);
               noted = noted-next tr f i ws last small (z .noted);
               bits = λ t u d o. subst (λ (v : List ℕ). bitOf v (f t - 1) (f u - 1) ≡ table tr i t u) q (z .bits t u d o) ∙ sym (next-other a b c t u);
+              spare = subst Spare q (z .spare);
             },
           )
 
@@ -325,7 +337,7 @@ module _ {tr : List Record} {f : ℕ → ℕ} {n : ℕ} (g : Ranked tr f n) wher
         left = walk tr f e u i started (zeros 64) .words
 
         pass-is : run tr e (table tr i) has i s₀ ≡ scanAt tr i
-        unfolding scanAt s₀
+        unfolding scanFor s₀
         pass-is = refl
 
         words-begin : left ≡ stepWords tr f i ws last
@@ -334,14 +346,14 @@ module _ {tr : List Record} {f : ℕ → ℕ} {n : ℕ} (g : Ranked tr f n) wher
 
         stuck-begin : stepStuck tr f i ws last ≡ blocked tr i
         unfolding stepStuck
-        stuck-begin = rw a (ap (λ (y : Walked). y .stuck) begun-is ∙ done .stuck-same ∙ ap (λ (y : Scan). y .stuck) pass-is ∙ scan-refuses tr i)
+        stuck-begin = rw a (ap (λ (y : Walked). y .stuck) begun-is ∙ done .stuck-same ∙ ap (λ (y : Scan). y .stuck) pass-is ∙ scan-refuses tr i e)
 
         module _ (free : blocked tr i ≡ false) where
           sound-on : Sound tr (suc i)
           sound-on = sound-next tr i s (next-of x (λ h. free))
 
           not-refused : run tr e (table tr i) has i s₀ .stuck ≡ false
-          not-refused = ap (λ (y : Scan). y .stuck) pass-is ∙ scan-refuses tr i ∙ free
+          not-refused = ap (λ (y : Scan). y .stuck) pass-is ∙ scan-refuses tr i e ∙ free
 
           gathers : (t : ℕ) → table tr (suc i) t e ≡ (eqb t e || run tr e (table tr i) has i s₀ .row t)
           gathers t = scan-gathers tr i (holds a) free t ∙ ap (λ (y : Scan). eqb t e || y .row t) (sym pass-is)
@@ -407,9 +419,19 @@ module _ {tr : List Record} {f : ℕ → ℕ} {n : ℕ} (g : Ranked tr f n) wher
               proper = subst Proper words-begin (done .proper-left not-refused);
               noted = noted-next tr f i ws last small (z .noted);
               bits = λ t v b c. subst (λ (y : List ℕ). bitOf y (f t - 1) (f v - 1) ≡ table tr (suc i) t v) words-begin (all t v b c (decide-eq e v));
+              spare = subst Spare words-begin spared;
             },
           )
             where
+              and-no : (y : Bool) → (y && false) ≡ false
+              and-no true = refl
+              and-no false = refl
+
+              spared : Spare (walk tr f e u i started (zeros 64) .words)
+              spared t v d =
+                  done .frame-left not-refused t v (d e e-begins) ∙ started-bit t v
+                  ∙ ap₂ (λ (y y′ : Bool). y || (eqb t (u - 1) && y′)) (z .spare t v d) (ne-eqb v (u - 1) (d e e-begins)) ∙ and-no (eqb t (u - 1))
+
               all : (t v : ℕ) → Begins tr n t → Begins tr n v → (e ≡ v) ⊎ (e ≢ v)
                   → bitOf (walk tr f e u i started (zeros 64) .words) (f t - 1) (f v - 1) ≡ table tr (suc i) t v
               all t v b c (inl q) =
@@ -433,11 +455,24 @@ module _ {tr : List Record} {f : ℕ → ℕ} {n : ℕ} (g : Ranked tr f n) wher
           go (inr a) (inr b) (inr c) = inr (goes-other a b c)
 
   module _ (lawful : (i : ℕ) → i < n → Lawful tr i) (small : n ≤ 65535) where
-    fills : (k i : ℕ) (ws last : List ℕ) → i + k ≡ n → Sound tr i → Fills i ws last → Decides tr f n (fillFrom tr f i k ws last)
+    -- what filling tells, and of a whole table that there is room for more
+    record Ends (done : spec.Filled) : Type 0 where
+      decides : Decides tr f n done
+      whole : done .stop ≡ n → Proper (done .words) × Spare (done .words)
+
+    fills : (k i : ℕ) (ws last : List ℕ) → i + k ≡ n → Sound tr i → Fills i ws last → Ends (fillFrom tr f i k ws last)
     unfolding fillFrom
     fills zero i ws last q s z =
         let m : i ≡ n = omega arith in
-        record { inside = omega arith; sound = s; refuses = λ h. absurd (omega arith); tells = λ o t u b c. z .bits t u b c ∙ ap (λ (y : ℕ). table tr y t u) m }
+        record {
+          decides = record {
+            inside = omega arith;
+            sound = s;
+            refuses = λ h. absurd (omega arith);
+            tells = λ o t u b c. z .bits t u b c ∙ ap (λ (y : ℕ). table tr y t u) m;
+          };
+          whole = λ h. (z .proper, z .spare);
+        }
     fills (suc k) i ws last q s z =
         go (step i (omega arith) s (lawful i (omega arith)) ws last z (omega arith))
         (fills k (suc i) (stepWords tr f i ws last) (stepLast tr f i ws last) (omega arith))
@@ -445,9 +480,12 @@ module _ {tr : List Record} {f : ℕ → ℕ} {n : ℕ} (g : Ranked tr f n) wher
         go : ((stepStuck tr f i ws last ≡ true) × T (isBegin (at tr i)) × (blocked tr i ≡ true))
             ⊎ ((stepStuck tr f i ws last ≡ false) × Sound tr (suc i) × Fills (suc i) (stepWords tr f i ws last) (stepLast tr f i ws last))
             → (Sound tr (suc i) → Fills (suc i) (stepWords tr f i ws last) (stepLast tr f i ws last)
-            → Decides tr f n (fillFrom tr f (suc i) k (stepWords tr f i ws last) (stepLast tr f i ws last)))
-            → Decides tr f n (spec.filledIf (stepStuck tr f i ws last) (record { stop = i; words = stepWords tr f i ws last }) (fillFrom tr f (suc i) k (stepWords tr f i ws last) (stepLast tr f i ws last)))
-        go (inl y) h = rw (y .0) (record { inside = omega arith; sound = s; refuses = λ o. (y .1, y .2); tells = λ o. absurd (omega (arith, o)) })
+            → Ends (fillFrom tr f (suc i) k (stepWords tr f i ws last) (stepLast tr f i ws last)))
+            → Ends (spec.filledIf (stepStuck tr f i ws last) (record { stop = i; words = stepWords tr f i ws last }) (fillFrom tr f (suc i) k (stepWords tr f i ws last) (stepLast tr f i ws last)))
+        go (inl y) h = rw (y .0) (record {
+          decides = record { inside = omega arith; sound = s; refuses = λ o. (y .1, y .2); tells = λ o. absurd (omega (arith, o)) };
+          whole = λ o. absurd (omega (arith, o));
+        })
         go (inr y) h = rw (y .0) (h (y .1) (y .2))
 
     none-noted : Noted tr 0 (zeros 1025)
@@ -459,7 +497,11 @@ module _ {tr : List Record} {f : ℕ → ℕ} {n : ℕ} (g : Ranked tr f n) wher
 
     at-first : Fills 0 (zeros 8704) (zeros 1025)
     unfolding table
-    at-first = record { proper = proper-zeros; noted = none-noted; bits = λ t u b c. no-bit 8704 (f t - 1) (f u - 1) }
+    at-first = record { proper = proper-zeros; noted = none-noted; bits = λ t u b c. no-bit 8704 (f t - 1) (f u - 1); spare = λ t v d. no-bit 8704 t v }
 
     pub fill-decides : Decides tr f n (fillFrom tr f 0 n (zeros 8704) (zeros 1025))
-    fill-decides = fills n 0 (zeros 8704) (zeros 1025) (omega arith) (sound-zero tr) at-first
+    fill-decides = fills n 0 (zeros 8704) (zeros 1025) (omega arith) (sound-zero tr) at-first .decides
+
+    pub fill-whole : fillFrom tr f 0 n (zeros 8704) (zeros 1025) .stop ≡ n
+        → Proper (fillFrom tr f 0 n (zeros 8704) (zeros 1025) .words) × Spare (fillFrom tr f 0 n (zeros 8704) (zeros 1025) .words)
+    fill-whole = fills n 0 (zeros 8704) (zeros 1025) (omega arith) (sound-zero tr) at-first .whole

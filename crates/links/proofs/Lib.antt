@@ -4,3 +4,5 @@ pub mod WalkSim
 pub mod LastSend
 pub mod FillSim
 pub mod RankSim
+pub mod BeginLaws
+pub mod BeginSim

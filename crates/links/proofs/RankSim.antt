@@ -147,6 +147,16 @@ module _ (tr : List Record) where
         let k = count-rises i n (omega arith) in
         ranks-next i (lawful i l) (omega arith) (ranks-all i (omega arith))
 
+    above : (x : ℕ) (b : Begins tr n x) → suc (count (b .position)) ≤ count n
+    above x b =
+        let k = count-begin (b .position) (passed (isBegin (at tr (b .position))) (b .is-begin)) in
+        let m = count-rises (suc (b .position)) n (b .inside) in
+        omega arith
+
+    -- no rank is past the number of begins
+    pub ranks-reach : (x : ℕ) → Begins tr n x → rankIn (ranksUpto tr n) x ≤ count n
+    ranks-reach x b = let k = ranks-all n (omega arith) .some x b in let m = above x b in omega arith
+
     pub ranked : Ranked tr (rankIn (ranksUpto tr n)) n
     ranked =
         let z = ranks-all n (omega arith) in
@@ -157,12 +167,6 @@ module _ (tr : List Record) where
           rises = λ x y b c h. let k = z .some x b in let m = z .some y c in let o = steps x y b c h in omega arith;
         }
       where
-        above : (x : ℕ) (b : Begins tr n x) → suc (count (b .position)) ≤ count n
-        above x b =
-            let k = count-begin (b .position) (passed (isBegin (at tr (b .position))) (b .is-begin)) in
-            let m = count-rises (suc (b .position)) n (b .inside) in
-            omega arith
-
         steps : (x y : ℕ) (b : Begins tr n x) (c : Begins tr n y) → b .position < c .position → suc (count (b .position)) ≤ count (c .position)
         steps x y b c h =
             let k = count-begin (b .position) (passed (isBegin (at tr (b .position))) (b .is-begin)) in
@@ -182,8 +186,8 @@ module _ {tr : List Record} {f : ℕ → ℕ} {n : ℕ} {done : Filled} (d : Dec
     free-before = λ i l b k.
         let m : i ≤ done .stop = omega arith in
         let s = shorter m (d .sound) in
-        subst T (d .sound .unblocked i l b) (refusal-decides s .1 k);
-    refused-there = λ l. let r = d .refuses l in (r .0, refusal-decides (d .sound) .0 (holds (r .1)));
+        subst T (d .sound .unblocked i l b) (refusal-decides s (at tr i .first) .1 k);
+    refused-there = λ l. let r = d .refuses l in (r .0, refusal-decides (d .sound) (at tr (done .stop) .first) .0 (holds (r .1)));
     happens-before = λ q t u b c.
         let e = d .tells q t u b c in
         let s = subst (Sound tr) q (d .sound) in

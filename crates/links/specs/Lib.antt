@@ -1,3 +1,4 @@
 pub mod Rule
 pub mod Fill
+pub mod Begin
 pub mod Promise

@@ -2,15 +2,16 @@
 use Prim.Native.Nat.{ℕ, _-_, _≤_, _<_}
 use mathlib.Core.Path.{_≡_}
 use mathlib.Core.Logic.{_↔_}
-use mathlib.Core.Bool.{true, false}
+use mathlib.Core.Bool.{Bool, true, false}
 use mathlib.Core.List.{List}
 use lib.Dec.{T}
+use lib.ListN.{length}
 use Rattle.records.specs.declared.Record.{Record}
 use Rattle.records.specs.Records.{at, past, isBegin, isJoin, begun}
 use Rattle.bits.specs.Table.{bitOf}
 use Rattle.precedence.specs.Kinds.{starts}
-use Rattle.precedence.specs.Before.{Begins, Before, Blocked}
-use Rattle.precedence.specs.Table.{table, blocked}
+use Rattle.precedence.specs.Before.{Begins, Before, BlockedFor, Blocked}
+use Rattle.precedence.specs.Table.{table, blockedFor, blocked}
 use Rattle.precedence.specs.Sound.{Sound}
 use Rattle.links.specs.Fill.{Filled}
 
@@ -44,3 +45,8 @@ pub record DecidesOrder (tr : List Record) (f : ℕ → ℕ) (n : ℕ) (done : F
   pub free-before : (i : ℕ) → i < done .stop → T (isBegin (at tr i)) → Blocked tr i → ⊥
   pub refused-there : done .stop < n → T (isBegin (at tr (done .stop))) × Blocked tr (done .stop)
   pub happens-before : done .stop ≡ n → (t u : ℕ) → Begins tr n t → Begins tr n u → T (bitOf (done .words) (f t - 1) (f u - 1)) ↔ Before tr n t u
+
+-- The same for event e, were it to begin after all records: what is told is the computed test and the literal one.
+pub record BeginDecides (tr : List Record) (e : ℕ) (stuck : Bool) : Type 0 where
+  pub computed : stuck ≡ blockedFor tr (length tr) e
+  pub literal : T stuck ↔ BlockedFor tr (length tr) e

@@ -18,6 +18,7 @@ ghost use Rattle.records.specs.Bytes.{decode};
 ghost use Rattle.records.specs.Records.{at};
 ghost use Rattle.links.specs.Rule.{rankIn, missing, behind, reach, Turned, Leaves, walk};
 ghost use Rattle.links.specs.Fill.{linked, beginRow, Stepped, Stops, fillFrom, fillAll};
+ghost use Rattle.links.specs.Begin.{sendTo, lastSend, Mayed, may, tableBlocked, beginBlocked};
 
 // The event of rank u comes behind that of rank t; true where that has not begun.
 fn put_behind(table: &mut [u64], t: u16, u: u16) -> bool
@@ -224,4 +225,117 @@ pub fn first_blocked(recs: &[u8]) -> usize
     let all = ranks(recs);
     let mut table = no_bits();
     fill(recs, &all, &mut table)
+}
+
+// Record j is a send to e.
+fn is_send_to(recs: &[u8], j: usize, e: EventId) -> bool
+    ensures { λ r. ⌜ r ≡ sendTo (e .0) (at (decode (now (recs .entry))) j) ⌝ }
+{
+    let kind = access::kind_at(recs, j);
+    if kind < 16 {
+        return false;
+    }
+    if 19 < kind {
+        return false;
+    }
+    let target = access::target_at(recs, j);
+    if target.0 == e.0 {
+        return true;
+    }
+    false
+}
+
+// One more than the position of the last send to e, or 0.
+fn last_send_to(recs: &[u8], e: EventId) -> usize
+    ensures { λ r. ⌜ r ≡ lastSend (decode (now (recs .entry))) (e .0) (length (decode (now (recs .entry)))) ⌝ }
+{
+    let mut j = access::count(recs);
+    while 0 < j {
+        if is_send_to(recs, j - 1, e) {
+            return j;
+        }
+        j -= 1;
+    }
+    0
+}
+
+// Record j on the way down, where `sent` marks the links that send to e further on; true where such a link sends to another event that has not begun.
+fn may_turn(recs: &[u8], ranks: &[u16], j: usize, e: EventId, sent: &mut [u16]) -> bool
+    ensures { λ r. ⌜ Mayed (rankIn (now (ranks .entry))) (e .0) (at (decode (now (recs .entry))) j) (now (sent .entry)) r (now (sent .exit)) ⌝ }
+{
+    let kind = access::kind_at(recs, j);
+    if kind < 16 {
+        return false;
+    }
+    if 19 < kind {
+        return false;
+    }
+    let target = access::target_at(recs, j);
+    if target.0 == e.0 {
+        numbers::put(sent, (kind - 16) as usize, 1);
+        return false;
+    }
+    if rank_of(ranks, target) != 0 {
+        return false;
+    }
+    if numbers::get(sent, (kind - 16) as usize) == 1 {
+        return true;
+    }
+    false
+}
+
+fn may_walk(recs: &[u8], ranks: &[u16], from: usize, e: EventId, sent: &mut [u16]) -> bool
+    ensures { λ r. ⌜ r ≡ may (decode (now (recs .entry))) (rankIn (now (ranks .entry))) (e .0) from (now (sent .entry)) ⌝ }
+{
+    let mut j = from;
+    while 0 < j {
+        j -= 1;
+        if may_turn(recs, ranks, j, e, sent) {
+            return true;
+        }
+    }
+    false
+}
+
+// No link marked.
+fn no_links() -> [u16; 4]
+    ensures { λ r. ⌜ r ≡ zeros 4 ⌝ }
+{
+    [0; 4]
+}
+
+// A link sends to another event that has not begun, before one of the first `from` records sends to e on it. Where not, no order needs to be known.
+fn may_block(recs: &[u8], ranks: &[u16], from: usize, e: EventId) -> bool
+    ensures { λ r. ⌜ r ≡ may (decode (now (recs .entry))) (rankIn (now (ranks .entry))) (e .0) from (zeros 4) ⌝ }
+{
+    let mut sent = no_links();
+    may_walk(recs, ranks, from, e, &mut sent)
+}
+
+// The table over all records, and the walk for e, whose row would be u.
+fn blocked_by_table(recs: &[u8], ranks: &[u16], from: usize, e: EventId, u: usize) -> bool
+    ensures { λ r. ⌜ r ≡ tableBlocked (decode (now (recs .entry))) (rankIn (now (ranks .entry))) from (e .0) u ⌝ }
+{
+    if 1023 < u {
+        return false;
+    }
+    let mut table = no_bits();
+    fill(recs, ranks, &mut table);
+    put(&mut table, u, u);
+    link_rule(recs, ranks, from, e, (u + 1) as u16, &mut table)
+}
+
+// 31 would refuse the begin of e after these records.
+pub fn begin_blocked(recs: &[u8], e: EventId) -> bool
+    ensures { λ r. ⌜ r ≡ beginBlocked (decode (now (recs .entry))) (e .0) ⌝ }
+{
+    let from = last_send_to(recs, e);
+    if from == 0 {
+        return false;
+    }
+    let all = ranks(recs);
+    if !may_block(recs, &all, from, e) {
+        return false;
+    }
+    blocked_by_table(recs, &all, from, e, access::count_begins(recs))
 }

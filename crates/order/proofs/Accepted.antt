@@ -23,7 +23,7 @@ use Rattle.order.specs.LinkRule.{linkedTrace}
 use Rattle.order.proofs.LinkRuleLaws.{without-sends}
 use Rattle.precedence.specs.Kinds.{isSend, starts, sameLink}
 use Rattle.precedence.specs.Before.{Begins, same, start, join, behind, path, HappensBefore}
-use Rattle.precedence.specs.Table.{table, missing, blocked}
+use Rattle.precedence.specs.Table.{table, missing, blockedFor, blocked}
 use Rattle.precedence.specs.Sound.{Whole, Next}
 use Rattle.precedence.proofs.Steps.{puts}
 use Rattle.precedence.proofs.Rows.{begun-begins}
@@ -76,7 +76,7 @@ module _ {tr : List Record} (a : Acceptable tr) where
       has-intro tr isBegin (at tr i .second) i (g .at-position) (omega arith) (g .passes) (g .event ∙ f .event)
 
   not-blocked : (i : ℕ) → i < length tr → T (blocked tr i) → ⊥
-  unfolding blocked sameLink
+  unfolding blockedFor sameLink
   not-blocked i h b =
       let p = puts tr (table tr i) i (at tr i .first) (missing tr i (at tr i .first)) b in
       let k = p .inside in

@@ -13,7 +13,7 @@ use Rattle.slices.proofs.Tests.{both, either, passed}
 use Rattle.precedence.specs.Kinds.{starts, sameLink}
 use Rattle.precedence.specs.Before.{Before}
 use Rattle.precedence.specs.Sound.{Sound, Next}
-use Rattle.precedence.specs.Table.{ahead, someTarget, sets, table, happensBefore, blocked}
+use Rattle.precedence.specs.Table.{ahead, someTarget, sets, table, happensBefore, blocked, blockedFor}
 use Rattle.precedence.proofs.Growing.{sound-zero, sound-next}
 use Rattle.precedence.proofs.Rows.{begun-begins}
 use Rattle.precedence.proofs.Exact as exact
@@ -46,15 +46,15 @@ not-back = refl
 
 -- the second target may not begin first, on one link
 second-first : blocked (two 16 16 3 2) 4 ≡ true
-unfolding blocked table sets someTarget ahead some sameLink past begun has
+unfolding blockedFor table sets someTarget ahead some sameLink past begun has
 second-first = refl
 
 second-first-else : blocked (two 16 17 3 2) 4 ≡ false
-unfolding blocked table sets someTarget ahead some sameLink past begun has
+unfolding blockedFor table sets someTarget ahead some sameLink past begun has
 second-first-else = refl
 
 first-first : blocked (two 16 16 2 3) 4 ≡ false
-unfolding blocked table sets someTarget ahead some sameLink past begun has
+unfolding blockedFor table sets someTarget ahead some sameLink past begun has
 first-first = refl
 
 -- 1 sends to 2, 3, 2 on one link: neither may begin
@@ -62,11 +62,11 @@ abbrev thrice : ℕ → List Record
 thrice x = rec 1 1 0 ∷ rec 19 1 2 ∷ rec 19 1 3 ∷ rec 19 1 2 ∷ rec 2 1 0 ∷ rec 1 x 0 ∷ []
 
 neither-two : blocked (thrice 2) 5 ≡ true
-unfolding blocked table sets someTarget ahead some sameLink past begun has
+unfolding blockedFor table sets someTarget ahead some sameLink past begun has
 neither-two = refl
 
 neither-three : blocked (thrice 3) 5 ≡ true
-unfolding blocked table sets someTarget ahead some sameLink past begun has
+unfolding blockedFor table sets someTarget ahead some sameLink past begun has
 neither-three = refl
 
 -- Two hops: 1 sends to 2 and 3 on link 0; these send to 4 and 5 on link 1. So 4 happens before 5, by 2 before 3, which the links alone order.
@@ -151,11 +151,11 @@ sound-by tr (suc n) h = let p = both (soundTest tr n) (nextTest tr n) h in sound
 
 -- two targets of one link, and the two hops
 queued-sound : Sound (two 16 16 2 3) 8
-unfolding soundTest nextTest implies atBegin atJoin atStart close blocked table sets someTarget ahead some sameLink past begun has
+unfolding soundTest nextTest implies atBegin atJoin atStart close blockedFor table sets someTarget ahead some sameLink past begun has
 queued-sound = sound-by (two 16 16 2 3) 8 tt
 
 hops-sound : Sound hops 14
-unfolding soundTest nextTest implies atBegin atJoin atStart close blocked table sets someTarget ahead some sameLink past begun has
+unfolding soundTest nextTest implies atBegin atJoin atStart close blockedFor table sets someTarget ahead some sameLink past begun has
 hops-sound = sound-by hops 14 tt
 
 hops-before : Before hops 14 4 5

@@ -11,7 +11,7 @@ use Rattle.records.specs.Records.{at, past, isBegin, isJoin, begun}
 use Rattle.slices.proofs.Tests.{both, or-left, or-right, eq→eqb, same}
 use Rattle.precedence.specs.Kinds.{starts, sameLink}
 use Rattle.precedence.specs.Before.{Begins}
-use Rattle.precedence.specs.Table.{table, missing, blocked}
+use Rattle.precedence.specs.Table.{table, missing, blocked, blockedFor}
 use Rattle.precedence.specs.Sound.{Sound}
 use Rattle.precedence.specs.Renamed.{Renamed}
 use Rattle.precedence.proofs.Steps.{Puts, puts, put, New, kept, started, joined, own, linked, new, set, none}
@@ -257,7 +257,7 @@ module _ {f : ℕ → ℕ} {tr tr′ : List Record} {m n : ℕ} (l : m ≤ n) (s
 
     -- refusal 31 is kept
     pub renamed-blocked : blocked tr′ m ≡ blocked tr m
-    unfolding blocked e
+    unfolding blockedFor e
     renamed-blocked =
         rw (w .firsts m h)
         (same _ _

@@ -15,7 +15,7 @@ use Rattle.records.proofs.Positions.{lt-or-ge}
 use Rattle.slices.proofs.Tests.{both, either, or-right, decide-eq, passed}
 use Rattle.precedence.specs.Kinds.{isSend, starts, sameLink}
 use Rattle.precedence.specs.Before.{Begins}
-use Rattle.precedence.specs.Table.{table, missing, blocked}
+use Rattle.precedence.specs.Table.{table, missing, blocked, blockedFor}
 use Rattle.precedence.specs.Sound.{Sound}
 use Rattle.precedence.proofs.Steps.{put, New, kept, started, joined, own, linked, new, set, none}
 
@@ -171,7 +171,7 @@ module _ {tr : List Record} {n : ℕ} (s : Sound tr n) where
   -- what a link puts e behind has begun at e's begin, or is e
   pub target-begun : (i x y : ℕ) → i < n → T (isBegin (at tr i)) → x < y → y < i → T (sameLink (at tr x) (at tr y)) → at tr y .second ≡ at tr i .first
       → T (table tr i (at tr x .first) (at tr y .first)) → (at tr x .second ≡ at tr i .first) ⊎ Begins tr i (at tr x .second)
-  unfolding blocked
+  unfolding blockedFor
   target-begun i x y l b m k c q h = go (decide-eq v e) (begun-or-not tr v i)
     where
       e : ℕ

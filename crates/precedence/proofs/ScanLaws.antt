@@ -12,8 +12,8 @@ use Rattle.records.specs.Records.{at, past, isBegin, begun}
 use Rattle.records.proofs.Positions as positions
 use Rattle.slices.proofs.Tests.{both, and, either, or-left, or-right, eq→eqb, decide-eq, same}
 use Rattle.precedence.specs.Kinds.{isSend, sameLink}
-use Rattle.precedence.specs.Table.{Table, table, missing, blocked}
-use Rattle.precedence.specs.Scan.{Scan, hit, reached, turn, run, scanAt, ScanRefuses, ScanGathers}
+use Rattle.precedence.specs.Table.{Table, table, missing, blocked, blockedFor}
+use Rattle.precedence.specs.Scan.{Scan, hit, reached, turn, run, scanFor, scanAt, ScanRefuses, ScanGathers}
 use Rattle.precedence.proofs.Steps.{Puts, puts, put, New, kept, started, joined, own, linked, new, set}
 use Rattle.precedence.proofs.Rows.{begin-no-fork, begin-no-join, missing-is}
 
@@ -219,21 +219,26 @@ module _ (tr : List Record) (e : ℕ) (b : Table) (q : ℕ → Bool) where
       }
 
 module _ (tr : List Record) (i : ℕ) where
-  abbrev e : ℕ
-  e = at tr i .first
-
   abbrev has : ℕ → Bool
   has v = begun v (past tr i)
 
-  pub scan-refuses : ScanRefuses tr i
-  unfolding scanAt blocked
-  scan-refuses =
-      run-stuck tr e (table tr i) has i (record { reach = λ k x. false; row = λ t. table tr i t e; stuck = false })
-      ∙ same (hits tr e (table tr i) (λ v. not (has v)) i (λ k x. false)) (blocked tr i)
+  -- whatever e's row is
+  pub row-aside : (e : ℕ) (row : ℕ → Bool) → run tr e (table tr i) has i (record { reach = λ k x. false; row = row; stuck = false }) .stuck ≡ blockedFor tr i e
+  unfolding blockedFor
+  row-aside e row =
+      run-stuck tr e (table tr i) has i (record { reach = λ k x. false; row = row; stuck = false })
+      ∙ same (hits tr e (table tr i) (λ v. not (has v)) i (λ k x. false)) (blockedFor tr i e)
       (λ h. put tr (table tr i) i e (missing tr i e)
       (hit-puts tr e (table tr i) (λ v. not (has v)) i (found tr e (table tr i) (λ v. not (has v)) i (λ k x. false) h)))
       (λ h. made tr e (table tr i) (λ v. not (has v)) i (λ k x. false)
       (puts-hit tr e (table tr i) (λ v. not (has v)) i (puts tr (table tr i) i e (missing tr i e) h)))
+
+  pub scan-refuses : (e : ℕ) → ScanRefuses tr i e
+  unfolding scanFor
+  scan-refuses e = row-aside e (λ t. table tr i t e)
+
+  abbrev e : ℕ
+  e = at tr i .first
 
   module _ (start : T (isBegin (at tr i))) (free : blocked tr i ≡ false) (t : ℕ) where
     abbrev q : ℕ → Bool
@@ -246,11 +251,11 @@ module _ (tr : List Record) (i : ℕ) where
     more = hits tr e (table tr i) q i (λ k x. false)
 
     row-is : scanAt tr i .row t ≡ (old || more)
-    unfolding scanAt more
+    unfolding scanFor more
     row-is = run-row tr e (table tr i) has t i (record { reach = λ k x. false; row = λ t. table tr i t e; stuck = false })
 
     behind-more : Puts tr (table tr i) i e (table tr i t) → T (old || more)
-    unfolding more blocked
+    unfolding more blockedFor
     behind-more p = go (decide-eq v e) (positions.decide (has v))
       where
         v : ℕ

@@ -11,9 +11,9 @@ use Rattle.records.specs.declared.Record.{Record}
 use Rattle.records.specs.Records.{at, past, begun}
 use Rattle.slices.proofs.Tests.{both, and, either, or-left, or-right, eq→eqb, decide-eq}
 use Rattle.precedence.specs.Kinds.{sameLink}
-use Rattle.precedence.specs.Before.{Begins, Before, same, start, join, behind, path, RecordBefore, across, within, HappensBefore, Blocked, Ruled}
+use Rattle.precedence.specs.Before.{Begins, Before, same, start, join, behind, path, RecordBefore, across, within, HappensBefore, BlockedFor, Ruled}
 use Rattle.precedence.specs.Before.{Link, starts-it, joins-it, behind-it}
-use Rattle.precedence.specs.Table.{table, missing, blocked, happensBefore}
+use Rattle.precedence.specs.Table.{table, missing, blockedFor, happensBefore}
 use Rattle.precedence.specs.Sound.{Sound, Whole}
 use Rattle.precedence.specs.Laws.{TableDecides, TestDecides, RefusalDecides, Settled, Antisymmetric, Forward, Least}
 use Rattle.precedence.proofs.Steps.{puts, put}
@@ -80,12 +80,12 @@ module _ {tr : List Record} {n : ℕ} (s : Sound tr n) where
       (λ h. k (stays tr m n t u l (exact.complete w h b)) c, λ h. exact.sound w t u (final s m n t u l (omega arith) b (exact.complete s h c)) b)
 
   -- what the sends put behind what is not there
-  refusal-says : T (blocked tr n) → Blocked tr n
-  unfolding blocked
-  refusal-says h =
-      let p = puts tr (table tr n) n (at tr n .first) (missing tr n (at tr n .first)) h in
+  refusal-says : (e : ℕ) → T (blockedFor tr n e) → BlockedFor tr n e
+  unfolding blockedFor
+  refusal-says e h =
+      let p = puts tr (table tr n) n e (missing tr n e) h in
       let v = at tr (p .x) .second in
-      let m = both (not (eqb v (at tr n .first))) (not (begun v (past tr n))) (p .passes) in
+      let m = both (not (eqb v e)) (not (begun v (past tr n))) (p .passes) in
       let k = p .inside in
       let l = p .earlier in
       record {
@@ -97,22 +97,22 @@ module _ {tr : List Record} {n : ℕ} (s : Sound tr n) where
         in-order =
             exact.record-told s n (p .x) (p .y) (exact.told s n (omega arith)) k (link-second (at tr (p .x)) (at tr (p .y)) (p .one-link)) l (p .senders);
         to = p .to;
-        another = λ e. not-both (eqb v (at tr n .first)) (m .0) (eq→eqb v (at tr n .first) e);
+        another = λ q. not-both (eqb v e) (m .0) (eq→eqb v e q);
         not-begun = λ b. not-both (begun v (past tr n)) (m .1) (subst T (sym (begins-begun tr v n b)) tt);
       }
 
-  refusal-finds : Blocked tr n → T (blocked tr n)
-  unfolding blocked
-  refusal-finds r = go (begun-or-not tr (at tr (r .x) .second) n)
+  refusal-finds : (e : ℕ) → BlockedFor tr n e → T (blockedFor tr n e)
+  unfolding blockedFor
+  refusal-finds e r = go (begun-or-not tr (at tr (r .x) .second) n)
     where
-      go : Begins tr n (at tr (r .x) .second) ⊎ (begun (at tr (r .x) .second) (past tr n) ≡ false) → T (blocked tr n)
+      go : Begins tr n (at tr (r .x) .second) ⊎ (begun (at tr (r .x) .second) (past tr n) ≡ false) → T (blockedFor tr n e)
       go (inl b) = absurd (r .not-begun b)
       go (inr f) =
           let c = r .one-link in
           let a = link-first (at tr (r .x)) (at tr (r .y)) c in
           let b = link-second (at tr (r .x)) (at tr (r .y)) c in
           let p = exact.record-complete s (r .in-order) (r .x-inside) (r .y-inside) a b in
-          put tr (table tr n) n (at tr n .first) (missing tr n (at tr n .first)) (record {
+          put tr (table tr n) n e (missing tr n e) (record {
             x = r .x;
             y = r .y;
             earlier = p .0;
@@ -120,11 +120,11 @@ module _ {tr : List Record} {n : ℕ} (s : Sound tr n) where
             one-link = c;
             to = r .to;
             senders = p .1;
-            passes = missing-is tr n (at tr n .first) (at tr (r .x) .second) (r .another) f;
+            passes = missing-is tr n e (at tr (r .x) .second) (r .another) f;
           })
 
-  pub refusal-decides : RefusalDecides tr n
-  refusal-decides = (refusal-says, refusal-finds)
+  pub refusal-decides : (e : ℕ) → RefusalDecides tr n e
+  refusal-decides e = (refusal-says e, refusal-finds e)
 
 -- the order is least, with no more asked
 module _ (tr : List Record) (n : ℕ) (R : ℕ → ℕ → Type 0) (w : Ruled tr n R) where

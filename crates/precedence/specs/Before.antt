@@ -41,17 +41,21 @@ abbrev pub HappensBefore : List Record → ℕ → ℕ → Type 0
 HappensBefore tr t u = Before tr (length tr) t u
 
 -- "Refusal 31, following 7 on a begin and placed there, is for an event that a link puts behind another target not yet begun."
--- The begin is record i; what stands before it decides.
-pub record Blocked (tr : List Record) (i : ℕ) : Type 0 where
+-- For event e, were it to begin after the first i records.
+pub record BlockedFor (tr : List Record) (i e : ℕ) : Type 0 where
   pub x : ℕ
   pub y : ℕ
   pub x-inside : x < i
   pub y-inside : y < i
   pub one-link : T (sameLink (at tr x) (at tr y))
   pub in-order : RecordBefore tr i x y
-  pub to : at tr y .second ≡ at tr i .first
-  pub another : at tr x .second ≢ at tr i .first
+  pub to : at tr y .second ≡ e
+  pub another : at tr x .second ≢ e
   pub not-begun : Begins tr i (at tr x .second) → ⊥
+
+-- The begin is record i; what stands before it decides.
+abbrev pub Blocked : List Record → ℕ → Type 0
+Blocked tr i = BlockedFor tr i (at tr i .first)
 
 -- A direct link from one event action to another, those by the link rule included.
 pub data Link (tr : List Record) (n : ℕ) (t u : ℕ) : Type 0 where

@@ -6,8 +6,8 @@ use mathlib.Core.List.{List}
 use lib.Dec.{T}
 use Rattle.records.specs.declared.Record.{Record}
 use Rattle.records.specs.Records.{at, eventOf}
-use Rattle.precedence.specs.Before.{Begins, Before, HappensBefore, Blocked, Ruled}
-use Rattle.precedence.specs.Table.{table, happensBefore, blocked}
+use Rattle.precedence.specs.Before.{Begins, Before, HappensBefore, BlockedFor, Ruled}
+use Rattle.precedence.specs.Table.{table, happensBefore, blockedFor}
 
 -- After n records the row of an event that has begun is what happens before it.
 abbrev pub TableDecides : List Record → ℕ → Type 0
@@ -18,8 +18,8 @@ abbrev pub TestDecides : List Record → Type 0
 TestDecides tr = (t u : ℕ) → T (happensBefore tr t u) ↔ HappensBefore tr t u
 
 -- Refusal 31 decides what it is for.
-abbrev pub RefusalDecides : List Record → ℕ → Type 0
-RefusalDecides tr i = T (blocked tr i) ↔ Blocked tr i
+abbrev pub RefusalDecides : List Record → ℕ → ℕ → Type 0
+RefusalDecides tr i e = T (blockedFor tr i e) ↔ BlockedFor tr i e
 
 -- Records after m change nothing in what happens before an event that has begun by then.
 abbrev pub Settled : List Record → ℕ → ℕ → Type 0
