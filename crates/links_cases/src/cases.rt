@@ -117,6 +117,8 @@ pub(crate) fn show(recs: &[u8]) {
     number(links::first_blocked(recs));
     word(b" of ");
     number(records::access::count(recs));
+    word(b", differences ");
+    number(compare(recs, nothing()).differences);
     word(b":");
     show_pairs(&order, &table);
     word(b"\n");
