@@ -142,8 +142,8 @@ fn go_on(
     u: usize,
 ) -> Stand
     requires { ⌜ MayGo (decode (now recs)) (now chosen) (s .row) (s .position) u ⌝ }
-    ensures { λ r. ⌜ Went (decode (now (recs .entry))) (now (ranks .entry)) (now (chosen .entry)) width (s .row) (s .position) (s .chains) (now (clocks .entry)) u
-        (r .row) (r .position) (r .chains) (now (clocks .exit)) ⌝ }
+    ensures { λ r. ⌜ Went (decode (now (recs .entry))) (now (ranks .entry)) (now (chosen .entry)) width (s .row) (s .position) (s .chains)
+        (now (clocks .entry)) u (r .row) (r .position) (r .chains) (now (clocks .exit)) ⌝ }
 {
     let mut t = s.row;
     let mut i = s.position;
