@@ -13,7 +13,7 @@ use Rattle.records.specs.declared.Record.{Record}
 use Rattle.records.specs.Records.{at, past, begins}
 use Rattle.ranks.specs.Ranks.{ranksOf}
 use Rattle.bits.specs.Table.{putBit}
-use Rattle.precedence.specs.Kinds.{isSend}
+use Rattle.records.specs.Kinds.{isSend}
 use Rattle.links.specs.Rule.{rankIn, walk}
 use Rattle.links.specs.Fill.{fillFrom}
 use Rattle.links.specs.Begin.{sendTo, lastSend, mayTurn, maySent, Mayed, may, tableBlocked, beginBlocked}

@@ -19,7 +19,7 @@ use Rattle.bits.specs.Table.{bitOf, putBit}
 use Rattle.bits.proofs.RowLaws.{zeros-room, proper-put, puts-bit, no-member, no-sets-room}
 use Rattle.ranks.specs.Ranks.{ranksOf}
 use Rattle.bits.specs.Words.{wordsIf}
-use Rattle.precedence.specs.Kinds.{isSend, sameLink}
+use Rattle.records.specs.Kinds.{isSend, sameLink}
 use Rattle.precedence.specs.Table.{table, missing, blockedFor}
 use Rattle.precedence.specs.Before.{Begins, Blocked}
 use Rattle.precedence.specs.Sound.{Sound}

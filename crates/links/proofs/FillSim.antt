@@ -17,7 +17,7 @@ use Rattle.bits.specs.Laws.{Proper}
 use Rattle.bits.specs.Table.{bitOf, putBit}
 use Rattle.bits.proofs.RowLaws.{zeros-word, zeros-room, proper-or, takes-row, proper-put, puts-bit, no-member, no-sets-room, proper-zeros, no-bit}
 use Rattle.bits.proofs.TableLaws.{outside-low, bit-none}
-use Rattle.precedence.specs.Kinds.{isSend, starts}
+use Rattle.records.specs.Kinds.{isSend, starts}
 use Rattle.precedence.specs.Before.{Begins}
 use Rattle.precedence.specs.Table.{table, sets, blocked}
 use Rattle.precedence.specs.Sound.{Sound, Next}

@@ -17,7 +17,7 @@ use Rattle.records.specs.Records.{at}
 use Rattle.records.proofs.Positions.{decide}
 use Rattle.bits.specs.Words.{wordsIf}
 use Rattle.bits.proofs.RowLaws.{no-member}
-use Rattle.precedence.specs.Kinds.{isSend}
+use Rattle.records.specs.Kinds.{isSend}
 use Rattle.links.specs.Rule.{sends, hits, turnWords, turnSets, turnStuck, walk}
 use Rattle.links.specs.Fill.{stepLast}
 

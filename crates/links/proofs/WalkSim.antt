@@ -16,7 +16,7 @@ use Rattle.bits.specs.Laws.{Proper}
 use Rattle.bits.specs.Words.{wordsIf}
 use Rattle.bits.specs.Table.{bitOf, orRow, member, orSet}
 use Rattle.bits.proofs.RowLaws.{proper-or, takes-row, takes-into, sets-room}
-use Rattle.precedence.specs.Kinds.{isSend}
+use Rattle.records.specs.Kinds.{isSend}
 use Rattle.precedence.specs.Table.{Table}
 use Rattle.precedence.specs.Scan.{Scan, hit, reached, turn, run}
 use Rattle.links.specs.Rule.{missing, behind, reach, sends, hits, turnWords, turnSets, turnStuck, Walked, walk}

@@ -12,7 +12,7 @@ use Rattle.records.specs.Records.{at, past, begins}
 use Rattle.ranks.specs.Ranks.{ranksOf}
 use Rattle.bits.specs.Words.{wordsIf}
 use Rattle.bits.specs.Table.{putBit}
-use Rattle.precedence.specs.Kinds.{isSend}
+use Rattle.records.specs.Kinds.{isSend}
 use Rattle.links.specs.Rule.{rankIn, walk}
 use Rattle.links.specs.Fill.{fillFrom}
 

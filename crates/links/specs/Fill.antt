@@ -12,7 +12,7 @@ use Rattle.records.specs.Records.{at, isBegin, isJoin}
 use Rattle.ranks.specs.Ranks.{ranksOf}
 use Rattle.bits.specs.Words.{wordsIf}
 use Rattle.bits.specs.Table.{putBit, orRow}
-use Rattle.precedence.specs.Kinds.{isSend, starts}
+use Rattle.records.specs.Kinds.{isSend, starts}
 use Rattle.links.specs.Rule.{rankIn, Walked, walkedIf, walk}
 
 -- a direct link by ranks p and u, where both have a row

@@ -9,7 +9,7 @@ use lib.ListN.{length}
 use Rattle.records.specs.declared.Record.{Record}
 use Rattle.records.specs.Records.{at, past, isBegin, isJoin, begun}
 use Rattle.bits.specs.Table.{bitOf}
-use Rattle.precedence.specs.Kinds.{starts}
+use Rattle.records.specs.Kinds.{starts}
 use Rattle.precedence.specs.Before.{Begins, Before, BlockedFor, Blocked}
 use Rattle.precedence.specs.Table.{table, blockedFor, blocked}
 use Rattle.precedence.specs.Sound.{Sound}

@@ -10,7 +10,7 @@ use Rattle.records.specs.declared.Record.{Record}
 use Rattle.records.specs.Records.{at}
 use Rattle.bits.specs.Words.{wordsIf}
 use Rattle.bits.specs.Table.{bitOf, orRow, member, orSet}
-use Rattle.precedence.specs.Kinds.{isSend}
+use Rattle.records.specs.Kinds.{isSend}
 
 -- the rank of an event number, by a list of ranks
 abbrev pub rankIn : List ℕ → ℕ → ℕ

@@ -21,7 +21,7 @@ use Rattle.order.specs.HappensBefore as forks
 use Rattle.order.specs.HappensBefore.{traceLinks}
 use Rattle.order.specs.LinkRule.{linkedTrace}
 use Rattle.order.proofs.LinkRuleLaws.{without-sends}
-use Rattle.precedence.specs.Kinds.{isSend, starts, sameLink}
+use Rattle.records.specs.Kinds.{isSend, starts, sameLink}
 use Rattle.precedence.specs.Before.{Begins, same, start, join, behind, path, HappensBefore}
 use Rattle.precedence.specs.Table.{table, missing, blockedFor, blocked}
 use Rattle.precedence.specs.Sound.{Whole, Next}

@@ -14,7 +14,7 @@ use Rattle.slices.proofs.Tests.{both, and, either, or-left, decide, decide-eq, 
 use Rattle.coverage.specs.Below.{some, upto}
 use Rattle.coverage.proofs.Below.{found, find}
 use Rattle.coverage.proofs.Lists.{in-map, map-in, in-upto, upto-in, upto-empty}
-use Rattle.precedence.specs.Kinds.{isSend, starts, sameLink}
+use Rattle.records.specs.Kinds.{isSend, starts, sameLink}
 use Rattle.precedence.specs.Table.{table, ahead}
 use Rattle.precedence.proofs.Rows.{begin-no-fork}
 use Rattle.ranks.specs.declared.Ordering.{Ordering}

@@ -5,7 +5,7 @@ use mathlib.Core.List.{List, [], _∷_}
 use Rattle.records.specs.declared.Record.{Record}
 use Rattle.records.specs.Records.{past, begins}
 use Rattle.coverage.specs.Below.{some, upto}
-use Rattle.precedence.specs.Kinds.{sameLink}
+use Rattle.records.specs.Kinds.{sameLink}
 use Rattle.precedence.specs.Table.{ahead, someTarget, sets, table}
 use Rattle.order.specs.Schedule.{linked}
 use Rattle.order.specs.HappensBefore.{rankIn, rank}

@@ -11,7 +11,7 @@ use lib.ListN.{length}
 use Rattle.records.specs.declared.Record.{Record}
 use Rattle.records.specs.Records.{at, past, isBegin, isJoin, begun as has-begun}
 use Rattle.slices.proofs.Tests.{both, either, or-left, or-right, decide-eq, eq→eqb, same as equal-tests}
-use Rattle.precedence.specs.Kinds.{starts}
+use Rattle.records.specs.Kinds.{starts}
 use Rattle.precedence.specs.Before.{Begins, same, start, join, behind as behind-by, path, HappensBefore, Link, starts-it, joins-it, behind-it}
 use Rattle.precedence.specs.Table.{table, happensBefore}
 use Rattle.precedence.specs.Sound.{Whole}

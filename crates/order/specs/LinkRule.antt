@@ -7,7 +7,7 @@ use lib.ListN.{length}
 use Rattle.records.specs.declared.Record.{Record}
 use Rattle.records.specs.Records.{at, past, isBegin, isJoin, begins}
 use Rattle.coverage.specs.Below.{some, upto}
-use Rattle.precedence.specs.Kinds.{starts}
+use Rattle.records.specs.Kinds.{starts}
 use Rattle.precedence.specs.Table.{table, ahead}
 use Rattle.ranks.specs.declared.Ordering.{Ordering}
 use Rattle.ranks.specs.declared.Ordering.the-variants.{Begin, Nothing}

@@ -8,7 +8,7 @@ use lib.Dec.{T}
 use Rattle.records.specs.declared.Record.{Record}
 use Rattle.records.specs.Records.{at, isBegin}
 use Rattle.slices.proofs.Tests.{decide-eq}
-use Rattle.precedence.specs.Kinds.{starts}
+use Rattle.records.specs.Kinds.{starts}
 use Rattle.precedence.specs.Before.{Begins, Before, same, start, join, behind, path, RecordBefore, across, within}
 use Rattle.precedence.specs.Table.{table}
 use Rattle.precedence.specs.Sound.{Sound}

@@ -10,7 +10,7 @@ use Rattle.records.specs.Records.{at, past, isBegin, isJoin, has, begun}
 use Rattle.records.proofs.Positions.{has-intro, true-not-false}
 use Rattle.coverage.specs.Below.{some}
 use Rattle.slices.proofs.Tests.{both, either, passed}
-use Rattle.precedence.specs.Kinds.{starts, sameLink}
+use Rattle.records.specs.Kinds.{starts, sameLink}
 use Rattle.precedence.specs.Before.{Before}
 use Rattle.precedence.specs.Sound.{Sound, Next}
 use Rattle.precedence.specs.Table.{ahead, someTarget, sets, table, happensBefore, blocked, blockedFor}

@@ -10,7 +10,7 @@ use lib.Dec.{T}
 use Rattle.records.specs.declared.Record.{Record}
 use Rattle.records.specs.Records.{at, past, isBegin, isJoin, begun}
 use Rattle.records.proofs.Positions.{true-not-false}
-use Rattle.precedence.specs.Kinds.{starts}
+use Rattle.records.specs.Kinds.{starts}
 use Rattle.precedence.specs.Before.{Begins}
 use Rattle.precedence.specs.Table.{blocked}
 use Rattle.precedence.specs.Sound.{Sound, Next}

@@ -9,7 +9,7 @@ use lib.Dec.{T, eqb, leb}
 use Rattle.records.specs.declared.Record.{Record}
 use Rattle.records.specs.Records.{at, past, isBegin, isJoin, begun}
 use Rattle.slices.proofs.Tests.{both, or-left, or-right, eq→eqb, same}
-use Rattle.precedence.specs.Kinds.{starts, sameLink}
+use Rattle.records.specs.Kinds.{starts, sameLink}
 use Rattle.precedence.specs.Before.{Begins}
 use Rattle.precedence.specs.Table.{table, missing, blocked, blockedFor}
 use Rattle.precedence.specs.Sound.{Sound}

@@ -13,7 +13,7 @@ use Rattle.records.specs.Records.{at, past, isBegin, isFork, isJoin, has, begun
 use Rattle.records.proofs.Positions as positions
 use Rattle.records.proofs.Positions.{lt-or-ge}
 use Rattle.slices.proofs.Tests.{both, either, or-right, decide-eq, passed}
-use Rattle.precedence.specs.Kinds.{isSend, starts, sameLink}
+use Rattle.records.specs.Kinds.{isSend, starts, sameLink}
 use Rattle.precedence.specs.Before.{Begins}
 use Rattle.precedence.specs.Table.{table, missing, blocked, blockedFor}
 use Rattle.precedence.specs.Sound.{Sound}

@@ -11,7 +11,7 @@ use Rattle.records.specs.declared.Record.{Record}
 use Rattle.records.specs.Records.{at, past, isBegin, begun}
 use Rattle.records.proofs.Positions as positions
 use Rattle.slices.proofs.Tests.{both, and, either, or-left, or-right, eq→eqb, decide-eq, same}
-use Rattle.precedence.specs.Kinds.{isSend, sameLink}
+use Rattle.records.specs.Kinds.{isSend, sameLink}
 use Rattle.precedence.specs.Table.{Table, table, missing, blocked, blockedFor}
 use Rattle.precedence.specs.Scan.{Scan, hit, reached, turn, run, scanFor, scanAt, ScanRefuses, ScanGathers}
 use Rattle.precedence.proofs.Steps.{Puts, puts, put, New, kept, started, joined, own, linked, new, set}

@@ -10,7 +10,7 @@ use Rattle.records.specs.Records.{at, isBegin, isJoin}
 use Rattle.coverage.specs.Below.{some}
 use Rattle.slices.proofs.Tests.{both, and, either, or-left, or-right, eq→eqb}
 use Rattle.coverage.proofs.Below.{found, find}
-use Rattle.precedence.specs.Kinds.{starts, sameLink}
+use Rattle.records.specs.Kinds.{starts, sameLink}
 use Rattle.precedence.specs.Table.{Table, ahead, someTarget, sets, table}
 
 -- sends x and y, among the first i records, that put e behind x's target, and that passes

@@ -10,7 +10,7 @@ use lib.ListN.{length}
 use Rattle.records.specs.declared.Record.{Record}
 use Rattle.records.specs.Records.{at, past, begun}
 use Rattle.slices.proofs.Tests.{both, and, either, or-left, or-right, eq→eqb, decide-eq}
-use Rattle.precedence.specs.Kinds.{sameLink}
+use Rattle.records.specs.Kinds.{sameLink}
 use Rattle.precedence.specs.Before.{Begins, Before, same, start, join, behind, path, RecordBefore, across, within, HappensBefore, BlockedFor, Ruled}
 use Rattle.precedence.specs.Before.{Link, starts-it, joins-it, behind-it}
 use Rattle.precedence.specs.Table.{table, missing, blockedFor, happensBefore}

@@ -8,7 +8,7 @@ use lib.Dec.{T}
 use lib.ListN.{length}
 use Rattle.records.specs.declared.Record.{Record}
 use Rattle.records.specs.Records.{at, isBegin, isJoin, eventOf}
-use Rattle.precedence.specs.Kinds.{starts, sameLink}
+use Rattle.records.specs.Kinds.{starts, sameLink}
 
 module _ (tr : List Record) (n : ℕ) where
   -- e begins among the first n records
