@@ -35,7 +35,7 @@ fn keeps(recs: &[u8], i: usize, read: &mut [u16], written: &mut [u16]) -> bool
     requires { ⌜ Stamps (decode (now recs)) i (now read) (now written) × (i < length (decode (now recs))) ⌝ }
     ensures { λ r. ⌜ (r ≡ kept (decode (now (recs .entry))) i) × Stamps (decode (now (recs .entry))) (i + 1) (now (read .exit)) (now (written .exit)) ⌝ }
 {
-    let kind = access::kind_at(recs, i);
+    let kind = access::base_kind_at(recs, i);
     if kind < 5 {
         return true;
     }

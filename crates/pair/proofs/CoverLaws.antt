@@ -25,6 +25,7 @@ use Rattle.races.specs.Traces.{settingOf}
 use Rattle.pair.specs.loops.Leading.{mark, Marks}
 use Rattle.races.specs.loops.FilledClocks.{rows, FilledClocks, RowsIn}
 use Rattle.races.specs.loops.Candidates.{cell}
+use Rattle.records.specs.Kinds.{baseKind}
 use Rattle.records.specs.Search.{leastKind, mayRace, Past, NextAccess}
 use Rattle.pair.specs.Pair.{raceEntry, raceEntries, GivesCover}
 use Rattle.pair.specs.loops.Kept.{rowOf, Starts}
@@ -34,7 +35,7 @@ use Rattle.pair.proofs.RecordRows.{starts-parted, rank-rises, rank-some
 use Rattle.pair.proofs.RowMarks.{marks-tell}
 use Rattle.trace.proofs.Events.{few-events}
 use Rattle.races.proofs.FilledLaws.{rank-is, chosen-length, before-told, unordered-told}
-use Rattle.races.proofs.CandidateLaws.{racing, past-quiet, kind-access, kind-no-access}
+use Rattle.races.proofs.CandidateLaws.{racing, past-quiet, kind-access, access-base, kind-no-access}
 use Rattle.races.proofs.ListLaws.{may-race, may-found}
 use Rattle.pair.proofs.PairEntries.{no-entries, entries-room, put-more}
 
@@ -103,7 +104,7 @@ module _ {tr : List Record} {ranks chosen : List ℕ} {width : ℕ} {clocks : Li
   first-none b x c l n = record { found = λ k. absurd (omega arith); none = λ _ y m h r. n y m (parts acc d inside x y d r .0 .first) h r }
 
   -- d is no access
-  pub from-no-access : (work : List ℕ) → at tr d .kind < 5 → FirstFrom tr ranks work lo t d d
+  pub from-no-access : (work : List ℕ) → baseKind (at tr d) < 5 → FirstFrom tr ranks work lo t d d
   from-no-access work l b x m h e = first-none b x d (omega arith) (λ y k i q r. subst T (kind-no-access (at tr d) l) (racing tr y d (of-race (settingOf tr) y d (parts acc d inside x y d r .0)) .second))
 
   -- or its event action is not marked
@@ -124,7 +125,7 @@ module _ {tr : List Record} {ranks chosen : List ℕ} {width : ℕ} {clocks : Li
   pub record Along (work : List ℕ) (u x least c : ℕ) : Type 0 where
     pub cell-is : x ≡ cell tr d
     pub least-is : least ≡ leastKind (at tr d .kind)
-    pub access : 5 ≤ at tr d .kind
+    pub access : 5 ≤ baseKind (at tr d)
     pub row-is : u ≡ getD ranks (eventOf (at tr d)) 0 - 1
     pub marked-is : getD work u 0 ≢ 0
     pub high : c ≤ d
@@ -135,8 +136,10 @@ module _ {tr : List Record} {ranks chosen : List ℕ} {width : ℕ} {clocks : Li
   passed-none : {least c i r : ℕ} → c ≡ cell tr d → least ≡ leastKind (at tr d .kind) → Past tr least c i r → (x y : ℕ) → i ≤ y → y < r → T (racesFrom tr x y d) → ⊥
   passed-none e g p x y l k t = past-quiet tr d e g p y l k (of-race (settingOf tr) y d (parts acc d inside x y d t .0))
 
-  pub along-start : {work : List ℕ} {u x least c : ℕ} → x ≡ cell tr d → least ≡ leastKind (at tr d .kind) → 5 ≤ at tr d .kind → u ≡ getD ranks (eventOf (at tr d)) 0 - 1 → getD work u 0 ≢ 0 → NextAccess tr least x lo d c → Along work u x least c
-  along-start e g five eu m n = record { cell-is = e; least-is = g; access = five; row-is = eu; marked-is = m; high = n .high; may = n .found; none = λ x y h q l k. passed-none e g (n .past) x y l k }
+  pub along-start : {work : List ℕ} {u x least c : ℕ} → x ≡ cell tr d → least ≡ leastKind (baseKind (at tr d)) → 5 ≤ baseKind (at tr d) → u ≡ getD ranks (eventOf (at tr d)) 0 - 1 → getD work u 0 ≢ 0 → NextAccess tr least x lo d c → Along work u x least c
+  along-start {least = least} e g five eu m n =
+      let k : least ≡ leastKind (at tr d .kind) = g ∙ ap leastKind (access-base (at tr d) (kind-access (at tr d) five)) in
+      record { cell-is = e; least-is = k; access = five; row-is = eu; marked-is = m; high = n .high; may = n .found; none = λ x y h q l i. passed-none e k (n .past) x y l i }
 
   module _ {work : List ℕ} {u x least c : ℕ} (n : Along work u x least c) where
     pub along-end : d ≤ c → FirstFrom tr ranks work lo t d c
@@ -158,7 +161,7 @@ module _ {tr : List Record} {ranks chosen : List ℕ} {width : ℕ} {clocks : Li
       told : (y : ℕ) → y < length tr → rowOf tr y ≡ t → racesFrom tr y c d ≡ goesOn chosen width clocks t s u
       unfolding racesFrom goesOn
       told y h q = ap₂ _&&_
-          (may-race tr acc c d l inside (kind-access acc d inside (n .access)) (may-found tr c d (n .cell-is) (n .least-is) (n .may l)) ∙ sym (unordered-told f c d s u inside-c inside row-c (row-of-d u (n .row-is)) l))
+          (may-race tr acc c d l inside (kind-access (at tr d) (n .access)) (may-found tr c d (n .cell-is) (n .least-is) (n .may l)) ∙ sym (unordered-told f c d s u inside-c inside row-c (row-of-d u (n .row-is)) l))
           (sym (before-told f y c t s h inside-c (sym q) row-c))
 
       pub along-found : goesOn chosen width clocks t s u ≡ true → FirstFrom tr ranks work lo t d c

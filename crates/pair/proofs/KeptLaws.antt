@@ -11,9 +11,11 @@ use lib.ListN.{length, getD, set, length-set, getD-replicate, length-replicate, 
 use lib.Seq.{getD-set-same, getD-set-other}
 use Rattle.records.specs.declared.Record.{Record}
 use Rattle.records.specs.Records.{at, isWrite, eventOf}
+use Rattle.records.specs.Kinds.{baseKind}
 use Rattle.slices.specs.Slices.{zeros}
 use Rattle.slices.proofs.Cleared.{zeros-length, zeros-at}
 use Rattle.records.proofs.Positions.{lt-or-ge}
+use Rattle.records.proofs.BaseKinds.{base-kind}
 use Rattle.trace.specs.Reading.{Acceptable}
 use Rattle.ranks.specs.Ranks.{ranksOf}
 use Rattle.clocks.specs.Rows.{compareIn}
@@ -30,66 +32,71 @@ use Rattle.pair.specs.loops.Leading.{mark}
 use Rattle.races.specs.loops.FilledClocks.{rows, FilledClocks}
 use Rattle.pair.specs.loops.Kept.{rowOf, level, Starts, Split, Block, Accessed, Noted, clashes, OneClashes, Bytes, Merged, Rest, KeptAccess, Below, Kept, MarksKept}
 use Rattle.races.proofs.Instance.{laws, links, access-kind, access-inside}
-use Rattle.races.proofs.CandidateLaws.{cell-low, kind-access}
+use Rattle.races.proofs.CandidateLaws.{cell-low, kind-access, access-base}
 use Rattle.races.proofs.FilledLaws.{rows-before}
 use Rattle.pair.proofs.RecordRows.{row-low, row-one, row-of-block, split-at}
 use Rattle.pair.proofs.RowMarks.{marks-made}
 
 -- Conflicts by level.
-module _ {tr : List Record} (a : Acceptable tr) where
-  pub kind-high : (i : ℕ) → i < length tr → at tr i .kind ≤ 6
-  kind-high i h = go (lt-or-ge (at tr i .kind) 5)
-    where
-      six : (at tr i .kind ≡ 5) ⊎ (at tr i .kind ≡ 6) → at tr i .kind ≤ 6
-      six (inl e) = omega arith
-      six (inr e) = omega arith
+pub kind-high : (r : Record) → baseKind r ≤ 6
+kind-high r = go (lt-or-ge 0 (baseKind r))
+  where
+    go : (0 < baseKind r) ⊎ (baseKind r ≤ 0) → baseKind r ≤ 6
+    go (inl l) = let (e, h) = base-kind r l in omega arith
+    go (inr l) = omega arith
 
-      go : (at tr i .kind < 5) ⊎ (5 ≤ at tr i .kind) → at tr i .kind ≤ 6
-      go (inl l) = omega arith
-      go (inr l) = six (access-kind (at tr i) (kind-access a i h l))
+module _ (tr : List Record) where
+  abbrev kind : ℕ → ℕ
+  kind i = baseKind (at tr i)
 
-  of-levels : (i d : ℕ) → i < length tr → d < length tr → 5 ≤ at tr i .kind → 7 - at tr i .kind ≤ level tr d → at tr d .second ≡ at tr i .second → T (conflicts (cellsOf tr) i d)
+  of-levels : (i d : ℕ) → 5 ≤ kind i → 7 - kind i ≤ level tr d → at tr d .second ≡ at tr i .second → T (conflicts (cellsOf tr) i d)
   unfolding conflicts
-  of-levels i d h k l m e =
-      let n = kind-high i h in
-      and (isAccess (at tr i) && isAccess (at tr d)) _ (and (isAccess (at tr i)) (isAccess (at tr d)) (kind-access a i h l) (kind-access a d k (omega arith)))
-      (and (eqb (at tr i .second) (at tr d .second)) _ (eq→eqb (at tr i .second) (at tr d .second) (sym e)) (go (access-kind (at tr i) (kind-access a i h l))))
+  of-levels i d l m e =
+      let n = kind-high (at tr i) in
+      let x = kind-access (at tr i) l in
+      let y = kind-access (at tr d) (omega arith) in
+      and (isAccess (at tr i) && isAccess (at tr d)) _ (and (isAccess (at tr i)) (isAccess (at tr d)) x y)
+      (and (eqb (at tr i .second) (at tr d .second)) _ (eq→eqb (at tr i .second) (at tr d .second) (sym e)) (go (access-base (at tr i) x) (access-kind (at tr i) x)))
     where
-      go : (at tr i .kind ≡ 5) ⊎ (at tr i .kind ≡ 6) → T (isWrite (at tr i) || isWrite (at tr d))
-      go (inl q) = or-right (isWrite (at tr i)) (isWrite (at tr d)) (eq→eqb (at tr d .kind) 6 (omega (arith, kind-high d k)))
-      go (inr q) = or-left (isWrite (at tr i)) (isWrite (at tr d)) (eq→eqb (at tr i .kind) 6 q)
+      go : kind i ≡ at tr i .kind → (at tr i .kind ≡ 5) ⊎ (at tr i .kind ≡ 6) → T (isWrite (at tr i) || isWrite (at tr d))
+      go b (inl q) =
+          let (f, h) = base-kind (at tr d) (omega arith) in
+          or-right (isWrite (at tr i)) (isWrite (at tr d)) (eq→eqb (at tr d .kind) 6 (omega arith))
+      go b (inr q) = or-left (isWrite (at tr i)) (isWrite (at tr d)) (eq→eqb (at tr i .kind) 6 q)
 
-  levels-of : (i d : ℕ) → T (conflicts (cellsOf tr) i d) → (5 ≤ at tr i .kind) × (7 - at tr i .kind ≤ level tr d) × (at tr d .second ≡ at tr i .second)
+  levels-of : (i d : ℕ) → T (conflicts (cellsOf tr) i d) → (5 ≤ kind i) × (7 - kind i ≤ level tr d) × (at tr d .second ≡ at tr i .second)
   unfolding conflicts
   levels-of i d h =
       let p = both (isAccess (at tr i) && isAccess (at tr d)) _ h in
       let q = both (isAccess (at tr i)) (isAccess (at tr d)) (p .0) in
       let s = both (eqb (at tr i .second) (at tr d .second)) _ (p .1) in
-      go (access-kind (at tr i) (q .0)) (access-kind (at tr d) (q .1)) (eqb→eq (at tr i .second) (at tr d .second) (s .0)) (either (isWrite (at tr i)) (isWrite (at tr d)) (s .1))
+      go (access-base (at tr i) (q .0)) (access-base (at tr d) (q .1)) (access-kind (at tr i) (q .0)) (access-kind (at tr d) (q .1))
+      (eqb→eq (at tr i .second) (at tr d .second) (s .0)) (either (isWrite (at tr i)) (isWrite (at tr d)) (s .1))
     where
-      go : (at tr i .kind ≡ 5) ⊎ (at tr i .kind ≡ 6) → (at tr d .kind ≡ 5) ⊎ (at tr d .kind ≡ 6) → at tr i .second ≡ at tr d .second → T (isWrite (at tr i)) ⊎ T (isWrite (at tr d)) → (5 ≤ at tr i .kind) × (7 - at tr i .kind ≤ level tr d) × (at tr d .second ≡ at tr i .second)
-      go (inr x) (inl y) e w = (omega arith, omega arith, sym e)
-      go (inr x) (inr y) e w = (omega arith, omega arith, sym e)
-      go (inl x) y e (inl w) = absurd (omega (arith, eqb→eq (at tr i .kind) 6 w))
-      go (inl x) y e (inr w) = (omega arith, omega (arith, eqb→eq (at tr d .kind) 6 w), sym e)
+      go : kind i ≡ at tr i .kind → kind d ≡ at tr d .kind → (at tr i .kind ≡ 5) ⊎ (at tr i .kind ≡ 6) → (at tr d .kind ≡ 5) ⊎ (at tr d .kind ≡ 6)
+          → at tr i .second ≡ at tr d .second → T (isWrite (at tr i)) ⊎ T (isWrite (at tr d)) → (5 ≤ kind i) × (7 - kind i ≤ level tr d) × (at tr d .second ≡ at tr i .second)
+      go b f (inr x) (inl y) e w = (omega arith, omega arith, sym e)
+      go b f (inr x) (inr y) e w = (omega arith, omega arith, sym e)
+      go b f (inl x) y e (inl w) = absurd (omega (arith, eqb→eq (at tr i .kind) 6 w))
+      go b f (inl x) y e (inr w) = (omega arith, omega (arith, eqb→eq (at tr d .kind) 6 w), sym e)
 
 -- The test of one record.
 module _ (tr : List Record) (cells : List ℕ) (i : ℕ) where
-  pub clash-none : at tr i .kind < 5 → clashes tr cells i ≡ false
+  pub clash-none : baseKind (at tr i) < 5 → clashes tr cells i ≡ false
   unfolding clashes
-  clash-none l = failed (leb 5 (at tr i .kind) && ltb 6 (at tr i .kind + getD cells (at tr i .second) 0)) (λ h. omega (arith, leb→le 5 (at tr i .kind) (both (leb 5 (at tr i .kind)) (ltb 6 (at tr i .kind + getD cells (at tr i .second) 0)) h .0)))
+  clash-none l = failed (leb 5 (baseKind (at tr i)) && ltb 6 (baseKind (at tr i) + getD cells (at tr i .second) 0)) (λ h. omega (arith, leb→le 5 (baseKind (at tr i)) (both (leb 5 (baseKind (at tr i))) (ltb 6 (baseKind (at tr i) + getD cells (at tr i .second) 0)) h .0)))
 
-  pub clash-is : 5 ≤ at tr i .kind → clashes tr cells i ≡ ltb 6 (at tr i .kind + getD cells (at tr i .second) 0)
+  pub clash-is : 5 ≤ baseKind (at tr i) → clashes tr cells i ≡ ltb 6 (baseKind (at tr i) + getD cells (at tr i .second) 0)
   unfolding clashes
-  clash-is l = rw (passed (leb 5 (at tr i .kind)) (le→leb 5 (at tr i .kind) l)) refl
+  clash-is l = rw (passed (leb 5 (baseKind (at tr i))) (le→leb 5 (baseKind (at tr i)) l)) refl
 
-  clash-level : T (clashes tr cells i) → (5 ≤ at tr i .kind) × (7 ≤ at tr i .kind + getD cells (at tr i .second) 0)
+  clash-level : T (clashes tr cells i) → (5 ≤ baseKind (at tr i)) × (7 ≤ baseKind (at tr i) + getD cells (at tr i .second) 0)
   unfolding clashes
-  clash-level h = let p = both (leb 5 (at tr i .kind)) (ltb 6 (at tr i .kind + getD cells (at tr i .second) 0)) h in (leb→le 5 (at tr i .kind) (p .0), ltb→lt 6 _ (p .1))
+  clash-level h = let p = both (leb 5 (baseKind (at tr i))) (ltb 6 (baseKind (at tr i) + getD cells (at tr i .second) 0)) h in (leb→le 5 (baseKind (at tr i)) (p .0), ltb→lt 6 _ (p .1))
 
-  level-clash : 5 ≤ at tr i .kind → 7 - at tr i .kind ≤ getD cells (at tr i .second) 0 → T (clashes tr cells i)
+  level-clash : 5 ≤ baseKind (at tr i) → 7 - baseKind (at tr i) ≤ getD cells (at tr i .second) 0 → T (clashes tr cells i)
   unfolding clashes
-  level-clash l m = and (leb 5 (at tr i .kind)) (ltb 6 (at tr i .kind + getD cells (at tr i .second) 0)) (le→leb 5 (at tr i .kind) l) (lt→ltb 6 (at tr i .kind + getD cells (at tr i .second) 0) (omega arith))
+  level-clash l m = and (leb 5 (baseKind (at tr i))) (ltb 6 (baseKind (at tr i) + getD cells (at tr i .second) 0)) (le→leb 5 (baseKind (at tr i)) l) (lt→ltb 6 (baseKind (at tr i) + getD cells (at tr i .second) 0) (omega arith))
 
 -- Looked for from lo on: none before i does.
 module _ (tr : List Record) (cells : List ℕ) (lo : ℕ) where
@@ -152,14 +159,14 @@ module _ (tr : List Record) (lo : ℕ) (cells : List ℕ) where
         back v c p k (inl h) = inl (n .tells v c p k .1 (inl h))
         back v c p k (inr s) = near v c p k (last v c s)
 
-    pub noted-still : at tr i .kind ≤ 4 → Noted tr lo (i + 1) cells cells′
+    pub noted-still : baseKind (at tr i) ≤ 4 → Noted tr lo (i + 1) cells cells′
     noted-still h = rw (add-one i) (more-by cells′ (n .size) (λ v c p k. (λ q. inl q, λ q. back v c p q)))
       where
         back : (v c : ℕ) → 0 < v → (v ≤ getD cells′ c 0) ⊎ ((v ≤ level tr i) × (at tr i .second ≡ c)) → v ≤ getD cells′ c 0
         back v c p (inl q) = q
         back v c p (inr (q, e)) = absurd (omega arith)
 
-    pub noted-next : at tr i .second < length cells → (k d : ℕ) → k ≡ at tr i .kind → d ≡ at tr i .second → (cells″ : List ℕ) → cells″ ≡ set cells′ d (max (getD cells′ d 0) (k - 4)) → Noted tr lo (i + 1) cells cells″
+    pub noted-next : at tr i .second < length cells → (k d : ℕ) → k ≡ baseKind (at tr i) → d ≡ at tr i .second → (cells″ : List ℕ) → cells″ ≡ set cells′ d (max (getD cells′ d 0) (k - 4)) → Noted tr lo (i + 1) cells cells″
     noted-next h k d ek ed cells″ e = rw (add-one i, e, ek, ed) (more-by (set cells′ x y) (length-set cells′ x y ∙ n .size) (λ v c p k. go v c k (decide-eq c x)))
       where
         x : ℕ
@@ -194,7 +201,7 @@ noted-bytes {tr} a lo hi cells cells′ h b n = record { size = n .size ∙ b .s
   where
     high : (c : ℕ) → (3 ≤ getD cells c 0) ⊎ Accessed tr 3 c lo hi → ⊥
     high c (inl m) = omega (arith, b .low c)
-    high c (inr s) = omega (arith, s .level-is, kind-high a (s .position) (omega (arith, s .below)))
+    high c (inr s) = omega (arith, s .level-is, kind-high (at tr (s .position)))
 
     low : (c : ℕ) → (c < length cells) ⊎ (length cells ≤ c) → getD cells′ c 0 ≤ 2
     low c (inl l) = let g : 3 ≤ getD cells′ c 0 → ⊥ = λ m. high c (n .tells 3 c (omega arith) l .0 m) in omega (arith, g)
@@ -275,10 +282,10 @@ module _ {tr : List Record} (b : ℕ) (access : T (isAccess (at tr b))) {chosen 
     clash-leads (i, l, m, h) =
         let i-in : i < length tr = omega (arith, s .to .inside) in
         let (five, seven) = clash-level tr cells i h in
-        let k = p .levels (7 - at tr i .kind) (at tr i .second) (omega (arith, kind-high a i i-in)) (cell-low a i i-in) .0 (omega arith) in
+        let k = p .levels (7 - baseKind (at tr i)) (at tr i .second) (omega (arith, kind-high (at tr i))) (cell-low a i i-in) .0 (omega arith) in
         let d = k .found .position in
         let lower = k .found .below in
-        leads-closed (settingOf tr) (laws a) (Link tr) (links a) b inside (ev lo) (inr (i, d, own-event i l m, omega (arith, k .found .from), lower, of-levels a i d i-in (omega (arith, inside)) five (k .found .level-is) (k .found .cell-is), k .leading))
+        leads-closed (settingOf tr) (laws a) (Link tr) (links a) b inside (ev lo) (inr (i, d, own-event i l m, omega (arith, k .found .from), lower, of-levels tr i d five (k .found .level-is) (k .found .cell-is), k .leading))
 
     below-leads : own lo ≤ getD row (chain lo) 0 → Leading lo
     below-leads l = let k = p .entries lo lo-in .0 l in leads-below (settingOf tr) (laws a) b (ev lo) (ev (k .position)) (k .before) (k .leading)
@@ -296,9 +303,9 @@ module _ {tr : List Record} (b : ℕ) (access : T (isAccess (at tr b))) {chosen 
         raced : (c d : ℕ) → Race (settingOf tr) c d → T (happensBefore tr (ev lo) (ev c)) → d < b → Leading d → (ev c ≡ ev lo) ⊎ (ev c ≢ ev lo) → (own lo ≤ getD row (chain lo) 0) ⊎ OneClashes tr cells lo hi
         raced c d r q l k (inl e) =
             let c-in : c < length tr = omega (arith, r .first, r .inside) in
-            let (five, seven, cell) = levels-of a c d (r .conflict) in
+            let (five, seven, cell) = levels-of tr c d (r .conflict) in
             let m = beyond d (omega (arith, r .first, from-lo c c-in e)) (λ z. race-apart (settingOf tr) (laws a) c d r (e ∙ sym z)) in
-            let g = p .levels (7 - at tr c .kind) (at tr c .second) (omega (arith, kind-high a c c-in)) (cell-low a c c-in) .1 (record { found = record { position = d; from = m; below = l; level-is = seven; cell-is = cell }; leading = k }) in
+            let g = p .levels (7 - baseKind (at tr c)) (at tr c .second) (omega (arith, kind-high (at tr c))) (cell-low a c c-in) .1 (record { found = record { position = d; from = m; below = l; level-is = seven; cell-is = cell }; leading = k }) in
             inr (c, from-lo c c-in e, to-hi c c-in e, level-clash tr cells c five g)
         raced c d r q l k (inr n) =
             let c-in : c < length tr = omega (arith, r .first, r .inside) in

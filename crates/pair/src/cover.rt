@@ -54,7 +54,7 @@ fn find_first(
     requires { ⌜ (rows (decode (now recs)) ≤ length (now work)) × (t < rows (decode (now recs))) × (lo ≤ d) × (d < length (decode (now recs))) ⌝ }
     ensures { λ r. ⌜ FirstFrom (decode (now (recs .entry))) (now (ranks .entry)) (now (work .entry)) lo t d r ⌝ }
 {
-    let kind = access::kind_at(recs, d);
+    let kind = access::base_kind_at(recs, d);
     if kind < 5 {
         return d;
     }

@@ -53,7 +53,7 @@ fn note(recs: &[u8], lo: usize, hi: usize, cells: &mut [u8])
     }
     let mut i = lo;
     while i < hi {
-        let kind = access::kind_at(recs, i);
+        let kind = access::base_kind_at(recs, i);
         if 4 < kind {
             note_access(cells, kind, access::cell_at(recs, i).0 as usize);
         }
@@ -66,7 +66,7 @@ fn has_conflict(recs: &[u8], cells: &[u8], i: usize) -> bool
     requires { ⌜ Acceptable (decode (now recs)) × Bytes (now cells) × (i < length (decode (now recs))) ⌝ }
     ensures { λ r. ⌜ r ≡ clashes (decode (now (recs .entry))) (now (cells .entry)) i ⌝ }
 {
-    let kind = access::kind_at(recs, i);
+    let kind = access::base_kind_at(recs, i);
     if kind < 5 {
         return false;
     }

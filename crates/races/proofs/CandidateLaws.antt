@@ -19,14 +19,16 @@ use Rattle.slices.specs.Slices.{zeros}
 use Rattle.trace.specs.Place.{place}
 use Rattle.trace.specs.Rule.{situation, numbered}
 use Rattle.records.proofs.Positions.{lt-or-ge}
+use Rattle.records.proofs.BaseKinds.{base-known, base-kind}
 use Rattle.trace.proofs.Blocks.{passes-at, contiguous, begins-once, body-after-begin}
 use Rattle.trace.proofs.Marked.{formed}
 use Rattle.trace.proofs.Going.{in-range}
 use Rattle.coverage.specs.Race.{raceb}
 use Rattle.coverage.specs.Neighbours.{conflicts}
-use Rattle.slices.proofs.Tests.{decide, both, and, either, or-left, or-right, eq→eqb}
+use Rattle.slices.proofs.Tests.{decide, both, and, either, or-left, or-right, eq→eqb, failed}
 use Rattle.races.specs.Traces.{isAccess, cellsOf, settingOf}
 use Rattle.races.specs.loops.Candidates.{cell, accesses, writes, startOf, Upto, lastWrite, Seen, Tables, orderedIn, seenAfter, firstsFrom}
+use Rattle.records.specs.Kinds.{baseKind}
 use Rattle.records.specs.Search.{leastKind, mayRace, Past, NextAccess}
 use Rattle.clocks.specs.WayRound.{relateIn, saysBefore}
 use Rattle.order.specs.HappensBefore.{rank, happensBefore}
@@ -310,10 +312,35 @@ module _ {tr : List Record} {ranks chosen : List ℕ} {width : ℕ} {clocks : Li
 
 -- From i on past records that may not race with an access of cell c.
 
+-- an access by its kind among document 01's six
+pub kind-access : (r : Record) → 5 ≤ baseKind r → T (isAccess r)
+kind-access r l = let (e, h) = base-kind r (omega arith) in go e h (ℕ-discrete (r .kind) 5)
+  where
+    go : baseKind r ≡ r .kind → r .kind ≤ 6 → Dec (r .kind ≡ 5) → T (isAccess r)
+    go e h (yes k) = or-left (isRead r) (isWrite r) (eq→eqb (r .kind) 5 k)
+    go e h (no n) = or-right (isRead r) (isWrite r) (eq→eqb (r .kind) 6 (omega arith))
+
+pub access-base : (r : Record) → T (isAccess r) → baseKind r ≡ r .kind
+access-base r t = go (access-kind r t)
+  where
+    go : (r .kind ≡ 5) ⊎ (r .kind ≡ 6) → baseKind r ≡ r .kind
+    go (inl e) = base-known r (omega arith)
+    go (inr e) = base-known r (omega arith)
+
+pub kind-no-access : (r : Record) → baseKind r < 5 → isAccess r ≡ false
+kind-no-access r l = failed (isAccess r) (λ t. go (access-base r t) (access-kind r t))
+  where
+    go : baseKind r ≡ r .kind → (r .kind ≡ 5) ⊎ (r .kind ≡ 6) → ⊥
+    go e (inl k) = omega arith
+    go e (inr k) = omega arith
+
 -- what races with b is such a record
 pub race-may : (tr : List Record) (a b : ℕ) (least : ℕ) → least ≡ leastKind (at tr b .kind) → T (raceb (settingOf tr) a b) → T (mayRace tr least (cell tr b) a)
 unfolding mayRace leastKind
-race-may tr a b least f t = let r = racing tr a b t in and (eqb (cell tr a) (cell tr b)) (leb least (at tr a .kind)) (eq→eqb (cell tr a) (cell tr b) (r .same)) (rw f (go (eqb (at tr b .kind) 5) refl (either (isRead (at tr a)) (isWrite (at tr a)) (r .first)) (r .one)))
+race-may tr a b least f t =
+    let r = racing tr a b t in
+    and (eqb (cell tr a) (cell tr b)) (leb least (baseKind (at tr a))) (eq→eqb (cell tr a) (cell tr b) (r .same))
+    (rw (access-base (at tr a) (r .first), f) (go (eqb (at tr b .kind) 5) refl (either (isRead (at tr a)) (isWrite (at tr a)) (r .first)) (r .one)))
   where
     k : ℕ
     k = at tr a .kind
@@ -330,34 +357,6 @@ race-may tr a b least f t = let r = racing tr a b t in and (eqb (cell tr a) (cel
 -- so no record that is passed races with b
 pub past-quiet : (tr : List Record) {i r least c : ℕ} (b : ℕ) → c ≡ cell tr b → least ≡ leastKind (at tr b .kind) → Past tr least c i r → (x : ℕ) → i ≤ x → x < r → T (raceb (settingOf tr) x b) → ⊥
 past-quiet tr {i} {r} {least} b e f w x l k t = w .none x l k (rw e (race-may tr x b least f t))
-
--- a record of an acceptable trace that is none of the first four kinds is an access
-pub kind-access : {tr : List Record} (a : Acceptable tr) (i : ℕ) → i < length tr → 5 ≤ at tr i .kind → T (isAccess (at tr i))
-unfolding place
-kind-access {tr} a i h l = go (leb (at tr i .kind) 6) refl
-  where
-    k : ℕ
-    k = at tr i .kind
-
-    known : eqb (place (situation (past tr i)) k) 3 ≡ false
-    known = passes-at a i h .known
-
-    six : k ≤ 6 → T (isAccess (at tr i))
-    six m = five (ℕ-discrete k 5)
-      where
-        five : Dec (k ≡ 5) → T (isAccess (at tr i))
-        five (yes e) = or-left (isRead (at tr i)) (isWrite (at tr i)) (eq→eqb k 5 e)
-        five (no n) = or-right (isRead (at tr i)) (isWrite (at tr i)) (eq→eqb k 6 (omega arith))
-
-    go : (t : Bool) → leb k 6 ≡ t → T (isAccess (at tr i))
-    go true e = six (leb-true k 6 e)
-    go false e = absurd (strange (rw (le-leb 1 k (omega arith), e) at known))
-      where
-        strange : true ≡ false → ⊥
-        strange z = let y : _≡_ {A = ℕ} 0 1 = cc in omega arith
-
-pub kind-no-access : (r : Record) → r .kind < 5 → isAccess r ≡ false
-kind-no-access r l = rw (ne-eqb (r .kind) 5 (λ e. omega arith), ne-eqb (r .kind) 6 (λ e. omega arith)) refl
 
 -- The rank of an access is the number of begins before it.
 module _ {tr : List Record} (acc : Acceptable tr) where
@@ -396,12 +395,12 @@ module _ (tr : List Record) where
       go (yes k) l = omega (arith, counted-begin tr i k)
       go (no n) l = omega (arith, counted-other tr i n)
 
-  pub begun-next : (b : ℕ) {kind begun r : ℕ} → kind ≡ at tr b .kind → begun ≡ counted tr b → r ≡ cond (eqb kind 1) (begun + 1) begun → r ≡ counted tr (b + 1)
+  pub begun-next : (b : ℕ) {kind begun r : ℕ} → kind ≡ baseKind (at tr b) → begun ≡ counted tr b → r ≡ cond (eqb kind 1) (begun + 1) begun → r ≡ counted tr (b + 1)
   begun-next b {kind} {begun} {r} e f g = rw (add-one b) (go (ℕ-discrete kind 1))
     where
       go : Dec (kind ≡ 1) → r ≡ counted tr (suc b)
-      go (yes k) = omega (arith, counted-begin tr b (sym e ∙ k), rw (eq-eqb kind 1 k) at g)
-      go (no n) = omega (arith, counted-other tr b (λ z. n (e ∙ z)), rw (ne-eqb kind 1 n) at g)
+      go (yes k) = let (q, h) = base-kind (at tr b) (omega arith) in omega (arith, counted-begin tr b (omega arith), rw (eq-eqb kind 1 k) at g)
+      go (no n) = omega (arith, counted-other tr b (λ z. n (e ∙ base-known (at tr b) (omega arith) ∙ z)), rw (ne-eqb kind 1 n) at g)
 
-  pub access-begun : (b : ℕ) → 5 ≤ at tr b .kind → counted tr (b + 1) ≡ counted tr b
-  access-begun b l = rw (add-one b) (counted-other tr b (λ z. omega arith))
+  pub access-begun : (b : ℕ) → 5 ≤ baseKind (at tr b) → counted tr (b + 1) ≡ counted tr b
+  access-begun b l = let (q, h) = base-kind (at tr b) (omega arith) in rw (add-one b) (counted-other tr b (λ z. omega arith))

@@ -27,6 +27,7 @@ use Rattle.races.specs.Traces.{isAccess, cellsOf, settingOf}
 use Rattle.races.specs.loops.Clashes.{conflict}
 use Rattle.races.specs.Lists.{pairsOf}
 use Rattle.races.specs.loops.Candidates.{cell, accesses, writes, Upto, lastWrite, firstsFrom, firstsTo}
+use Rattle.records.specs.Kinds.{baseKind}
 use Rattle.records.specs.Search.{leastKind, mayRace}
 use Rattle.races.specs.loops.ListPass.{fromOf, firsts, withSecond, pairsBelow, Ranges, Second, OneRoom}
 use Rattle.order.specs.Fill.{eventsIn}
@@ -36,7 +37,7 @@ use Rattle.clocks.specs.WayRound.{relateIn, saysUnordered}
 use Rattle.order.specs.HappensBefore.{rank, happensBefore}
 use Rattle.races.proofs.Instance.{laws, access-kind}
 use Rattle.races.proofs.FilledLaws.{same-event, other-event, rank-is, row-inside, rows-in, rows-both, unordered-told}
-use Rattle.races.proofs.CandidateLaws.{start, racing, race-accesses, last-high, last-after, from-start-is, kind-access}
+use Rattle.races.proofs.CandidateLaws.{start, racing, race-accesses, last-high, last-after, from-start-is, kind-access, access-base}
 
 module _ (tr : List Record) where
   abbrev race : ℕ → ℕ → Bool
@@ -195,19 +196,22 @@ module _ (tr : List Record) where
           firsts-are = ap (λ x. firsts tr x b b) (sym (p ∙ from-start-is tr short (cell tr b) b));
         }
 
-  may-conflict : Acceptable tr → (a b : ℕ) → a < length tr → T (isAccess (at tr b)) → T (mayRace tr (leastKind (at tr b .kind)) (cell tr b) a) → conflict (at tr a) (at tr b) ≡ true
+  may-conflict : (a b : ℕ) → T (isAccess (at tr b)) → T (mayRace tr (leastKind (at tr b .kind)) (cell tr b) a) → conflict (at tr a) (at tr b) ≡ true
   unfolding mayRace leastKind conflict
-  may-conflict acc a b i y m = passed (conflict (at tr a) (at tr b)) (and (isAccess (at tr a) && isAccess (at tr b)) _ (and (isAccess (at tr a)) (isAccess (at tr b)) x y) (and (eqb (cell tr a) (cell tr b)) _ (p .0) (go (access-kind (at tr b) y) (leb→le _ (at tr a .kind) (p .1)))))
+  may-conflict a b y m = passed (conflict (at tr a) (at tr b)) (and (isAccess (at tr a) && isAccess (at tr b)) _ (and (isAccess (at tr a)) (isAccess (at tr b)) x y) (and (eqb (cell tr a) (cell tr b)) _ (p .0) (go (access-kind (at tr b) y) low)))
     where
-      p : T (eqb (cell tr a) (cell tr b)) × T (leb (cond (eqb (at tr b .kind) 5) 6 5) (at tr a .kind))
-      p = both (eqb (cell tr a) (cell tr b)) (leb (cond (eqb (at tr b .kind) 5) 6 5) (at tr a .kind)) m
+      p : T (eqb (cell tr a) (cell tr b)) × T (leb (cond (eqb (at tr b .kind) 5) 6 5) (baseKind (at tr a)))
+      p = both (eqb (cell tr a) (cell tr b)) (leb (cond (eqb (at tr b .kind) 5) 6 5) (baseKind (at tr a))) m
 
-      five : (q : Bool) → cond q 6 5 ≤ at tr a .kind → 5 ≤ at tr a .kind
+      five : (q : Bool) → cond q 6 5 ≤ baseKind (at tr a) → 5 ≤ baseKind (at tr a)
       five true k = omega arith
       five false k = k
 
       x : T (isAccess (at tr a))
-      x = kind-access acc a i (five (eqb (at tr b .kind) 5) (leb→le _ (at tr a .kind) (p .1)))
+      x = kind-access (at tr a) (five (eqb (at tr b .kind) 5) (leb→le _ (baseKind (at tr a)) (p .1)))
+
+      low : cond (eqb (at tr b .kind) 5) 6 5 ≤ at tr a .kind
+      low = rw (← access-base (at tr a) x) (leb→le _ (baseKind (at tr a)) (p .1))
 
       go : (at tr b .kind ≡ 5) ⊎ (at tr b .kind ≡ 6) → cond (eqb (at tr b .kind) 5) 6 5 ≤ at tr a .kind → T (isWrite (at tr a) || isWrite (at tr b))
       go (inl e) k = or-left (isWrite (at tr a)) (isWrite (at tr b)) (six (access-kind (at tr a) x))
@@ -222,7 +226,7 @@ module _ (tr : List Record) where
   may-race acc a b l h y m = go (ℕ-discrete (eventOf (at tr a)) (eventOf (at tr b)))
     where
       c : conflict (at tr a) (at tr b) ≡ true
-      c = may-conflict acc a b (omega arith) y m
+      c = may-conflict a b y m
 
       go : Dec (eventOf (at tr a) ≡ eventOf (at tr b)) → race a b ≡ not (happensBefore tr (eventOf (at tr a)) (eventOf (at tr b)))
       go (yes e) = same-event tr a b l h c e ∙ sym (ap not (passed (happensBefore tr (eventOf (at tr a)) (eventOf (at tr b))) (subst (λ (x : ℕ). T (happensBefore tr (eventOf (at tr a)) x)) e (laws acc .le-refl (eventOf (at tr a))))))

@@ -166,7 +166,7 @@ fn list_all(
     let mut begun = 0;
     let mut b = 0;
     while b < n {
-        let kind = access::kind_at(recs, b);
+        let kind = access::base_kind_at(recs, b);
         if kind < 5 {
             begun = begun_after(kind, begun);
             b += 1;

@@ -11,6 +11,7 @@ ghost use lib.ListN.{length};
 ghost use Rattle.slices.specs.Slices.{twoBytes};
 ghost use Rattle.records.specs.Bytes.{decode, part};
 ghost use Rattle.records.specs.Records.{at, past, begins, leading};
+ghost use Rattle.records.specs.Kinds.{baseKind};
 
 // Two bytes as a number, low byte first.
 fn two_bytes(bytes: &[u8], at: usize) -> u16
@@ -57,6 +58,17 @@ pub fn kind_at(recs: &[u8], i: usize) -> u8
         return 0;
     }
     recs[RECORD_BYTES * i]
+}
+
+// The kind of record i where it is one of document 01's six, begin to write; 0 for any other record.
+pub fn base_kind_at(recs: &[u8], i: usize) -> u8
+    ensures { λ r. ⌜ r ≡ baseKind (at (decode (now (recs .entry))) i) ⌝ }
+{
+    let kind = kind_at(recs, i);
+    if 6 < kind {
+        return 0;
+    }
+    kind
 }
 
 fn first_of(recs: &[u8], i: usize) -> u16

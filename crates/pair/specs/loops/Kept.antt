@@ -8,6 +8,7 @@ use lib.Dec.{T, leb, ltb}
 use lib.ListN.{length, getD, drop}
 use Rattle.records.specs.declared.Record.{Record}
 use Rattle.records.specs.Records.{at, eventOf}
+use Rattle.records.specs.Kinds.{baseKind}
 use Rattle.ranks.specs.Ranks.{ranksOf}
 use Rattle.order.specs.HappensBefore.{rank, happensBefore}
 use Rattle.order.specs.Fill.{chainsUsed}
@@ -41,7 +42,7 @@ module _ (tr : List Record) where
 
   -- 2 of a write, 1 of a read, 0 of any other record
   abbrev pub level : ℕ → ℕ
-  level i = at tr i .kind - 4
+  level i = baseKind (at tr i) - 4
 
   -- one of the records from lo on, before hi, has that level or a higher one, and names cell c
   pub record Accessed (v c lo hi : ℕ) : Type 0 where
@@ -58,7 +59,7 @@ module _ (tr : List Record) where
 
   -- does record i conflict with a noted one: a write with any access of its cell, a read with a write?
   unfoldable pub clashes : List ℕ → ℕ → Bool
-  clashes cells i = leb 5 (at tr i .kind) && ltb 6 (at tr i .kind + getD cells (at tr i .second) 0)
+  clashes cells i = leb 5 (baseKind (at tr i)) && ltb 6 (baseKind (at tr i) + getD cells (at tr i .second) 0)
 
   -- one of the records from lo on, before hi, does
   abbrev pub OneClashes : List ℕ → ℕ → ℕ → Type 0

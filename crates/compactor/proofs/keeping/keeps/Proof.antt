@@ -10,13 +10,13 @@ use borrow.Author.Needs.{needs}
 use Rattle.compactor.proofs.keeping.keeps.Statement.{statement}
 use Rattle.compactor.proofs.keeping.keeps.Tie as tie
 
-kind-at-requires : tie.Need-kind-at-requires
-kind-at-requires c κs = search needs
+base-kind-at-requires : tie.Need-base-kind-at-requires
+base-kind-at-requires c κs = search needs
 
 returns : tie.Need-returns
 returns c =
     let start = c .before .before .before .before .before in
-    keeps-other (start .pre .0) (start .pre .1) (rw (c .before .kind-at .ensures) at (c .if1 .taken))
+    keeps-other (start .pre .0) (start .pre .1) (rw (c .before .base-kind-at .ensures) at (c .if1 .taken))
 
 cell-at-requires : tie.Need-cell-at-requires
 cell-at-requires c κs = search needs
@@ -37,7 +37,7 @@ returns-2 c =
     let at-kind = at-event .before .before .before in
     let start = at-kind .before .before .before .before in
     keeps-read (start .pre .0) (start .pre .1) _ _ (at-event .before .cell-at .ensures) (at-event .event-at .ensures)
-    (sym (at-kind .kind-at .ensures) ∙ at-if .if2 .taken) (c .before .before .stamp .ensures)
+    (sym (at-kind .base-kind-at .ensures) ∙ at-if .if2 .taken) (c .before .before .stamp .ensures)
 
 stamp-requires-2 : tie.Need-stamp-requires-2
 stamp-requires-2 c κs = search needs
@@ -52,7 +52,7 @@ returns-3 c =
     let at-if1 = at-event .before .before in
     let at-kind = at-if1 .before in
     let start = at-kind .before .before .before .before in
-    let k = at-kind .kind-at .ensures in
+    let k = at-kind .base-kind-at .ensures in
     let w = is-write (start .pre .0) (start .pre .1) (rw k at (at-if1 .if1 .left)) (λ e. at-if2 .if2 .left (k ∙ e)) in
     keeps-write (start .pre .0) (start .pre .1) _ _ (at-event .before .cell-at .ensures) (at-event .event-at .ensures) w (c .before .before .stamp2 .ensures)
 
@@ -60,7 +60,7 @@ pub keeps-spec : {M : Type 1} → statement M
 keeps-spec =
     tie.close
     (tie.spec
-    kind-at-requires
+    base-kind-at-requires
     returns
     cell-at-requires
     event-at-requires

@@ -21,11 +21,11 @@ Inv-loop recs ranks chosen width clocks work lo t d kind u x least c₀ c = (f :
 abbrev μ-loop : tie.MeasureT-loop
 μ-loop recs ranks chosen width clocks work lo t d kind u x least c₀ c = d - c
 
-kind-at-requires : tie.Need-kind-at-requires Inv-loop μ-loop
-kind-at-requires c κs = search needs
+base-kind-at-requires : tie.Need-base-kind-at-requires Inv-loop μ-loop
+base-kind-at-requires c κs = search needs
 
 returns : tie.Need-returns Inv-loop μ-loop
-returns c = let s = c .before .before .before .before .before .before .before in from-no-access (s .pre .0) (s .args .lo) (s .args .t) (s .args .d) (s .pre .1 .3) (now (s .args .work)) (omega (arith, c .before .kind-at .ensures, c .if1 .taken))
+returns c = let s = c .before .before .before .before .before .before .before in from-no-access (s .pre .0) (s .args .lo) (s .args .t) (s .args .d) (s .pre .1 .3) (now (s .args .work)) (omega (arith, c .before .base-kind-at .ensures, c .if1 .taken))
 
 row-at-requires : tie.Need-row-at-requires Inv-loop μ-loop
 row-at-requires c κs = search needs
@@ -53,7 +53,7 @@ loop-holds c =
     let at-if = at-row-at .before in
     let at-kind-at = at-if .before in
     let s = c .before .before .before .before .before .before .before .before .before .before .before .before .before in
-    let k = at-kind-at .kind-at .ensures in
+    let k = at-kind-at .base-kind-at .ensures in
     λ f i. along-start f (s .args .lo) (s .args .t) (s .args .d) i (c .before .before .cell-at .ensures) (c .before .least-kind .ensures ∙ ap leastKind k) (omega (arith, at-if .if1 .left)) (at-row-at .row-at .ensures) (c .before .before .before .if2 .left) (c .next-access .ensures .next (s .pre .1 .2) (omega (arith, s .pre .1 .3)))
 
 row-at-requires-2 : tie.Need-row-at-requires-2 Inv-loop μ-loop
@@ -102,7 +102,7 @@ find-first-spec =
     (tie.spec
     Inv-loop
     μ-loop
-    kind-at-requires
+    base-kind-at-requires
     returns
     row-at-requires
     shared-slice-read-if2

@@ -7,6 +7,7 @@ use Prim.Native.Nat.{_-_, _≤_}
 use mathlib.Core.Path.{_≡_, _∙_}
 use mathlib.Core.Logic.{⊎-elim}
 use Rattle.records.specs.Bytes.{decode}
+use Rattle.records.specs.Records.{at}
 use Rattle.pair.specs.loops.Kept.{Noted}
 use Rattle.races.proofs.CandidateLaws.{cell-low}
 use Rattle.pair.proofs.KeptLaws.{kind-high, noted-none, noted-still, noted-next, noted-bytes}
@@ -28,8 +29,8 @@ returns c = absurd (omega (arith, c .before .count .ensures))
 loop-holds : tie.Need-loop-holds Inv-loop μ-loop
 loop-holds c = (omega arith, omega arith, noted-none _ _ _)
 
-kind-at-requires : tie.Need-kind-at-requires Inv-loop μ-loop
-kind-at-requires c κs = search needs
+base-kind-at-requires : tie.Need-base-kind-at-requires Inv-loop μ-loop
+base-kind-at-requires c κs = search needs
 
 cell-at-requires : tie.Need-cell-at-requires Inv-loop μ-loop
 cell-at-requires c κs = search needs
@@ -44,11 +45,11 @@ note-access-requires c κs =
     let at-loop = c .before .before .before .before .before .before in
     let s = at-loop .before .before .before .before .before in
     let l = at-loop .loop in
-    let k = at-kind-at .kind-at .ensures in
+    let k = at-kind-at .base-kind-at .ensures in
     let h = at-loop-test .loop-test .taken in
     let b = noted-bytes (s .pre .0) (s .args .lo) (l .i) (now (s .args .cells)) (l .cells) (omega (arith, s .pre .2)) (s .pre .3) (l .inv .2) in (
       omega (arith, c .before .before .before .if2 .taken),
-      omega (arith, kind-high (s .pre .0) (l .i) (omega (arith, s .pre .2))),
+      omega (arith, kind-high (at (decode (now (s .args .recs))) (l .i))),
       omega (arith, c .before .cell-at .ensures, cell-low (s .pre .0) (l .i) (omega (arith, s .pre .2)), b .size),
       b .low _,
     )
@@ -64,7 +65,7 @@ loop-again c =
     let s = c .before .before .before .before .before .before .before .before in
     let l = c .before .before .before .loop in
     let h = c .before .before .loop-test .taken in
-    let k = c .before .kind-at .ensures in (
+    let k = c .before .base-kind-at .ensures in (
       omega (arith, l .inv .0),
       omega arith,
       ⊎-elim
@@ -92,7 +93,7 @@ note-spec =
     count-requires
     returns
     loop-holds
-    kind-at-requires
+    base-kind-at-requires
     cell-at-requires
     cast-note-access
     note-access-requires

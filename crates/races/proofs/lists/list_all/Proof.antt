@@ -34,8 +34,8 @@ loop-holds c =
     let a = start .args in
     (listing-start _ _ _ _, rw (c .before .numbers-1025 .ensures, c .numbers-10252 .ensures) (tables-none (decode (now (a .recs))) (a .short)), sym (counted-zero (decode (now (a .recs)))))
 
-kind-at-requires : tie.Need-kind-at-requires Inv-loop μ-loop
-kind-at-requires c κs = search needs
+base-kind-at-requires : tie.Need-base-kind-at-requires Inv-loop μ-loop
+base-kind-at-requires c κs = search needs
 
 begun-after-requires : tie.Need-begun-after-requires Inv-loop μ-loop
 begun-after-requires c κs =
@@ -59,8 +59,8 @@ loop-again c =
     let n = l .before .before .before in
     let s = n .before .before .before .before .before .before in
     let tr = decode (now (s .args .recs)) in
-    let f = kind-no-access (at tr (l .loop .b)) (omega (arith, c .before .before .kind-at .ensures, c .before .if1 .taken)) in
-    (listing-next (l .loop .inv .0) (omega (arith, n .count .ensures, c .before .before .before .loop-test .taken)) _ _ (no-second f _ _ _ _), tables-pass tr (s .args .short) f (l .loop .inv .1), begun-next tr (l .loop .b) (c .before .before .kind-at .ensures) (l .loop .inv .2) (c .begun-after .ensures))
+    let f = kind-no-access (at tr (l .loop .b)) (omega (arith, c .before .before .base-kind-at .ensures, c .before .if1 .taken)) in
+    (listing-next (l .loop .inv .0) (omega (arith, n .count .ensures, c .before .before .before .loop-test .taken)) _ _ (no-second f _ _ _ _), tables-pass tr (s .args .short) f (l .loop .inv .1), begun-next tr (l .loop .b) (c .before .before .base-kind-at .ensures) (l .loop .inv .2) (c .begun-after .ensures))
 
 sub-u : tie.Need-sub-u Inv-loop μ-loop
 sub-u c =
@@ -69,7 +69,7 @@ sub-u c =
     let s = n .before .before .before .before .before .before in
     let acc = s .pre .0 .acceptable in
     let h : l .loop .b < length (decode (now (s .args .recs))) = omega (arith, n .count .ensures, c .before .before .loop-test .taken) in
-    let t = kind-access acc (l .loop .b) h (omega (arith, c .before .kind-at .ensures, c .if1 .left)) in
+    let t = kind-access (at (decode (now (s .args .recs))) (l .loop .b)) (omega (arith, c .before .base-kind-at .ensures, c .if1 .left)) in
     omega (arith, l .loop .inv .2, access-rank acc (l .loop .b) h t, access-ranked acc (l .loop .b) h)
 
 slice-aggregate-take-access : tie.Need-slice-aggregate-take-access Inv-loop μ-loop
@@ -85,7 +85,7 @@ take-access-requires c κs =
     let n = l .before .before .before in
     let s = n .before .before .before .before .before .before in
     let h : l .loop .b < length (decode (now (s .args .recs))) = omega (arith, n .count .ensures, at-loop-test .loop-test .taken) in
-    let t = kind-access (s .pre .0 .acceptable) (l .loop .b) h (omega (arith, c .before .before .before .kind-at .ensures, c .before .before .if1 .left)) in
+    let t = kind-access (at (decode (now (s .args .recs))) (l .loop .b)) (omega (arith, c .before .before .before .base-kind-at .ensures, c .before .before .if1 .left)) in
     (second-at (own-ranks (s .pre .0)) h t (l .loop .inv .2), l .loop .inv .1)
 
 list-firsts-requires : tie.Need-list-firsts-requires Inv-loop μ-loop
@@ -96,7 +96,7 @@ list-firsts-requires c κs =
     let n = l .before .before .before in
     let s = n .before .before .before .before .before .before in
     let h : l .loop .b < length (decode (now (s .args .recs))) = omega (arith, n .count .ensures, i .before .before .loop-test .taken) in
-    let t = kind-access (s .pre .0 .acceptable) (l .loop .b) h (omega (arith, i .before .kind-at .ensures, i .if1 .left)) in
+    let t = kind-access (at (decode (now (s .args .recs))) (l .loop .b)) (omega (arith, i .before .base-kind-at .ensures, i .if1 .left)) in
     let r = w .take-access .ensures .0 in
     ((second-at (s .pre .0) h t (l .loop .inv .2), r .range), way-room r (listing-room (l .loop .inv .0) (s .pre .0 .acceptable .few) h (s .pre .1)))
 
@@ -117,7 +117,7 @@ loop-again-2 c =
     let l = i .before .before .before in
     let n = l .before .before .before in
     let s = n .before .before .before .before .before .before in
-    (listing-next (l .loop .inv .0) (omega (arith, n .count .ensures, i .before .before .loop-test .taken)) _ _ (way-writes (w .take-access .ensures .0) (c .before .before .list-firsts .ensures)), w .take-access .ensures .1, l .loop .inv .2 ∙ sym (access-begun (decode (now (s .args .recs))) (l .loop .b) (omega (arith, i .before .kind-at .ensures, i .if1 .left))))
+    (listing-next (l .loop .inv .0) (omega (arith, n .count .ensures, i .before .before .loop-test .taken)) _ _ (way-writes (w .take-access .ensures .0) (c .before .before .list-firsts .ensures)), w .take-access .ensures .1, l .loop .inv .2 ∙ sym (access-begun (decode (now (s .args .recs))) (l .loop .b) (omega (arith, i .before .base-kind-at .ensures, i .if1 .left))))
 
 same-length : tie.Need-same-length Inv-loop μ-loop
 same-length c = listing-size (c .before .loop .inv .0)
@@ -135,7 +135,7 @@ list-all-spec =
     numbers-1025-requires
     numbers-1025-requires-2
     loop-holds
-    kind-at-requires
+    base-kind-at-requires
     begun-after-requires
     add-b
     loop-less
