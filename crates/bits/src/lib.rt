@@ -75,8 +75,11 @@ pub fn get(table: &[u64], p: usize, u: usize) -> bool
     if 1024 <= u {
         return false;
     }
-    let w = word(table, row_start(u) + p / 64);
-    bit(w, p % 64)
+    let at = row_start(u) + p / 64;
+    if table.len() < 8704 {
+        return bit(word(table, at), p % 64);
+    }
+    bit(table[at], p % 64)
 }
 
 // p enters row u.

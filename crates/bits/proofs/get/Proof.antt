@@ -15,8 +15,8 @@ returns-2 c = bit-none _ _ _ (outside-high _ _ (omega arith) (c .if2 .taken))
 row-start-requires : tie.Need-row-start-requires
 row-start-requires c κs = search needs
 
-add-word : tie.Need-add-word
-add-word c = let k = c .before .before .before .before .args in
+add-at : tie.Need-add-at
+add-at c = let k = c .before .before .before .before .args in
     let e = c .row-start .ensures in
     omega (arith, row-inside (k .u) (omega arith))
 
@@ -27,11 +27,40 @@ bit-requires : tie.Need-bit-requires
 bit-requires c κs = search needs
 
 returns-3 : tie.Need-returns-3
-returns-3 c = let s = c .before .before in
+returns-3 c = let s = c .before .before .before in
     let k = s .before .before .before .before .args in
     c .bit .ensures ∙ rw (c .before .word .ensures, s .row-start .ensures) (sym (bit-is _ _ _ (inside (k .p) (k .u) (omega arith) (omega arith))))
+
+mul-bit : tie.Need-mul-bit
+mul-bit c = let s = c .before in
+    let k = s .before .before .before .before .args in
+    omega (arith, s .row-start .ensures, row-inside (k .u) (omega arith))
+
+shared-slice-read-bit : tie.Need-shared-slice-read-bit
+shared-slice-read-bit c = let s = c .before .before in
+    let k = s .before .before .before .before .args in
+    omega (arith, s .row-start .ensures, row-inside (k .u) (omega arith))
+
+bit-requires-2 : tie.Need-bit-requires-2
+bit-requires-2 c κs = search needs
+
+returns-4 : tie.Need-returns-4
+returns-4 c = let s = c .before .before .before in
+    let k = s .before .before .before .before .args in
+    c .bit2 .ensures ∙ rw (s .row-start .ensures) (sym (bit-is _ _ _ (inside (k .p) (k .u) (omega arith) (omega arith))))
 
 pub get-spec : {M : Type 1} → statement M
 get-spec =
     tie.close
-    (tie.spec returns returns-2 row-start-requires add-word word-requires bit-requires returns-3)
+    (tie.spec
+    returns
+    returns-2
+    row-start-requires
+    add-at
+    word-requires
+    bit-requires
+    returns-3
+    mul-bit
+    shared-slice-read-bit
+    bit-requires-2
+    returns-4)
