@@ -1,4 +1,5 @@
 pub mod Thinned
+pub mod ThinLinks
 pub mod SlimLaws
 pub mod KeepLaws
 pub mod CompactLaws

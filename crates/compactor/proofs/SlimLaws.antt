@@ -1,37 +1,39 @@
 -- The slim trace: what is dropped has a kept twin, the order is the trace's, and nothing more can be dropped. Assumes nothing.
-use Prim.Native.Nat.{ℕ, zero, suc, _+_, _*_, _-_, _≤_, _<_}
-use mathlib.Core.Path.{_≡_, refl, sym, ap, ap₂, _∙_, subst}
-use mathlib.Core.Logic.{_≢_, _⊎_, inl, inr, _↔_}
-use mathlib.Core.Bool.{Bool, true, false, not, _&&_, _||_}
+use Prim.Native.Nat.{ℕ, zero, suc, _≤_, _<_}
+use mathlib.Core.Path.{_≡_, refl, sym, ap, _∙_, subst}
+use mathlib.Core.Logic.{_≢_, _⊎_, inl, inr}
+use mathlib.Core.Bool.{true, _&&_, _||_}
 use mathlib.Core.List.{List, [], _∷_, map, map-append}
 use native.Mathlib.Omega.{arith}
 use lib.Dec.{T, eqb, eqb→eq}
-use lib.ListN.{length, getD, take}
+use lib.ListN.{length, take}
 use lib.Seq.{take-suc, take-length}
 use Rattle.records.specs.declared.Record.{Record}
-use Rattle.records.specs.Records.{noRecord, at, past, begins, isRead, isWrite, isBegin, isFork, isJoin, eventOf}
+use Rattle.records.specs.Records.{noRecord, at, isWrite, isBegin, isJoin, eventOf}
+use Rattle.records.specs.Kinds.{starts, sameLink}
 use Rattle.trace.specs.Reading.{Acceptable}
 use Rattle.records.specs.Encoding.{traceOf}
 use Rattle.trace.proofs.Accepted.{accepts}
 use Rattle.trace.proofs.Encoded.{read-encoded, records-encoded}
 use Rattle.order.specs.Fill.{eventsIn, traceClocks}
-use Rattle.order.specs.Clocks.{chainOf, clocksOf}
-use Rattle.order.specs.ByEvent.{chainIn}
-use Rattle.order.specs.HappensBefore.{Begins, Link, fork, join, HappensBefore, rank, traceLinks, leqRanks, happensBefore}
+use Rattle.precedence.specs.Before.{RecordBefore, across, within, starts-it, joins-it, behind-it}
+use Rattle.precedence.proofs.Rows.{link-first, link-second}
+use Rattle.order.specs.HappensBefore.{Begins, Link, HappensBefore, traceLinks, happensBefore}
+use Rattle.order.specs.Rank.{rank}
 use Rattle.order.proofs.TraceOrder.{decides}
 use Rattle.coverage.specs.Below.{some, upto}
 use Rattle.coverage.specs.Embedding.{Twin, Thinning}
-use Rattle.slices.proofs.Tests.{both, and, either, or-left, or-right, decide, eq→eqb, passed, same}
+use Rattle.slices.proofs.Tests.{both, and, decide, decide-eq, eq→eqb, passed}
 use Rattle.coverage.proofs.Below.{found, find}
-use Rattle.coverage.proofs.Indexed.{size, item, item-passes, item-at, item-rises, place-of, not-no, no-not, sizes-together}
+use Rattle.coverage.proofs.Indexed.{size, item-passes, item-at, item-rises, not-no, no-not}
 use Rattle.coverage.proofs.Lists.{upto-ext, upto-empty}
 use Rattle.coverage.proofs.Embedded.{same-cells, same-combinations}
 use Rattle.races.specs.Traces.{isAccess, cellsOf, settingOf}
 use Rattle.races.proofs.Instance.{laws, access-kind}
 use Rattle.compactor.specs.SlimTrace.{repeats, dropped, kept, slimOf, old, droppedIn}
-use Rattle.compactor.specs.Compact.{slimBytes}
 use Rattle.compactor.specs.Same.{IsTrace, SameOrder, SameRaces, NothingMore, SlimmerJobFiles}
-use Rattle.compactor.proofs.Thinned.{thin, thin-length, thin-at, thin-acceptable, thin-rank, thin-begins, thin-links}
+use Rattle.compactor.proofs.Thinned.{thin-length, thin-at, thin-acceptable, thin-rank, thin-begins}
+use Rattle.compactor.proofs.ThinLinks.{no-start, thin-links}
 
 module _ (tr : List Record) where
   -- record i is dropped for an earlier record j
@@ -186,29 +188,31 @@ module _ {tr : List Record} (acc : Acceptable tr) where
   same-races = record { cells = same-cells (laws acc) thinning; combinations = same-combinations (laws acc) thinning }
 
   -- a record that is no access is kept
-  no-access-kept : (i : ℕ) → at tr i .kind < 5 → T (kept tr i)
-  no-access-kept i h = not-no (dropped tr i) (λ d. let (j, r) = repeat-of tr i d in go (access-kind (at tr i) (r .access)))
-    where
-      go : (at tr i .kind ≡ 5) ⊎ (at tr i .kind ≡ 6) → ⊥
-      go (inl e) = omega arith
-      go (inr e) = omega arith
+  other-kept : (i : ℕ) → (T (isAccess (at tr i)) → ⊥) → T (kept tr i)
+  other-kept i h = not-no (dropped tr i) (λ d. let (j, r) = repeat-of tr i d in h (r .access))
 
   -- records of the slim trace and of the trace that are one record
   pub record SameRecord (k i : ℕ) : Type 0 where
     pub new-inside : k < length (slimOf tr)
     pub old-inside : i < length tr
+    pub old-is : old tr k ≡ i
     pub is-same : at (slimOf tr) k ≡ at tr i
 
   from-slim : (k : ℕ) → k < length (slimOf tr) → SameRecord k (old tr k)
-  from-slim k l = record { new-inside = l; old-inside = old-kept k l .inside; is-same = slim-at k l }
+  from-slim k l = record { new-inside = l; old-inside = old-kept k l .inside; old-is = refl; is-same = slim-at k l }
 
-  to-slim : (i : ℕ) → i < length tr → at tr i .kind < 5 → (k : ℕ) × SameRecord k i
+  to-slim : (i : ℕ) → i < length tr → (T (isAccess (at tr i)) → ⊥) → (k : ℕ) × SameRecord k i
   to-slim i l h =
-      let (k, m, e) = new-number i l (no-access-kept i h) in
-      (k, record { new-inside = m; old-inside = l; is-same = slim-at k m ∙ ap (at tr) e })
+      let (k, m, e) = new-number i l (other-kept i h) in
+      (k, record { new-inside = m; old-inside = l; old-is = e; is-same = slim-at k m ∙ ap (at tr) e })
 
-  kind-low : (r : Record) (k : ℕ) → k < 5 → T (eqb (r .kind) k) → r .kind < 5
-  kind-low r k l h = let e = eqb→eq (r .kind) k h in omega arith
+  -- a begin or a join is no access
+  other-kind : (r : Record) (k : ℕ) → k < 5 → T (eqb (r .kind) k) → T (isAccess r) → ⊥
+  other-kind r k l h a = let e = eqb→eq (r .kind) k h in go (access-kind r a)
+    where
+      go : (r .kind ≡ 5) ⊎ (r .kind ≡ 6) → ⊥
+      go (inl q) = let e = eqb→eq (r .kind) k h in omega arith
+      go (inr q) = let e = eqb→eq (r .kind) k h in omega arith
 
   begins-from : (e : ℕ) → Begins (slimOf tr) e → Begins tr e
   begins-from e x =
@@ -222,7 +226,7 @@ module _ {tr : List Record} (acc : Acceptable tr) where
 
   begins-to : (e : ℕ) → Begins tr e → Begins (slimOf tr) e
   begins-to e x =
-      let (k, q) = to-slim (x .position) (x .inside) (kind-low (at tr (x .position)) 1 (omega arith) (x .is-begin)) in
+      let (k, q) = to-slim (x .position) (x .inside) (other-kind (at tr (x .position)) 1 (omega arith) (x .is-begin)) in
       record {
         position = k;
         inside = q .new-inside;
@@ -230,35 +234,82 @@ module _ {tr : List Record} (acc : Acceptable tr) where
         of-event = ap (λ (r : Record). r .first) (q .is-same) ∙ x .of-event;
       }
 
+  before-from : (t u : ℕ) → HappensBefore (slimOf tr) t u → HappensBefore tr t u
+  before-from t u h = decides acc t u .0 (subst T (slim-order t u) (decides slim-acceptable t u .1 h))
+
+  before-to : (t u : ℕ) → HappensBefore tr t u → HappensBefore (slimOf tr) t u
+  before-to t u h = decides slim-acceptable t u .0 (subst T (sym (slim-order t u)) (decides acc t u .1 h))
+
+  -- two records of both
+  module _ {k l i j : ℕ} (p : SameRecord k i) (q : SameRecord l j) where
+    first-event : eventOf (at (slimOf tr) k) ≡ eventOf (at tr i)
+    first-event = ap (λ (r : Record). eventOf r) (p .is-same)
+
+    second-event : eventOf (at (slimOf tr) l) ≡ eventOf (at tr j)
+    second-event = ap (λ (r : Record). eventOf r) (q .is-same)
+
+    record-from : RecordBefore (slimOf tr) (length (slimOf tr)) k l → RecordBefore tr (length tr) i j
+    record-from (across d h) =
+        across (λ e. d (first-event ∙ e ∙ sym second-event)) (before-from (eventOf (at tr i)) (eventOf (at tr j)) (rw (first-event, second-event) at h))
+    record-from (within e h) =
+        within (sym first-event ∙ e ∙ second-event) (omega (arith, old-rises k l h (q .new-inside), p .old-is, q .old-is))
+
+    record-to : RecordBefore tr (length tr) i j → RecordBefore (slimOf tr) (length (slimOf tr)) k l
+    record-to (across d h) =
+        across (λ e. d (sym first-event ∙ e ∙ second-event)) (rw (first-event, second-event) (before-to (eventOf (at tr i)) (eventOf (at tr j)) h))
+    record-to (within e h) = within (first-event ∙ e ∙ sym second-event) (less (decide-eq k l))
+      where
+        less : (k ≡ l) ⊎ (k ≢ l) → k < l
+        less (inl z) = absurd (omega (arith, h, p .old-is, q .old-is, ap (old tr) z))
+        less (inr z) =
+            let g : l < k → ⊥ = λ m. omega (arith, old-rises l k m (p .new-inside), p .old-is, q .old-is, h) in
+            omega (arith, g, z)
+
+    link-same : sameLink (at (slimOf tr) k) (at (slimOf tr) l) ≡ sameLink (at tr i) (at tr j)
+    link-same = rw (p .is-same, q .is-same)
+
+  first-of : {k i : ℕ} → SameRecord k i → at (slimOf tr) k .first ≡ at tr i .first
+  first-of q = ap (λ (r : Record). r .first) (q .is-same)
+
+  second-of : {k i : ℕ} → SameRecord k i → at (slimOf tr) k .second ≡ at tr i .second
+  second-of q = ap (λ (r : Record). r .second) (q .is-same)
+
   link-from : (t u : ℕ) → Link (slimOf tr) t u → Link tr t u
-  link-from t u (fork i l k f s b) =
+  link-from t u (starts-it i l k f s b) =
       let q = from-slim i l in
-      fork (old tr i) (q .old-inside) (subst (λ (r : Record). T (isFork r)) (q .is-same) k)
-      (sym (ap (λ (r : Record). r .first) (q .is-same)) ∙ f) (sym (ap (λ (r : Record). r .second) (q .is-same)) ∙ s) (begins-from u b)
-  link-from t u (join i l k s f) =
+      starts-it (old tr i) (q .old-inside) (subst (λ (r : Record). T (starts r)) (q .is-same) k) (sym (first-of q) ∙ f) (sym (second-of q) ∙ s)
+      (begins-from u b)
+  link-from t u (joins-it i l k s f) =
       let q = from-slim i l in
-      join (old tr i) (q .old-inside) (subst (λ (r : Record). T (isJoin r)) (q .is-same) k)
-      (sym (ap (λ (r : Record). r .second) (q .is-same)) ∙ s) (sym (ap (λ (r : Record). r .first) (q .is-same)) ∙ f)
+      joins-it (old tr i) (q .old-inside) (subst (λ (r : Record). T (isJoin r)) (q .is-same) k) (sym (second-of q) ∙ s) (sym (first-of q) ∙ f)
+  link-from t u (behind-it i j l m c r e f x y d) =
+      let p = from-slim i l in
+      let q = from-slim j m in
+      behind-it (old tr i) (old tr j) (p .old-inside) (q .old-inside) (subst T (link-same p q) c) (record-from p q r) (sym (second-of p) ∙ e)
+      (sym (second-of q) ∙ f) (begins-from t x) (begins-from u y) d
+
+  start-to : (i : ℕ) → i < length tr → T (starts (at tr i)) → (k : ℕ) × SameRecord k i
+  start-to i l k = to-slim i l (λ a. no-start (at tr i) a k)
 
   link-to : (t u : ℕ) → Link tr t u → Link (slimOf tr) t u
-  link-to t u (fork i l k f s b) =
-      let (n, q) = to-slim i l (kind-low (at tr i) 3 (omega arith) k) in
-      fork n (q .new-inside) (subst (λ (r : Record). T (isFork r)) (sym (q .is-same)) k)
-      (ap (λ (r : Record). r .first) (q .is-same) ∙ f) (ap (λ (r : Record). r .second) (q .is-same) ∙ s) (begins-to u b)
-  link-to t u (join i l k s f) =
-      let (n, q) = to-slim i l (kind-low (at tr i) 4 (omega arith) k) in
-      join n (q .new-inside) (subst (λ (r : Record). T (isJoin r)) (sym (q .is-same)) k)
-      (ap (λ (r : Record). r .second) (q .is-same) ∙ s) (ap (λ (r : Record). r .first) (q .is-same) ∙ f)
+  link-to t u (starts-it i l k f s b) =
+      let (n, q) = start-to i l k in
+      starts-it n (q .new-inside) (subst (λ (r : Record). T (starts r)) (sym (q .is-same)) k) (first-of q ∙ f) (second-of q ∙ s) (begins-to u b)
+  link-to t u (joins-it i l k s f) =
+      let (n, q) = to-slim i l (other-kind (at tr i) 4 (omega arith) k) in
+      joins-it n (q .new-inside) (subst (λ (r : Record). T (isJoin r)) (sym (q .is-same)) k) (second-of q ∙ s) (first-of q ∙ f)
+  link-to t u (behind-it i j l m c r e f x y d) =
+      let (n, p) = start-to i l (link-first (at tr i) (at tr j) c) in
+      let (o, q) = start-to j m (link-second (at tr i) (at tr j) c) in
+      behind-it n o (p .new-inside) (q .new-inside) (subst T (sym (link-same p q)) c) (record-to p q r) (second-of p ∙ e) (second-of q ∙ f)
+      (begins-to t x) (begins-to u y) d
 
   pub same-order : SameOrder tr
   unfolding traceClocks
   same-order = record {
     events = λ e. (begins-from e, begins-to e);
     links = λ t u. (link-from t u, link-to t u);
-    order = λ t u. (
-      λ h. decides acc t u .0 (subst T (slim-order t u) (decides slim-acceptable t u .1 h)),
-      λ h. decides slim-acceptable t u .0 (subst T (sym (slim-order t u)) (decides acc t u .1 h)),
-    );
+    order = λ t u. (before-from t u, before-to t u);
     chains = λ e. rw (slim-links, slim-rank e);
     rows = λ width. rw (slim-links, slim-events);
   }

@@ -1,30 +1,26 @@
--- Any records of an acceptable trace that leave out accesses alone: what comes before each, their ranks and their links are the trace's. Assumes nothing.
-use Prim.Native.Nat.{ℕ, zero, suc, _+_, _≤_, _<_}
-use mathlib.Core.Path.{_≡_, refl, sym, ap, ap₂, _∙_, fun-ext, subst}
-use mathlib.Core.Logic.{_≢_, _⊎_, inl, inr, ⊎-elim}
-use mathlib.Core.Bool.{Bool, true, false, cond, _&&_, _||_}
+-- Any records of an acceptable trace that leave out accesses alone: what comes before each, and their ranks, are the trace's. Assumes nothing.
+use Prim.Native.Nat.{ℕ, zero, suc, _≤_, _<_}
+use mathlib.Core.Path.{_≡_, refl, sym, ap, _∙_, subst}
+use mathlib.Core.Logic.{_⊎_, inl, inr, ⊎-elim}
+use mathlib.Core.Bool.{Bool, false}
 use mathlib.Core.List.{List, [], _∷_, map}
 use native.Mathlib.Omega.{arith}
 use native.Mathlib.Numerals.{add-one}
-use borrow.Author.Tests.{ne-eqb, eqb-false}
-use lib.Dec.{T, eqb, eqb→eq}
-use lib.ListN.{length, getD, length-map, List·getD-map, List·getD-eq-default}
+use borrow.Author.Tests.{ne-eqb}
+use lib.Dec.{T, eqb}
+use lib.ListN.{length, getD, length-map}
 use Rattle.records.specs.declared.Record.{Record}
-use Rattle.records.specs.Records.{noRecord, at, past, has, begun, ended, begins, isBegin}
-use Rattle.trace.specs.Place.{between, place}
-use Rattle.trace.specs.Rule.{situation, owner, judge, rule}
+use Rattle.records.specs.Records.{noRecord, at, past, has, begun, ended, begins}
+use Rattle.trace.specs.Place.{place}
+use Rattle.trace.specs.Rule.{situation, owner, rule}
 use Rattle.trace.specs.Reading.{Acceptable}
 use Rattle.trace.proofs.Blocks.{Passes, passes-at}
 use Rattle.trace.proofs.PlaceRule.{Outside, begins as begins-outside, joins, Inside, ends, forks, reads, writes, outside, inside}
 use Rattle.records.proofs.Positions.{lt-or-ge}
-use Rattle.ranks.specs.declared.Ordering.{Ordering}
-use Rattle.ranks.specs.declared.Ordering.the-variants.{Nothing}
-use Rattle.ranks.specs.OrderingOf.{orderingOf}
-use Rattle.order.specs.Schedule.{linked}
-use Rattle.order.specs.HappensBefore.{rankIn, rank, orderingAt, traceLinks}
+use Rattle.order.specs.Rank.{rankIn, rank}
 use Rattle.coverage.specs.Below.{upto}
 use Rattle.slices.proofs.Tests.{decide}
-use Rattle.coverage.proofs.Indexed.{size, item, size-zero, size-yes, size-no, item-passes, item-at, size-more, place-of, size-most}
+use Rattle.coverage.proofs.Indexed.{size, item, size-zero, size-yes, size-no, item-passes, item-at, place-of, size-most}
 use Rattle.races.specs.Traces.{isAccess}
 use Rattle.races.proofs.Instance.{access-kind}
 
@@ -178,32 +174,10 @@ module _ {tr : List Record} (acc : Acceptable tr) where
       closed = all-alike .situations ∙ acc .closed;
     }
 
-    -- with the same ranks, number of begins and links
+    -- with the same ranks and number of begins
     pub thin-rank : (e : ℕ) → rank thin e ≡ rank tr e
     unfolding rank
     thin-rank e = all-alike .ranks e
 
     pub thin-begins : begins (past thin (length thin)) ≡ begins (past tr (length tr))
     thin-begins = all-alike .counts
-
-    same-op : (r : Record) → orderingOf (rank thin) r ≡ orderingOf (rank tr) r
-    same-op r = ap (λ (f : ℕ → ℕ). orderingOf f r) (fun-ext thin-rank)
-
-    access-op : (r : Record) → (r .kind ≡ 5) ⊎ (r .kind ≡ 6) → orderingOf (rank tr) r ≡ Nothing
-    unfolding orderingOf
-    access-op r (inl e) = simp e
-    access-op r (inr e) = simp e
-
-    linked-alike : (u i : ℕ) → i ≤ length tr → linked (orderingAt thin) (size keep i) u ≡ linked (orderingAt tr) i u
-    unfolding linked orderingAt
-    linked-alike u zero l = rw (size-zero keep)
-    linked-alike u (suc i) l = go (decide (keep i)) (linked-alike u i (omega arith))
-      where
-        go : T (keep i) ⊎ (T (keep i) → ⊥) → linked (orderingAt thin) (size keep i) u ≡ linked (orderingAt tr) i u → linked (orderingAt thin) (size keep (suc i)) u ≡ linked (orderingAt tr) (suc i) u
-        go (inl h) e =
-            let (x, m) = item-at keep (length tr) i (omega arith) h in
-            rw (size-yes keep i h, add-one (size keep i), thin-at (size keep i) m, x, same-op (at tr i), e)
-        go (inr h) e = rw (size-no keep i h, access-op (at tr i) (access-kind (at tr i) (drops i (omega arith) h))) e
-
-    pub thin-links : traceLinks thin ≡ traceLinks tr
-    thin-links = ap (λ (f : ℕ → List ℕ). record { preds = f }) (fun-ext (λ u. rw thin-length (linked-alike u (length tr) (omega arith))))

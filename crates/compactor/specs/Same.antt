@@ -21,7 +21,7 @@ module _ (tr : List Record) where
     pub accepts : Accepts (slimBytes tr) (traceFrom 0 (slimOf tr))
     pub reads : recordsIn (slimBytes tr) (traceFrom 0 (slimOf tr)) ≡ slimOf tr
 
-  -- "and every other record": the same event actions, forks and joins, so the same happens-before, chains and clock rows
+  -- "and every other record": the same event actions, forks, sends and joins, so the same happens-before, chains and clock rows
   pub record SameOrder : Type 0 where
     pub events : (e : ℕ) → Begins (slimOf tr) e ↔ Begins tr e
     pub links : (t u : ℕ) → Link (slimOf tr) t u ↔ Link tr t u

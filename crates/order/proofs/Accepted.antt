@@ -1,28 +1,25 @@
--- Traces without sends: an acceptable one is whole, and its order with links that deliver in order is that by forks and joins. Assumes nothing.
+-- An acceptable trace is whole. Assumes nothing.
 use Prim.Native.Nat.{ℕ, suc, _-_, _<_, _≤_}
-use mathlib.Core.Path.{_≡_, refl, sym, _∙_, subst}
+use mathlib.Core.Path.{_≡_, sym, _∙_, subst}
 use mathlib.Core.Bool.{true, false, _&&_}
 use mathlib.Core.List.{List}
-use mathlib.Core.Logic.{_⊎_, inl, inr, _↔_}
+use mathlib.Core.Logic.{_⊎_, inl, inr}
 use native.Mathlib.Omega.{arith}
 use native.Mathlib.Nat.{eq-or-lt-of-le}
-use borrow.Author.Tests.{eq-eqb, eqb-true}
+use borrow.Author.Tests.{eqb-true}
 use lib.Dec.{T, eqb, leb, eqb→eq}
 use lib.ListN.{length}
 use Rattle.records.specs.declared.Record.{Record}
 use Rattle.records.specs.Records.{at, past, isBegin, isFork, begun}
 use Rattle.records.proofs.Positions.{Found, has-intro, lt-or-ge}
+use Rattle.records.proofs.Sends.{none-sent}
 use Rattle.trace.specs.Reading.{Acceptable}
 use Rattle.trace.specs.Rule.{situation}
 use Rattle.trace.proofs.PlaceRule.{Outside, begins, joins, Inside, ends, forks, reads, writes, outside, inside}
 use Rattle.trace.proofs.Blocks.{passes-at, contiguous, start-fresh, event-begins, body-after-begin, fork-before-begin, join-after-end}
-use Rattle.slices.proofs.Tests.{both, either, or-left, failed}
-use Rattle.order.specs.HappensBefore as forks
-use Rattle.order.specs.HappensBefore.{traceLinks}
-use Rattle.order.specs.LinkRule.{linkedTrace}
-use Rattle.order.proofs.LinkRuleLaws.{without-sends}
-use Rattle.records.specs.Kinds.{isSend, starts, sameLink}
-use Rattle.precedence.specs.Before.{Begins, same, start, join, behind, path, HappensBefore}
+use Rattle.slices.proofs.Tests.{both, either, failed}
+use Rattle.records.specs.Kinds.{isSend, starts, sameLink, hasSend}
+use Rattle.precedence.specs.Before.{Begins}
 use Rattle.precedence.specs.Table.{table, missing, blockedFor, blocked}
 use Rattle.precedence.specs.Sound.{Whole, Next}
 use Rattle.precedence.proofs.Steps.{puts}
@@ -50,6 +47,9 @@ module _ {tr : List Record} (a : Acceptable tr) where
       go : (situation (past tr i) < 2) ⊎ (2 ≤ situation (past tr i)) → ⊥
       go (inl l) = let p = passes-at a i h in out (outside (situation (past tr i)) (at tr i .kind) (p .known) (p .placed) l)
       go (inr l) = let p = passes-at a i h in in-it (inside (situation (past tr i)) (at tr i .kind) (p .known) (p .placed) l)
+
+  pub no-sends : hasSend tr ≡ false
+  no-sends = none-sent tr no-send
 
   forks-only : (i : ℕ) → i < length tr → T (starts (at tr i)) → at tr i .kind ≡ 3
   forks-only i h s = go (either (isFork (at tr i)) (isSend (at tr i)) s)
@@ -108,36 +108,3 @@ module _ {tr : List Record} (a : Acceptable tr) where
         let f = event-begins a i h in
         record { position = f .at-position; inside = f .earlier; is-begin = subst T (sym (f .passes)) tt; of-event = f .event };
   }
-
-  -- the order by forks and joins is the same
-  with-sends : {e : ℕ} → forks.Begins tr e → Begins tr (length tr) e
-  with-sends b = record { position = b .position; inside = b .inside; is-begin = b .is-begin; of-event = b .of-event }
-
-  by-forks : {e : ℕ} → Begins tr (length tr) e → forks.Begins tr e
-  by-forks b = record { position = b .position; inside = b .inside; is-begin = b .is-begin; of-event = b .of-event }
-
-  from-forks : {t u : ℕ} → forks.HappensBefore tr t u → HappensBefore tr t u
-  from-forks (forks.same e) = same e
-  from-forks (forks.step h k) = path (from-forks h) (link k)
-    where
-      link : {p u : ℕ} → forks.Link tr p u → HappensBefore tr p u
-      link (forks.fork i l f e q b) = start i l (or-left (isFork (at tr i)) (isSend (at tr i)) f) e q (with-sends b)
-      link (forks.join i l f e q) = join i l f e q
-
-  forks-path : {t p u : ℕ} → forks.HappensBefore tr t p → forks.HappensBefore tr p u → forks.HappensBefore tr t u
-  forks-path {t} h (forks.same e) = subst (forks.HappensBefore tr t) e h
-  forks-path h (forks.step k l) = forks.step (forks-path h k) l
-
-  to-forks : {t u : ℕ} → HappensBefore tr t u → forks.HappensBefore tr t u
-  unfolding sameLink
-  to-forks (same e) = forks.same e
-  to-forks (start i l k e q b) = forks.step (forks.same refl) (forks.fork i l (subst T (sym (eq-eqb (at tr i .kind) 3 (forks-only i l k))) tt) e q (by-forks b))
-  to-forks (join i l k e q) = forks.step (forks.same refl) (forks.join i l k e q)
-  to-forks (behind i j l m c r e q f g) = absurd (no-send i l (both (isSend (at tr i)) (eqb (at tr i .kind) (at tr j .kind)) c .0))
-  to-forks (path h k) = forks-path (to-forks h) (to-forks k)
-
-  pub same-order : (t u : ℕ) → HappensBefore tr t u ↔ forks.HappensBefore tr t u
-  same-order t u = (to-forks, from-forks)
-
-  pub same-links : (u : ℕ) → linkedTrace tr .preds u ≡ traceLinks tr .preds u
-  same-links = without-sends tr no-send

@@ -14,7 +14,8 @@ use Rattle.slices.proofs.Tests.{both, decide-eq, decide-lt}
 use Rattle.order.specs.Links.{Links, _⊢_≼_, leq, _∈_}
 use Rattle.order.specs.Chains.{lasts, used, bit}
 use Rattle.order.specs.Clocks.{largest, chainOf, entry, clocksOf}
-use Rattle.order.specs.HappensBefore.{Begins, Link, HappensBefore, rank, traceLinks}
+use Rattle.order.specs.HappensBefore.{Begins, Link, HappensBefore, traceLinks}
+use Rattle.order.specs.Rank.{rank}
 use Rattle.order.specs.Fill.{eventsIn, rowPastWidth, traceClocks}
 use Rattle.order.specs.ByEvent.{rowOf, chainIn, Sooner, LastOf, NewChain, ChainRule, entryIn, Largest, ClockRow, ByEvent}
 use Rattle.order.proofs.CountLaws.{count-none}
@@ -24,10 +25,12 @@ use Rattle.order.proofs.SetLaws.{largest-in}
 use Rattle.order.proofs.ClockLaws.{below, entry-law, clock}
 use Rattle.order.proofs.FlatLaws.{flat-read}
 use Rattle.order.proofs.Theorems as rows
-use Rattle.order.proofs.TraceOrder.{counted-passes, counted-more, begins-at, begins-rank, rank-begins, rank-one, forward-links, up, down}
+use Rattle.order.proofs.Counted.{counted-passes, counted-more}
+use Rattle.order.proofs.TraceOrder.{begins-at, begins-rank, rank-begins, rank-one, forward-links, up, down}
 use Rattle.order.proofs.TraceOrder.{link-ranked, linked-named}
 use Rattle.order.proofs.TableLaws.{rank-row}
-use Rattle.order.proofs.EventRows.{nameOf, named}
+use Rattle.order.proofs.EventRows.{nameOf}
+use Rattle.order.proofs.TraceOrder.{named}
 use Rattle.order.proofs.FilledTrace.{events-of, filled-trace}
 
 -- the largest value in a list is 0 or that of a member

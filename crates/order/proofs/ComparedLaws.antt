@@ -13,7 +13,8 @@ use Rattle.clocks.specs.Rows.{compareIn}
 use Rattle.order.specs.Links.{leq, _⊢_≼_}
 use Rattle.order.specs.Chains.{used}
 use Rattle.order.specs.Clocks.{chainOf, clocksOf}
-use Rattle.order.specs.HappensBefore.{rank, traceLinks, happensBefore}
+use Rattle.order.specs.Rank.{rank}
+use Rattle.order.specs.HappensBefore.{traceLinks, happensBefore}
 use Rattle.order.specs.Compared.{compared}
 use Rattle.order.specs.Fill.{eventsIn, rowPastWidth, traceClocks}
 use Rattle.slices.proofs.Tests.{eq→eqb, same as equal-tests}

@@ -1,6 +1,6 @@
--- Each row of an acceptable trace is the row of an event. Assumes nothing.
+-- Each row of a trace is the row of an event. Assumes nothing.
 use Prim.Native.Nat.{ℕ, zero, suc, _≤_, _<_}
-use mathlib.Core.Path.{_≡_, _∙_}
+use mathlib.Core.Path.{_≡_}
 use mathlib.Core.List.{List}
 use native.Mathlib.Omega.{arith}
 use native.Mathlib.Decide.{ℕ-discrete}
@@ -8,11 +8,9 @@ use lib.Dec.{leb, leb→le, le→leb}
 use lib.ListN.{length}
 use Rattle.records.specs.declared.Record.{Record}
 use Rattle.records.specs.Records.{at}
-use Rattle.trace.specs.Reading.{Acceptable}
 use Rattle.order.specs.Chains.{first}
-use Rattle.order.specs.HappensBefore.{rank}
 use Rattle.order.proofs.CountLaws.{First, first-first}
-use Rattle.order.proofs.TraceOrder.{counted, counted-begin, counted-zero, counted-other, ranked}
+use Rattle.order.proofs.Counted.{counted, counted-begin, counted-zero, counted-other}
 
 module _ (tr : List Record) where
   -- how many begin
@@ -61,7 +59,3 @@ module _ (tr : List Record) where
       number : Dec (at tr i .kind ≡ 1) → counted tr i ≡ r
       number (yes k) = omega (arith, many, few i (omega arith), counted-begin tr i k)
       number (no n) = absurd (omega (arith, many, few i (omega arith), counted-other tr i n))
-
-module _ {tr : List Record} (a : Acceptable tr) where
-  pub named : (r : ℕ) → r < events tr → rank tr (nameOf tr r) ≡ suc r
-  named r h = let b = begun tr r h in ranked a (beginOf tr r) (b .inside) (b .kind) ∙ omega (arith, b .number)

@@ -2,7 +2,7 @@
 -- Assumes nothing.
 use Prim.Native.Nat.{ℕ, _+_, _*_, _≤_, _<_}
 use mathlib.Core.Path.{_≡_, sym, ap, _∙_}
-use mathlib.Core.Bool.{true}
+use mathlib.Core.Bool.{true, false}
 use mathlib.Core.List.{List, _++_}
 use mathlib.Core.Logic.{_≢_}
 use native.Mathlib.Omega.{arith}
@@ -10,12 +10,13 @@ use native.Mathlib.Decide.{ℕ-discrete}
 use borrow.Author.Tests.{eq-eqb, ne-eqb}
 use lib.ListN.{length, drop, replicate}
 use Rattle.records.specs.declared.Record.{Record}
+use Rattle.records.specs.Kinds.{hasSend}
 use Rattle.trace.specs.Reading.{Acceptable}
 use Rattle.ranks.specs.Ranks.{ranksOf}
 use Rattle.clocks.specs.Rows.{spaceFor, clearRows}
 use Rattle.clocks.proofs.RowLaws.{clear-rows-fit}
 use Rattle.trace.specs.Reply.{refused, gives, demand, unless}
-use Rattle.order.specs.Fill.{eventsIn, rowPastWidth, chainsUsed, traceClocks, noChains}
+use Rattle.order.specs.Fill.{eventsIn, rowPastWidth, chainsUsed, noChains}
 use Rattle.order.specs.Lent.{enoughChains, clocksFilled, chainsFilled}
 use Rattle.order.specs.declared.Filling.{Filling}
 use Rattle.order.specs.Paper.{fillPaper}
@@ -31,9 +32,10 @@ module _ (tr : List Record) (a : Acceptable tr) (events width : ℕ) (ee : event
   narrow : width ≤ 1024
   narrow = has-room width events (length cs) space .narrow
 
-  pub ready : (ranks sizes chosen : List ℕ) → ranks ≡ ranksOf tr → sizes ≡ noChains → chosen ≡ noChains → Ready tr width ranks cs sizes chosen
-  ready ranks sizes chosen r s o = record {
+  pub ready : hasSend tr ≡ false → (ranks sizes chosen : List ℕ) → ranks ≡ ranksOf tr → sizes ≡ noChains → chosen ≡ noChains → Ready tr width ranks cs sizes chosen
+  ready none ranks sizes chosen r s o = record {
     acceptable = a;
+    no-sends = none;
     ranks-are = r;
     narrow = narrow;
     room = rw (← ee) fits;

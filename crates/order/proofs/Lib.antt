@@ -19,8 +19,15 @@ pub mod HintLaws
 pub mod FillLaws
 pub mod Examples
 -- Traces: their links, ranks and order
+pub mod Counted
+pub mod EventRows
+pub mod LinkRuleLaws
+pub mod LinkedTrace
+pub mod LinkedExamples
+pub mod Accepted
 pub mod TraceOrder
 pub mod TraceLaws
+pub mod RecordOrder
 pub mod RankLaws
 pub mod TraceWalk
 pub mod PassLaws
@@ -32,16 +39,11 @@ pub mod EntryLaws
 pub mod LentLaws
 pub mod PrepareLaws
 -- By event number, of every accepted trace
-pub mod EventRows
 pub mod FilledTrace
 pub mod ByEvent
 pub mod OwnPart
 pub mod Variants
 pub mod Upward
--- Links that deliver in order
-pub mod LinkRuleLaws
-pub mod LinkedTrace
-pub mod LinkedExamples
-pub mod Accepted
+-- Rows from the table of bits
 pub mod FromTableLaws
 pub mod FillTable

@@ -19,14 +19,14 @@ use Rattle.precedence.specs.Table.{table, ahead}
 use Rattle.precedence.proofs.Rows.{begin-no-fork}
 use Rattle.ranks.specs.declared.Ordering.{Ordering}
 use Rattle.ranks.specs.declared.Ordering.the-variants.{Link as link, Begin, Nothing}
-use Rattle.ranks.specs.OrderingOf.{linkOf, pickOrdering}
-use Rattle.ranks.specs.OrderingOf as forks·ranks
+use Rattle.ranks.specs.OrderingOf.{linkOf, pickOrdering, orderingOf}
 use Rattle.order.specs.Links.{_∈_}
 use Rattle.order.specs.Schedule.{linked, linkedBy}
-use Rattle.order.specs.HappensBefore.{rank, traceLinks}
-use Rattle.order.specs.HappensBefore as forks
-use Rattle.order.specs.LinkRule.{orderingOf, orderingAt, putsBehind, targetsAt, behind, linkedTrace}
-use Rattle.order.proofs.TraceOrder.{counted, counted-passes}
+use Rattle.order.specs.Rank.{rank}
+use Rattle.order.specs.HappensBefore.{traceLinks}
+use Rattle.order.specs.loops.RecordLinks.{orderingAt, recordLinks}
+use Rattle.order.specs.LinkRule.{linkingOf, linkingAt, putsBehind, targetsAt, behind}
+use Rattle.order.proofs.Counted.{counted, counted-passes}
 
 differ : (m n : ℕ) → T (not (eqb m n)) → m ≢ n
 differ m n h e = subst (λ b. T (not b)) (passed (eqb m n) (eq→eqb m n e)) h
@@ -49,12 +49,12 @@ says-link false false false k x y v z p u e = let n : _≡_ {A = ℕ} 0 1 = cc i
 
 module _ (tr : List Record) where
   -- a fork or send says a link, and a join does
-  pub says-start : (i : ℕ) → T (starts (at tr i)) → orderingAt tr i ≡ linkOf (rank tr (at tr i .first)) (rank tr (at tr i .second))
-  unfolding orderingAt orderingOf
+  pub says-start : (i : ℕ) → T (starts (at tr i)) → linkingAt tr i ≡ linkOf (rank tr (at tr i .first)) (rank tr (at tr i .second))
+  unfolding linkingAt linkingOf
   says-start i h = rw (failed (isBegin (at tr i)) (λ b. begin-no-fork (at tr i) b h), passed (starts (at tr i)) h)
 
-  pub says-join : (i : ℕ) → T (isJoin (at tr i)) → orderingAt tr i ≡ linkOf (rank tr (at tr i .second)) (rank tr (at tr i .first))
-  unfolding orderingAt orderingOf
+  pub says-join : (i : ℕ) → T (isJoin (at tr i)) → linkingAt tr i ≡ linkOf (rank tr (at tr i .second)) (rank tr (at tr i .first))
+  unfolding linkingAt linkingOf
   says-join i h = rw (eqb→eq (at tr i .kind) 4 h)
 
   -- the rows by the link rule are those found at the row's begin
@@ -166,8 +166,8 @@ module _ (tr : List Record) (none : (i : ℕ) → i < length tr → T (isSend (a
       go (inl k) = k
       go (inr k) = absurd (none i h k)
 
-  same-ordering : (i : ℕ) → i < length tr → orderingAt tr i ≡ forks.orderingAt tr i
-  unfolding orderingAt orderingOf forks.orderingAt forks·ranks.orderingOf
+  same-ordering : (i : ℕ) → i < length tr → linkingAt tr i ≡ orderingAt tr i
+  unfolding linkingAt linkingOf orderingAt orderingOf
   same-ordering i h = rw (forks-only i h)
 
   no-targets : (i : ℕ) → i ≤ length tr → targetsAt tr i ≡ []
@@ -185,5 +185,5 @@ module _ (tr : List Record) (none : (i : ℕ) → i < length tr → T (isSend (a
       either-way true l = refl
       either-way false l = refl
 
-  pub without-sends : (u : ℕ) → linkedTrace tr .preds u ≡ traceLinks tr .preds u
-  without-sends u = rw (none-behind (length tr) u (omega arith)) (linked-local (orderingAt tr) (forks.orderingAt tr) (length tr) u same-ordering)
+  pub without-sends : (u : ℕ) → traceLinks tr .preds u ≡ recordLinks tr .preds u
+  without-sends u = rw (none-behind (length tr) u (omega arith)) (linked-local (linkingAt tr) (orderingAt tr) (length tr) u same-ordering)

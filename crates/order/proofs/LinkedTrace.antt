@@ -25,18 +25,19 @@ use Rattle.order.specs.Links.{Forward, leq, _⊢_≼_, _∈_}
 use Rattle.order.specs.Links as links
 use Rattle.order.specs.Clocks.{chainOf}
 use Rattle.order.specs.Schedule.{linked}
-use Rattle.order.specs.HappensBefore.{rank, leqRanks}
-use Rattle.order.specs.LinkRule.{orderingOf, orderingAt, targetsAt, behind, linkedTrace}
+use Rattle.order.specs.Rank.{rank}
+use Rattle.order.specs.HappensBefore.{traceLinks, leqRanks}
+use Rattle.order.specs.LinkRule.{linkingOf, linkingAt, targetsAt, behind}
 use Rattle.order.specs.loops.Numbering.{Numbered, InOrder, Preds}
 use Rattle.order.proofs.OrderLaws.{≼-trans, leq-decides}
 use Rattle.order.proofs.ClockLaws.{chain-≼}
 use Rattle.order.proofs.ScheduleLaws.{linked-exact}
-use Rattle.order.proofs.TraceOrder.{counted, counted-more, counted-passes, rank-at, rank-found}
+use Rattle.order.proofs.Counted.{counted, counted-more, counted-passes, rank-at, rank-found}
 use Rattle.order.proofs.EventRows.{events, nameOf, beginOf, begun}
 use Rattle.order.proofs.LinkRuleLaws.{Linked, says-link, says-start, says-join, Behind, behind-found, behind-here, Sends, sends-found, sends-in}
 
 module _ {tr : List Record} (w : Whole tr) where
-  begins-at : {e : ℕ} (b : Begins tr (length tr) e) → at tr (b .position) .kind ≡ 1
+  pub begins-at : {e : ℕ} (b : Begins tr (length tr) e) → at tr (b .position) .kind ≡ 1
   begins-at b = eqb→eq (at tr (b .position) .kind) 1 (b .is-begin)
 
   -- an event that begins has a rank, and one with a rank begins
@@ -71,31 +72,31 @@ module _ {tr : List Record} (w : Whole tr) where
     pub to : ℕ
     pub from-rank : rank tr t ≡ suc from
     pub to-rank : rank tr u ≡ suc to
-    pub linked : from ∈ linkedTrace tr .preds to
+    pub linked : from ∈ traceLinks tr .preds to
 
-  by-record : (i p u : ℕ) → i < length tr → orderingAt tr i ≡ link p u → p ∈ linkedTrace tr .preds u
-  by-record i p u h e = Memᴰ·append-right (behind tr (length tr) u) (linked-exact (orderingAt tr) (length tr) p u .1 (i, h, e))
+  by-record : (i p u : ℕ) → i < length tr → linkingAt tr i ≡ link p u → p ∈ traceLinks tr .preds u
+  by-record i p u h e = Memᴰ·append-right (behind tr (length tr) u) (linked-exact (linkingAt tr) (length tr) p u .1 (i, h, e))
 
   ranked : {t u : ℕ} (b : Begins tr (length tr) t) (c : Begins tr (length tr) u)
-      → counted tr (b .position) ∈ linkedTrace tr .preds (counted tr (c .position)) → Ranked t u
+      → counted tr (b .position) ∈ traceLinks tr .preds (counted tr (c .position)) → Ranked t u
   ranked b c m = record { from = counted tr (b .position); to = counted tr (c .position); from-rank = begins-rank b; to-rank = begins-rank c; linked = m }
 
   send-ranked : {t u : ℕ} (x y : ℕ) (f : Begins tr (length tr) t) (g : Begins tr (length tr) u) → at tr x .second ≡ t → Sends tr (g .position) x y → Ranked t u
   send-ranked {t} {u} x y f g e s =
       let r : rank tr (at tr x .second) - 1 ≡ counted tr (f .position) = omega (arith, ap (rank tr) e, begins-rank f) in
-      ranked f g (Memᴰ·append-left (linked (orderingAt tr) (length tr) (counted tr (g .position)))
+      ranked f g (Memᴰ·append-left (linked (linkingAt tr) (length tr) (counted tr (g .position)))
       (behind-here tr (length tr) (g .position) (counted tr (f .position)) (g .inside) (g .is-begin)
       (subst (λ (p : ℕ). p ∈ targetsAt tr (g .position)) r (sends-in tr (g .position) x y s))))
 
   pub link-ranked : {t u : ℕ} → Link tr (length tr) t u → Ranked t u
   link-ranked {t} {u} (starts-it i l a e q b) =
       let c = subst (Begins tr (length tr)) e (w .all-begin i l) in
-      let o : orderingAt tr i ≡ linkOf (rank tr t) (rank tr u) = rw (← e, ← q) (says-start tr i a) in
+      let o : linkingAt tr i ≡ linkOf (rank tr t) (rank tr u) = rw (← e, ← q) (says-start tr i a) in
       ranked c b (by-record i _ _ l (o ∙ rw (begins-rank c, begins-rank b)))
   link-ranked {t} {u} (joins-it i l a e q) =
       let c = subst (Begins tr (length tr)) q (w .all-begin i l) in
       let b = subst (Begins tr (length tr)) e (begins-later tr (omega arith) (w .sound .waited-begun i l a)) in
-      let o : orderingAt tr i ≡ linkOf (rank tr t) (rank tr u) = rw (← e, ← q) (says-join tr i a) in
+      let o : linkingAt tr i ≡ linkOf (rank tr t) (rank tr u) = rw (← e, ← q) (says-join tr i a) in
       ranked b c (by-record i _ _ l (o ∙ rw (begins-rank b, begins-rank c)))
   link-ranked {t} {u} (behind-it x y l m c r e q f g d) =
       let a = link-second (at tr x) (at tr y) c in
@@ -122,8 +123,8 @@ module _ {tr : List Record} (w : Whole tr) where
     pub to-rank : rank tr to-event ≡ suc u
     pub linked : Link tr (length tr) from-event to-event
 
-  record-named : (i p u : ℕ) → i < length tr → orderingAt tr i ≡ link p u → Named p u
-  unfolding orderingAt orderingOf
+  record-named : (i p u : ℕ) → i < length tr → linkingAt tr i ≡ link p u → Named p u
+  unfolding linkingAt linkingOf
   record-named i p u h e = go (says-link (isBegin r) (starts r) (isJoin r) _ x y y x p u e)
     where
       r : Record
@@ -173,18 +174,18 @@ module _ {tr : List Record} (w : Whole tr) where
             linked = behind-it x y (omega arith) j (s .one-link) in-order refl (s .to) g own (s .another);
           }
 
-  pub linked-named : (p u : ℕ) → p ∈ linkedTrace tr .preds u → Named p u
+  pub linked-named : (p u : ℕ) → p ∈ traceLinks tr .preds u → Named p u
   linked-named p u m = go (List·Memᴰ·append-cases (behind tr (length tr) u) m)
     where
-      go : p ∈ behind tr (length tr) u ⊎ p ∈ linked (orderingAt tr) (length tr) u → Named p u
+      go : p ∈ behind tr (length tr) u ⊎ p ∈ linked (linkingAt tr) (length tr) u → Named p u
       go (inl k) = behind-named p u (behind-found tr (length tr) u p k)
-      go (inr k) = let (i, h, e) = linked-exact (orderingAt tr) (length tr) p u .0 k in record-named i p u h e
+      go (inr k) = let (i, h, e) = linked-exact (linkingAt tr) (length tr) p u .0 k in record-named i p u h e
 
   link-before : {t u : ℕ} → Link tr (length tr) t u → HappensBefore tr t u
   link-before {t} {u} k = test-sound w t u (link-holds w k)
 
   -- "each direct predecessor begins earlier"
-  pub forward-links : Forward (linkedTrace tr)
+  pub forward-links : Forward (traceLinks tr)
   forward-links u p m =
       let n = linked-named p u m in
       let b = rank-begins (n .from-event) p (n .from-rank) in
@@ -196,7 +197,7 @@ module _ {tr : List Record} (w : Whole tr) where
 
   -- happens-before by event number is happens-before by rank
   abbrev Up : ℕ → ℕ → Type 0
-  Up p u = (q : ℕ) × (rank tr u ≡ suc q) × (linkedTrace tr ⊢ p ≼ q)
+  Up p u = (q : ℕ) × (rank tr u ≡ suc q) × (traceLinks tr ⊢ p ≼ q)
 
   by-link : {t u : ℕ} (p : ℕ) → rank tr t ≡ suc p → Link tr (length tr) t u → Up p u
   by-link p r k =
@@ -216,39 +217,39 @@ module _ {tr : List Record} (w : Whole tr) where
   up p r (path h k) =
       let (m, x, y) = up p r h in
       let (q, z, v) = up m x k in
-      (q, z, ≼-trans (linkedTrace tr) y v)
+      (q, z, ≼-trans (traceLinks tr) y v)
 
-  pub down : {p q : ℕ} (t u : ℕ) → rank tr t ≡ suc p → rank tr u ≡ suc q → linkedTrace tr ⊢ p ≼ q → HappensBefore tr t u
+  pub down : {p q : ℕ} (t u : ℕ) → rank tr t ≡ suc p → rank tr u ≡ suc q → traceLinks tr ⊢ p ≼ q → HappensBefore tr t u
   down {p} {q} t u r s (links.same e) = same (rank-one t u q (r ∙ ap suc e) s)
   down {p} {q} t u r s (links.step {p = m} h k) =
       let n = linked-named m q k in
       let e : n .to-event ≡ u = rank-one (n .to-event) u q (n .to-rank) s in
       path (down t (n .from-event) r (n .from-rank) h) (link-before (rw e at (n .linked)))
 
-  by-rank : (t u x y : ℕ) → rank tr t ≡ x → rank tr u ≡ y → T (leqRanks (linkedTrace tr) x y) → HappensBefore tr t u
+  by-rank : (t u x y : ℕ) → rank tr t ≡ x → rank tr u ≡ y → T (leqRanks (traceLinks tr) x y) → HappensBefore tr t u
   by-rank t u zero y r s h = absurd h
   by-rank t u (suc p) zero r s h = absurd h
-  by-rank t u (suc p) (suc q) r s h = down t u r s (leq-decides (linkedTrace tr) forward-links p q .0 h)
+  by-rank t u (suc p) (suc q) r s h = down t u r s (leq-decides (traceLinks tr) forward-links p q .0 h)
 
-  pub ranks-decide : (t u : ℕ) → Begins tr (length tr) t → T (leqRanks (linkedTrace tr) (rank tr t) (rank tr u)) ↔ HappensBefore tr t u
+  pub ranks-decide : (t u : ℕ) → Begins tr (length tr) t → T (leqRanks (traceLinks tr) (rank tr t) (rank tr u)) ↔ HappensBefore tr t u
   ranks-decide t u b = (by-rank t u (rank tr t) (rank tr u) refl refl, back)
     where
-      back : HappensBefore tr t u → T (leqRanks (linkedTrace tr) (rank tr t) (rank tr u))
+      back : HappensBefore tr t u → T (leqRanks (traceLinks tr) (rank tr t) (rank tr u))
       back h =
           let r = begins-rank b in
           let (q, s, k) = up (counted tr (b .position)) r h in
-          rw (r, s) (leq-decides (linkedTrace tr) forward-links (counted tr (b .position)) q .1 k)
+          rw (r, s) (leq-decides (traceLinks tr) forward-links (counted tr (b .position)) q .1 k)
 
   -- so its test is precedence's, and the table's bit
-  pub ranks-test : (t u : ℕ) → Begins tr (length tr) t → leqRanks (linkedTrace tr) (rank tr t) (rank tr u) ≡ happensBefore tr t u
+  pub ranks-test : (t u : ℕ) → Begins tr (length tr) t → leqRanks (traceLinks tr) (rank tr t) (rank tr u) ≡ happensBefore tr t u
   ranks-test t u b =
-      equal-tests (leqRanks (linkedTrace tr) (rank tr t) (rank tr u)) (happensBefore tr t u) (λ h. test-decides w t u .1 (ranks-decide t u b .0 h))
+      equal-tests (leqRanks (traceLinks tr) (rank tr t) (rank tr u)) (happensBefore tr t u) (λ h. test-decides w t u .1 (ranks-decide t u b .0 h))
       (λ h. ranks-decide t u b .1 (test-decides w t u .0 h))
 
-  pub ranks-table : (t u : ℕ) → Begins tr (length tr) t → Begins tr (length tr) u → leqRanks (linkedTrace tr) (rank tr t) (rank tr u) ≡ table tr (length tr) t u
+  pub ranks-table : (t u : ℕ) → Begins tr (length tr) t → Begins tr (length tr) u → leqRanks (traceLinks tr) (rank tr t) (rank tr u) ≡ table tr (length tr) t u
   ranks-table t u b c =
       let d = table-decides (w .sound) t u c in
-      equal-tests (leqRanks (linkedTrace tr) (rank tr t) (rank tr u)) (table tr (length tr) t u) (λ h. d .1 (ranks-decide t u b .0 h))
+      equal-tests (leqRanks (traceLinks tr) (rank tr t) (rank tr u)) (table tr (length tr) t u) (λ h. d .1 (ranks-decide t u b .0 h))
       (λ h. ranks-decide t u b .1 (d .0 h))
 
   -- the test for t ≼ u, for all events
@@ -263,19 +264,19 @@ module _ {tr : List Record} (w : Whole tr) where
           let c = begun-begins tr u (length tr) x in
           begins-back (w .sound) (table-decides (w .sound) t u c .0 y) c
 
-  pub test-is : (t u : ℕ) → (eqb t u || leqRanks (linkedTrace tr) (rank tr t) (rank tr u)) ≡ happensBefore tr t u
+  pub test-is : (t u : ℕ) → (eqb t u || leqRanks (traceLinks tr) (rank tr t) (rank tr u)) ≡ happensBefore tr t u
   test-is t u =
-      equal-tests (eqb t u || leqRanks (linkedTrace tr) (rank tr t) (rank tr u)) (happensBefore tr t u)
-      (λ h. test-complete w t u (there (either (eqb t u) (leqRanks (linkedTrace tr) (rank tr t) (rank tr u)) h))) (λ h. back h (decide-eq t u))
+      equal-tests (eqb t u || leqRanks (traceLinks tr) (rank tr t) (rank tr u)) (happensBefore tr t u)
+      (λ h. test-complete w t u (there (either (eqb t u) (leqRanks (traceLinks tr) (rank tr t) (rank tr u)) h))) (λ h. back h (decide-eq t u))
     where
-      there : T (eqb t u) ⊎ T (leqRanks (linkedTrace tr) (rank tr t) (rank tr u)) → HappensBefore tr t u
+      there : T (eqb t u) ⊎ T (leqRanks (traceLinks tr) (rank tr t) (rank tr u)) → HappensBefore tr t u
       there (inl e) = same (eqb→eq t u e)
       there (inr k) = by-rank t u (rank tr t) (rank tr u) refl refl k
 
-      back : T (happensBefore tr t u) → (t ≡ u) ⊎ (t ≢ u) → T (eqb t u || leqRanks (linkedTrace tr) (rank tr t) (rank tr u))
-      back h (inl e) = or-left (eqb t u) (leqRanks (linkedTrace tr) (rank tr t) (rank tr u)) (eq→eqb t u e)
+      back : T (happensBefore tr t u) → (t ≡ u) ⊎ (t ≢ u) → T (eqb t u || leqRanks (traceLinks tr) (rank tr t) (rank tr u))
+      back h (inl e) = or-left (eqb t u) (leqRanks (traceLinks tr) (rank tr t) (rank tr u)) (eq→eqb t u e)
       back h (inr n) =
-          or-right (eqb t u) (leqRanks (linkedTrace tr) (rank tr t) (rank tr u))
+          or-right (eqb t u) (leqRanks (traceLinks tr) (rank tr t) (rank tr u))
           (ranks-decide t u (ranked-first t u h n) .1 (test-sound w t u h))
 
   -- the direct predecessors of a row are those with a direct link
@@ -285,31 +286,31 @@ module _ {tr : List Record} (w : Whole tr) where
       begins-rank (record { position = beginOf tr r; inside = b .inside; is-begin = eq→eqb (at tr (beginOf tr r) .kind) 1 (b .kind); of-event = refl })
       ∙ ap suc (b .number)
 
-  pub preds-are : (u : ℕ) → u < events tr → Preds (nameOf tr) (Link tr (length tr)) u (linkedTrace tr .preds u)
+  pub preds-are : (u : ℕ) → u < events tr → Preds (nameOf tr) (Link tr (length tr)) u (traceLinks tr .preds u)
   preds-are u h = record { earlier = forward-links u; linked = by-name; all = all }
     where
-      by-name : (p : ℕ) → p ∈ linkedTrace tr .preds u → Link tr (length tr) (nameOf tr p) (nameOf tr u)
+      by-name : (p : ℕ) → p ∈ traceLinks tr .preds u → Link tr (length tr) (nameOf tr p) (nameOf tr u)
       by-name p k =
           let n = linked-named p u k in
           let x : n .from-event ≡ nameOf tr p = rank-one (n .from-event) (nameOf tr p) p (n .from-rank) (named p (omega (arith, forward-links u p k))) in
           let y : n .to-event ≡ nameOf tr u = rank-one (n .to-event) (nameOf tr u) u (n .to-rank) (named u h) in
           subst (Link tr (length tr) (nameOf tr p)) y (subst (λ (z : ℕ). Link tr (length tr) z (n .to-event)) x (n .linked))
 
-      all : (x : ℕ) → Link tr (length tr) x (nameOf tr u) → (p : ℕ) × (p ∈ linkedTrace tr .preds u) × (nameOf tr p ≡ x)
+      all : (x : ℕ) → Link tr (length tr) x (nameOf tr u) → (p : ℕ) × (p ∈ traceLinks tr .preds u) × (nameOf tr p ≡ x)
       all x k =
           let g = link-ranked k in
           let e : g .to ≡ u = suc-inj (sym (g .to-rank) ∙ named u h) in
-          let m = subst (λ (z : ℕ). g .from ∈ linkedTrace tr .preds z) e (g .linked) in
+          let m = subst (λ (z : ℕ). g .from ∈ traceLinks tr .preds z) e (g .linked) in
           (g .from, m, rank-one (nameOf tr (g .from)) x (g .from) (named (g .from) (omega (arith, forward-links u (g .from) m))) (g .from-rank))
 
   -- by number: the order of rows is the table's
   row-begins : (r : ℕ) → r < events tr → Begins tr (length tr) (nameOf tr r)
   row-begins r h = rank-begins (nameOf tr r) r (named r h)
 
-  pub rows-table : (p u : ℕ) → p < events tr → u < events tr → leq (linkedTrace tr) p u ≡ table tr (length tr) (nameOf tr p) (nameOf tr u)
+  pub rows-table : (p u : ℕ) → p < events tr → u < events tr → leq (traceLinks tr) p u ≡ table tr (length tr) (nameOf tr p) (nameOf tr u)
   rows-table p u h k = rw (named p h, named u k) at (ranks-table (nameOf tr p) (nameOf tr u) (row-begins p h) (row-begins u k))
 
-  pub rows-test : (p u : ℕ) → p < events tr → u < events tr → leq (linkedTrace tr) p u ≡ happensBefore tr (nameOf tr p) (nameOf tr u)
+  pub rows-test : (p u : ℕ) → p < events tr → u < events tr → leq (traceLinks tr) p u ≡ happensBefore tr (nameOf tr p) (nameOf tr u)
   rows-test p u h k = rw (named p h, named u k) at (ranks-test (nameOf tr p) (nameOf tr u) (row-begins p h))
 
   -- what cover rows ask of the numbers and of the chains
@@ -326,6 +327,6 @@ module _ {tr : List Record} (w : Whole tr) where
         omega (arith, g);
   }
 
-  pub in-order : (conf : ℕ → ℕ → Bool) → InOrder (settingOf tr conf) (events tr) (nameOf tr) (chainOf (linkedTrace tr))
+  pub in-order : (conf : ℕ → ℕ → Bool) → InOrder (settingOf tr conf) (events tr) (nameOf tr) (chainOf (traceLinks tr))
   in-order conf s r h k e =
-      subst T (rows-test s r (omega arith) k) (leq-decides (linkedTrace tr) forward-links s r .1 (chain-≼ (linkedTrace tr) forward-links s r h e))
+      subst T (rows-test s r (omega arith) k) (leq-decides (traceLinks tr) forward-links s r .1 (chain-≼ (traceLinks tr) forward-links s r h e))

@@ -2,7 +2,7 @@
 -- Assumes nothing.
 use Prim.Native.Nat.{ℕ, suc, _+_, _*_, _-_, _<_, _≤_, max}
 use mathlib.Core.Path.{_≡_, refl, sym, ap, ap₂, _∙_, subst}
-use mathlib.Core.Bool.{_&&_}
+use mathlib.Core.Bool.{false, _&&_}
 use mathlib.Core.List.{List, [], _++_, append-assoc}
 use mathlib.Core.Logic.{_≢_, _⊎_, inl, inr}
 use native.Mathlib.Omega.{arith}
@@ -14,6 +14,7 @@ use lib.ListN.{length, getD, set, drop, replicate, length-append, length-replica
 use lib.Seq.{set-at, drop-at, getD-set-other, ext-getD, getD-append-add}
 use Rattle.records.specs.declared.Record.{Record}
 use Rattle.records.specs.Records.{at, isBegin}
+use Rattle.records.specs.Kinds.{hasSend}
 use Rattle.trace.specs.Reading.{Acceptable}
 use Rattle.trace.proofs.Events.{few-events}
 use Rattle.records.proofs.Positions.{lt-or-ge}
@@ -28,12 +29,13 @@ use Rattle.order.specs.loops.Standing.{begins}
 use Rattle.order.specs.loops.Walk.{FillWalked, FillWalks}
 use Rattle.order.specs.loops.Pass.{tick, chooseIn, Rows, enterRow, beginRow, RoomToBegin, Are}
 use Rattle.order.specs.loops.PassEnds.{Ready, Passes}
-use Rattle.order.specs.HappensBefore.{orderingAt, traceLinks}
+use Rattle.order.specs.loops.RecordLinks.{orderingAt}
+use Rattle.order.specs.HappensBefore.{traceLinks}
 use Rattle.slices.specs.Slices.{zeros}
 use Rattle.order.specs.Fill.{eventsIn, beginPosition, rowPastWidth, chainsUsed, chainTable, traceClocks, noChains}
 use Rattle.slices.proofs.Tests.{both, and, eq→eqb, decide-eq}
 use Rattle.order.proofs.CountLaws.{firstFrom-local, first-first, first-only}
-use Rattle.order.proofs.ScheduleLaws.{begins-zero, begins-suc, begins-mono, begin-next, links-made}
+use Rattle.order.proofs.ScheduleLaws.{begins-zero, begins-suc, begins-mono, begin-next}
 use Rattle.order.proofs.ChainLaws.{chain-below, members-le, needs-at, needs-none}
 use Rattle.order.proofs.ClockLaws.{chain-merged}
 use Rattle.order.proofs.RowLaws.{flat-length, flat-same, table-length, table-at}
@@ -41,7 +43,9 @@ use Rattle.order.proofs.FlatLaws.{addAt, zeroIn, zero-own, zero-other, 
 use Rattle.order.proofs.WalkLaws.{along-start, pred-linked, ZeroPast}
 use Rattle.order.proofs.HintLaws.{Hinted, hinted-begin, unhinted, Shows, FillArrives}
 use Rattle.order.proofs.FillLaws.{Taken, taken-start, taken-more, entry-short, row-merged, filling-begin, hinted-none, rows-le}
-use Rattle.order.proofs.TraceOrder.{counted, counted-passes, ops-begins, ops-ordered, op-kind, forward-links, link-target, first-begins}
+use Rattle.order.proofs.Counted.{counted, counted-passes}
+use Rattle.order.proofs.RecordOrder.{records-make, ops-begins, ops-ordered, op-kind, link-target, first-begins}
+use Rattle.order.proofs.TraceOrder.{forward-links}
 use Rattle.order.proofs.TraceWalk.{arrives}
 
 -- a begin for which a chain is left, and one for which none is
@@ -221,7 +225,7 @@ module _ {tr : List Record} (a : Acceptable tr) (w : ℕ) (rest : List ℕ) wher
         }
 
   -- at a begin whose row the clocks show
-  module _ (i : ℕ) (s : Rows) (u : ℕ) (q : Standing i s u) (h : i < n) (e : op i ≡ Begin u) where
+  module _ (i : ℕ) (s : Rows) (u : ℕ) (q : Standing i s u) (ns : hasSend tr ≡ false) (h : i < n) (e : op i ≡ Begin u) where
     abbrev p : Passing i s
     p = q .passing
 
@@ -235,7 +239,7 @@ module _ {tr : List Record} (a : Acceptable tr) (w : ℕ) (rest : List ℕ) wher
     row-is c k = ap (λ x. getD x (u * w + c) 0) (p .shows .clocks-are) ∙ (flat-read w m rest (p .shows .shown) u c (turn-of .1) k ∙ q .own c)
 
     merged-is : (c : ℕ) → c < w → getD (s .clocks) (u * w + c) 0 ≡ merged l u c
-    merged-is c k = row-is c k ∙ row-merged l fw op n (ops-ordered a) (links-made op n) i u h e (p .shows .rows) (p .shows .along) c
+    merged-is c k = row-is c k ∙ row-merged l fw op n (ops-ordered a) (records-make tr ns) i u h e (p .shows .rows) (p .shows .along) c
 
     -- what it asks for is there
     pub passing-room : w ≤ 1024 → RoomToBegin w u s
@@ -243,7 +247,7 @@ module _ {tr : List Record} (a : Acceptable tr) (w : ℕ) (rest : List ℕ) wher
       narrow = narrow;
       room = record { row = fits; chains-fit = taken .chains-fit; sizes-room = taken .sizes-room };
       chosen-room = inside;
-      few-entries = λ c g. omega (arith, row-is c g, rows-le l fw op n (ops-ordered a) (links-made op n) i (p .shows .rows) (omega arith) (p .shows .along) u c, few, begins-mono op i n (omega arith));
+      few-entries = λ c g. omega (arith, row-is c g, rows-le l fw op n (ops-ordered a) (records-make tr ns) i (p .shows .rows) (omega arith) (p .shows .along) u c, few, begins-mono op i n (omega arith));
       few-members = λ c g. omega (arith, taken .sizes-are c g, members-le (leq l) u c, few, turn-of .1);
       hint-low = p .of-hinted .low u inside;
       hinted = λ c g x.
@@ -256,7 +260,7 @@ module _ {tr : List Record} (a : Acceptable tr) (w : ℕ) (rest : List ℕ) wher
 
         low : (t : ℕ) → t ∈ l .preds u → 1024 - getD (s .chosen) u 0 ≤ chainOf l t
         low t y =
-            let r = pred-linked op n (ops-ordered a) l (links-made op n) i u h e t y in
+            let r = pred-linked op n (ops-ordered a) l (records-make tr ns) i u h e t y in
             omega (arith, p .of-hinted .hints u t (r .0) (omega (arith, turn-of .0)) inside (r .1) (r .2))
 
         fits : u * w + w ≤ length (s .clocks)
@@ -274,7 +278,7 @@ module _ {tr : List Record} (a : Acceptable tr) (w : ℕ) (rest : List ℕ) wher
     passing-begin narrow t = rw (chosen-is, enter-room w u s (chainOf l u) t) (record {
       shows = record {
         rows = addAt (p .shows .rows) u (chainOf l u);
-        along = filling-begin l fw op n (ops-ordered a) (links-made op n) i u h e (p .shows .rows) (p .shows .along);
+        along = filling-begin l fw op n (ops-ordered a) (records-make tr ns) i u h e (p .shows .rows) (p .shows .along);
         shown = addAt (p .shows .shown) u (chainOf l u);
         shown-is = λ v c k. ap (λ (x : ℕ). x + bit (eqb v u && eqb (chainOf l u) c)) (each v c k (decide-eq v u));
         clocks-are = ap (tick w u (chainOf l u)) (p .shows .clocks-are) ∙ ticked-row w m rest (p .shows .shown) u (chainOf l u) (turn-of .1) t;
@@ -331,6 +335,7 @@ module _ {tr : List Record} (a : Acceptable tr) (w : ℕ) (rest : List ℕ) wher
 module _ (tr : List Record) (w : ℕ) (ranks clocks₀ : List ℕ) where
   pub record Going (clocks sizes chosen : List ℕ) (chains u i : ℕ) : Type 0 where
     pub acceptable : Acceptable tr
+    pub no-sends : hasSend tr ≡ false
     pub narrow : w ≤ 1024
     pub ranks-are : ranks ≡ ranksOf tr
     pub within : i ≤ length tr
@@ -341,6 +346,7 @@ module _ (tr : List Record) (w : ℕ) (ranks clocks₀ : List ℕ) where
   pub going-start : (sizes chosen : List ℕ) → Ready tr w ranks clocks₀ sizes chosen → Going clocks₀ sizes chosen 0 0 0
   going-start sizes chosen r = record {
     acceptable = r .acceptable;
+    no-sends = r .no-sends;
     narrow = r .narrow;
     ranks-are = r .ranks-are;
     within = omega arith;
@@ -375,14 +381,14 @@ module _ (tr : List Record) (w : ℕ) (ranks clocks₀ : List ℕ) where
         rest-fresh = subst (λ (k : ℕ). drop (k * w) fresh ≡ drop (eventsIn tr * w) clocks₀) (events-are (g .acceptable) w []) (passing-rest (g .acceptable) w _ i _ (standing .passing))
 
         pub going-room : RoomToBegin w u (record { clocks = fresh; sizes = sizes; chosen = chosen; chains = chains })
-        going-room = passing-room (g .acceptable) w _ i _ u standing h (g .at-begin h) (g .narrow)
+        going-room = passing-room (g .acceptable) w _ i _ u standing (g .no-sends) h (g .at-begin h) (g .narrow)
 
         module _ (clocks′ sizes′ chosen′ : List ℕ) (next : ℕ) (t : Are (beginRow w u (record { clocks = fresh; sizes = sizes; chosen = chosen; chains = chains })) clocks′ sizes′ chosen′ next) where
           abbrev choice : ℕ
           choice = chainOf (traceLinks tr) u
 
           begun : record { clocks = clocks′; sizes = sizes′; chosen = chosen′; chains = next } ≡ enterRow w u (record { clocks = fresh; sizes = sizes; chosen = chosen; chains = chains }) choice
-          begun = are-rows _ clocks′ sizes′ chosen′ next t ∙ ap (enterRow w u (record { clocks = fresh; sizes = sizes; chosen = chosen; chains = chains })) (chosen-is (g .acceptable) w _ i _ u standing h (g .at-begin h))
+          begun = are-rows _ clocks′ sizes′ chosen′ next t ∙ ap (enterRow w u (record { clocks = fresh; sizes = sizes; chosen = chosen; chains = chains })) (chosen-is (g .acceptable) w _ i _ u standing (g .no-sends) h (g .at-begin h))
 
           -- a chain was left
           left : next ≤ w → (choice < w) ⊎ (w ≤ choice) → choice < w
@@ -391,7 +397,7 @@ module _ (tr : List Record) (w : ℕ) (ranks clocks₀ : List ℕ) where
 
           module _ (k : next ≤ w) (clocks″ chosen″ : List ℕ) (j : ℕ) (x : FillWalks tr ranks w next (i + 1) clocks′ chosen′ clocks″ chosen″ j) where
             entered : Passing (g .acceptable) w (drop (eventsIn tr * w) clocks₀) (suc i) (record { clocks = clocks′; sizes = sizes′; chosen = chosen′; chains = next })
-            entered = rw (are-rows _ clocks′ sizes′ chosen′ next t) (passing-begin (g .acceptable) w _ i _ u standing h (g .at-begin h) (g .narrow) (left k (lt-or-ge choice w)))
+            entered = rw (are-rows _ clocks′ sizes′ chosen′ next t) (passing-begin (g .acceptable) w _ i _ u standing (g .no-sends) h (g .at-begin h) (g .narrow) (left k (lt-or-ge choice w)))
 
             early : (q : ℕ) → q < begins (orderingAt tr) (suc i) → chainOf (traceLinks tr) q < 1024
             early q y = omega (arith, chain-below (leq (traceLinks tr)) q _ y, entered .taken .chains-are, entered .taken .chains-fit, g .narrow)
@@ -409,6 +415,7 @@ module _ (tr : List Record) (w : ℕ) (ranks clocks₀ : List ℕ) where
                 let b : begins (orderingAt tr) (suc i) ≡ u + 1 = begins-suc (orderingAt tr) i (Begin u) (g .at-begin h) ∙ omega (arith, g .row-is) in
                 record {
                   acceptable = g .acceptable;
+                  no-sends = g .no-sends;
                   narrow = g .narrow;
                   ranks-are = g .ranks-are;
                   within = arrived .inside;
@@ -424,7 +431,7 @@ module _ (tr : List Record) (w : ℕ) (ranks clocks₀ : List ℕ) where
               stops : (choice < w) ⊎ (w ≤ choice) → Passes tr w clocks₀ clocks′ chosen′ chains i
               stops (inl c) = absurd (omega (arith, ap (λ r. r .chains) (begun ∙ enter-room w u _ choice c), g .passing .taken .chains-fit))
               stops (inr c) =
-                  let s = short-is (g .acceptable) w _ i _ u standing h (g .at-begin h) c in
+                  let s = short-is (g .acceptable) w _ i _ u standing (g .no-sends) h (g .at-begin h) c in
                   let b = begun-below (g .acceptable) w [] i u h (g .at-begin h) in
                   let e = events-are (g .acceptable) w [] in
                   record {

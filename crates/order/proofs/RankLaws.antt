@@ -19,11 +19,14 @@ use Rattle.trace.proofs.Blocks.{passes-at}
 use Rattle.trace.proofs.Marked.{formed}
 use Rattle.trace.proofs.Going.{in-range}
 use Rattle.ranks.specs.OrderingOf.{orderingOf}
-use Rattle.order.specs.HappensBefore.{Begins, rankIn, rank, orderingAt}
+use Rattle.order.specs.HappensBefore.{Begins}
+use Rattle.order.specs.Rank.{rankIn, rank}
+use Rattle.order.specs.loops.RecordLinks.{orderingAt}
 use Rattle.slices.specs.Slices.{zeros}
 use Rattle.ranks.specs.Ranks.{withRank, rankIf, ranksUpto, ranksOf}
 use Rattle.ranks.proofs.RankLaws.{ranks-length}
-use Rattle.order.proofs.TraceOrder.{counted, counted-zero, counted-begin, counted-other, rank-begins}
+use Rattle.order.proofs.Counted.{counted, counted-zero, counted-begin, counted-other}
+use Rattle.order.proofs.TraceOrder.{rank-begins}
 
 module _ (tr : List Record) where
   few : (i : ℕ) → counted tr i ≤ i

@@ -10,10 +10,12 @@ use Rattle.records.specs.declared.Record.{Record}
 use Rattle.trace.specs.Reading.{Acceptable}
 use Rattle.trace.proofs.Events.{few-events}
 use Rattle.order.specs.Clocks.{table, chainOf}
-use Rattle.order.specs.HappensBefore.{rank, traceLinks}
+use Rattle.order.specs.Rank.{rank}
+use Rattle.order.specs.HappensBefore.{traceLinks}
 use Rattle.order.specs.Fill.{eventsIn, chainTable}
 use Rattle.order.proofs.RowLaws.{table-length, table-at}
-use Rattle.order.proofs.TraceOrder.{counted-passes, begins-at, begins-rank, rank-begins}
+use Rattle.order.proofs.Counted.{counted-passes}
+use Rattle.order.proofs.TraceOrder.{begins-at, begins-rank, rank-begins}
 
 module _ {tr : List Record} (a : Acceptable tr) where
   -- a rank is a row of the clocks, plus 1

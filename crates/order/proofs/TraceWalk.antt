@@ -9,8 +9,8 @@ use Rattle.trace.specs.Reading.{Acceptable}
 use Rattle.ranks.specs.Ranks.{ranksOf}
 use Rattle.order.specs.loops.Standing.{begins}
 use Rattle.order.specs.loops.Walk.{FillWalked, orderingBy, FillWalks}
-use Rattle.order.specs.HappensBefore.{orderingAt}
-use Rattle.order.proofs.TraceOrder.{ops-ordered, link-target}
+use Rattle.order.specs.loops.RecordLinks.{orderingAt}
+use Rattle.order.proofs.RecordOrder.{ops-ordered, link-target}
 use Rattle.order.proofs.RankLaws.{ops-are}
 use Rattle.order.proofs.WalkLaws.{ZeroPast}
 use Rattle.order.proofs.HintLaws.{Hinted, Shows, FillArrives, fill-walked}

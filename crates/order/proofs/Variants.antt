@@ -13,12 +13,17 @@ use Rattle.trace.specs.Reply.{demand, orElse, then}
 use Rattle.trace.specs.Reading.{closing, walk, distance, trailerReply, frameReply, recordsIn, readReply, Accepts}
 use Rattle.records.specs.Encoding.{encode, trailer, traceOf}
 use Rattle.trace.proofs.Examples.{rec}
-use Rattle.ranks.specs.OrderingOf.{orderingOf}
+use Rattle.records.specs.Kinds.{sameLink}
+use Rattle.coverage.specs.Below.{upto}
+use Rattle.coverage.specs.Below as below
+use Rattle.precedence.specs.Table.{ahead}
 use Rattle.order.specs.Links.{Links, within, along, some, leq}
 use Rattle.order.specs.Chains.{firstFrom, pick, put, lasts, chain, needs}
 use Rattle.order.specs.Schedule.{linked}
 use Rattle.order.specs.Clocks.{table}
-use Rattle.order.specs.HappensBefore.{rankIn, rank, orderingAt, traceLinks}
+use Rattle.order.specs.Rank.{rankIn, rank}
+use Rattle.order.specs.LinkRule.{linkingOf, linkingAt, putsBehind, targetsAt, behind}
+use Rattle.order.specs.HappensBefore.{traceLinks}
 
 -- Event 3 waits for 1 and 2, and starts 4 and 5. When 5 begins, chain 0 has 1, 3 and 4, and chain 1 has 2: 4 doesn't happen before 5, but 2 does,
 -- through 3.
@@ -38,10 +43,12 @@ direct l m u = some (eqb m) (l .preds u)
 -- the chain of each event action, in order of begin: that rule gives the last one a chain of its own
 pub direct-false : (table 5 (chain (direct (traceLinks records))) ≡ 0 ∷ 1 ∷ 0 ∷ 0 ∷ 2 ∷ [])
     × (table 5 (chain (leq (traceLinks records))) ≡ 0 ∷ 1 ∷ 0 ∷ 0 ∷ 1 ∷ [])
-unfolding table chain lasts pick put some leq along within linked orderingAt orderingOf rank rankIn past begins
+unfolding table chain lasts pick put some leq along within behind targetsAt putsBehind linked linkingAt linkingOf rank rankIn past begins ahead
+    below.some upto sameLink
 direct-false = (refl, refl)
 
 -- so at width 2 it would be refused by 23 at that begin
 pub direct-needs : (needs (direct (traceLinks records)) 2 5 ≡ 4) × (needs (leq (traceLinks records)) 2 5 ≡ 5)
-unfolding needs firstFrom chain lasts pick put some leq along within linked orderingAt orderingOf rank rankIn past begins
+unfolding needs firstFrom chain lasts pick put some leq along within behind targetsAt putsBehind linked linkingAt linkingOf rank rankIn past begins ahead
+    below.some upto sameLink
 direct-needs = (refl, refl)

@@ -9,7 +9,8 @@ use Rattle.records.specs.declared.Trace.{Trace}
 use Rattle.trace.specs.Reading.{recordsIn, Accepts}
 use Rattle.clocks.specs.Rows.{mergeRow, copyRow, clearRow}
 use Rattle.order.specs.Clocks.{table, chainOf, entry}
-use Rattle.order.specs.HappensBefore.{Begins, Link, HappensBefore, rank, traceLinks}
+use Rattle.order.specs.HappensBefore.{Begins, Link, HappensBefore, traceLinks}
+use Rattle.order.specs.Rank.{rank}
 use Rattle.order.specs.loops.Pass.{Rows, beginRow}
 use Rattle.order.specs.declared.Filling.the-variants.{Filled}
 use Rattle.order.specs.Paper.{Fills}

@@ -5,7 +5,8 @@ use mathlib.Core.List.{List}
 use Rattle.records.specs.declared.Record.{Record}
 use Rattle.clocks.specs.Rows.{compareIn}
 use Rattle.order.specs.Clocks.{chainOf}
-use Rattle.order.specs.HappensBefore.{rank, traceLinks}
+use Rattle.order.specs.Rank.{rank}
+use Rattle.order.specs.HappensBefore.{traceLinks}
 
 -- the comparison of the rows of events t and u
 unfoldable pub compared : List Record → ℕ → List ℕ → ℕ → ℕ → Bool

@@ -2,8 +2,9 @@ pub mod Links
 pub mod Chains
 pub mod Clocks
 pub mod Schedule
-pub mod HappensBefore
+pub mod Rank
 pub mod LinkRule
+pub mod HappensBefore
 pub mod Compared
 pub mod Fill
 pub mod Lent

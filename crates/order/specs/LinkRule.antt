@@ -1,9 +1,8 @@
--- The links of a trace with sends: those by forks, sends and joins, and those by the link rule. Assumes nothing.
+-- What makes the links of a trace: forks, sends and joins, and the link rule. Assumes nothing.
 use Prim.Native.Nat.{ℕ, zero, suc, _-_}
 use mathlib.Core.Bool.{Bool, cond, not, _&&_}
-use mathlib.Core.List.{List, [], _++_, map}
+use mathlib.Core.List.{List, [], map}
 use lib.Dec.{eqb, ltb}
-use lib.ListN.{length}
 use Rattle.records.specs.declared.Record.{Record}
 use Rattle.records.specs.Records.{at, past, isBegin, isJoin, begins}
 use Rattle.coverage.specs.Below.{some, upto}
@@ -12,20 +11,18 @@ use Rattle.precedence.specs.Table.{table, ahead}
 use Rattle.ranks.specs.declared.Ordering.{Ordering}
 use Rattle.ranks.specs.declared.Ordering.the-variants.{Begin, Nothing}
 use Rattle.ranks.specs.OrderingOf.{linkOf, pickOrdering}
-use Rattle.order.specs.Links.{Links}
-use Rattle.order.specs.Schedule.{linked}
-use Rattle.order.specs.HappensBefore.{rank}
+use Rattle.order.specs.Rank.{rank}
 
 -- what a record says of links and begins, where ranks are given by event number; sends are "ordering as a fork does"
-unfoldable pub orderingOf : (ℕ → ℕ) → Record → Ordering
-orderingOf ranks r =
+unfoldable pub linkingOf : (ℕ → ℕ) → Record → Ordering
+linkingOf ranks r =
     pickOrdering (isBegin r) (Begin (ranks (r .first) - 1))
     (pickOrdering (starts r) (linkOf (ranks (r .first)) (ranks (r .second)))
     (pickOrdering (isJoin r) (linkOf (ranks (r .second)) (ranks (r .first))) Nothing))
 
 module _ (tr : List Record) where
-  unfoldable pub orderingAt : ℕ → Ordering
-  orderingAt i = orderingOf (rank tr) (at tr i)
+  unfoldable pub linkingAt : ℕ → Ordering
+  linkingAt i = linkingOf (rank tr) (at tr i)
 
   -- "Where one send ≼ another on the same link, the first's target happens before the second's": record x is a send to another event than the one
   -- that record i begins, and is before a send y to that event on the same link
@@ -40,7 +37,3 @@ module _ (tr : List Record) where
   unfoldable pub behind : ℕ → ℕ → List ℕ
   behind zero u = []
   behind (suc i) u = cond (isBegin (at tr i) && eqb (begins (past tr i)) u) (targetsAt i) (behind i u)
-
--- the links of a trace, its event actions numbered from 0 in order of begin
-abbrev pub linkedTrace : List Record → Links
-linkedTrace tr = record { preds = λ u. behind tr (length tr) u ++ linked (orderingAt tr) (length tr) u }

@@ -1,4 +1,5 @@
 -- What loops compute, for contracts inside the crates: no promise to a caller rests on these.
+pub mod RecordLinks
 pub mod Sets
 pub mod Numbering
 pub mod Raising

@@ -12,6 +12,8 @@ use Rattle.records.specs.declared.Trace.{Trace}
 use Rattle.records.specs.Bytes.{recordAt, recordsFrom, decode, part}
 use Rattle.records.specs.Records.{past, has, begun, ended}
 use Rattle.records.specs.Records as records
+use Rattle.records.specs.Kinds.{sameLink}
+use Rattle.precedence.specs.Table.{ahead}
 use Rattle.trace.specs.Place.{place}
 use Rattle.trace.specs.Rule.{situation, owner, numbered, wellFormed, misplaced, again, early, judge, rule}
 use Rattle.trace.specs.Reply.{Reply, refused, gives, demand, orElse, then, unless}
@@ -24,8 +26,9 @@ use Rattle.order.specs.Links as links
 use Rattle.order.specs.Chains.{firstFrom, pick, put, lasts, chain, used, needs}
 use Rattle.order.specs.Clocks.{largest, table, flat, entry, clocksOf}
 use Rattle.order.specs.Schedule.{linked}
-use Rattle.ranks.specs.OrderingOf.{orderingOf}
-use Rattle.order.specs.HappensBefore.{rankIn, rank, orderingAt, happensBefore}
+use Rattle.order.specs.Rank.{rankIn, rank}
+use Rattle.order.specs.LinkRule.{linkingOf, linkingAt, putsBehind, targetsAt, behind}
+use Rattle.order.specs.HappensBefore.{happensBefore}
 use Rattle.order.specs.Fill.{eventsIn, beginPosition, rowPastWidth, chainsUsed, traceClocks}
 use Rattle.order.specs.Lent.{asking, spaces, spaced, enoughChains, onClocks, clocksFilled, clocksAfter, fillReady, fillReply}
 use Rattle.coverage.specs.Below.{some, upto, pairs}
@@ -171,7 +174,8 @@ cases =
 hold : map said cases ≡ map (λ (c : Case). c .expected) cases
 unfolding cases encode trailer recordAt recordsFrom decode past has begun ended records.begins place situation owner numbered wellFormed misplaced again early
     judge rule demand orElse then unless closing walk distance trailerReply frameReply part recordsIn readReply recordsRead within along leq links.some
-    firstFrom pick put lasts chain used needs largest table flat entry clocksOf linked rankIn rank orderingOf orderingAt happensBefore eventsIn
+    firstFrom pick put lasts chain used needs largest table flat entry clocksOf linked rankIn rank
+    behind targetsAt putsBehind ahead sameLink linkingOf linkingAt happensBefore eventsIn
     beginPosition rowPastWidth chainsUsed traceClocks spaceFor asking spaces spaced enoughChains onClocks clocksFilled clocksAfter fillReady fillReply some upto pairs
     before raceb coversFromb reach leads lastKept entries conflicts writeBetween neighbour allRaces shortList pairsOf shapeOf markOf
     lists.entry numbers listFilled listReady listReply listAfter isRecord areRecords answered pairFilled pairReady

@@ -12,7 +12,8 @@ use Rattle.records.specs.declared.Record.{Record}
 use Rattle.records.specs.Records.{at, eventOf}
 use Rattle.trace.specs.Reading.{Acceptable}
 use Rattle.records.proofs.Positions.{lt-or-ge}
-use Rattle.order.specs.HappensBefore.{rank, happensBefore}
+use Rattle.order.specs.Rank.{rank}
+use Rattle.order.specs.HappensBefore.{happensBefore}
 use Rattle.order.specs.Fill.{eventsIn}
 use Rattle.coverage.specs.Race.{before, Race, raceb}
 use Rattle.coverage.specs.Cover.{CoversFrom, one, more}

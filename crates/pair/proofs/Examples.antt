@@ -8,6 +8,8 @@ use mathlib.Core.List.{List, [], _∷_, map, List·Memᴰ·head, List·Memᴰ·t
 use lib.Dec.{T}
 use Rattle.records.specs.Bytes.{recordAt, recordsFrom, decode, part}
 use Rattle.records.specs.Records.{at, eventOf, past, has, begun, ended, begins}
+use Rattle.records.specs.Kinds.{sameLink}
+use Rattle.precedence.specs.Table.{ahead}
 use Rattle.trace.specs.Place.{place}
 use Rattle.trace.specs.Rule.{situation, owner, numbered, wellFormed, misplaced, again, early, judge, rule}
 use Rattle.trace.specs.Reply.{Reply, refused, demand, orElse, then}
@@ -17,8 +19,9 @@ use Rattle.trace.proofs.Examples.{recordsT}
 use Rattle.clocks.specs.Rows.{spaceFor}
 use Rattle.order.specs.Links.{within, along, some, leq}
 use Rattle.order.specs.Schedule.{linked}
-use Rattle.ranks.specs.OrderingOf.{orderingOf}
-use Rattle.order.specs.HappensBefore.{rankIn, rank, orderingAt, happensBefore}
+use Rattle.order.specs.Rank.{rankIn, rank}
+use Rattle.order.specs.LinkRule.{linkingOf, linkingAt, putsBehind, targetsAt, behind}
+use Rattle.order.specs.HappensBefore.{happensBefore}
 use Rattle.order.specs.Chains.{firstFrom, pick, put, lasts, chain, needs}
 use Rattle.order.specs.Fill.{eventsIn, beginPosition, rowPastWidth}
 use Rattle.order.specs.Lent.{asking, spaced, enoughChains, onClocks}
@@ -78,18 +81,20 @@ pub hold : map (λ (c : Case). said (c .asked)) cases ≡ map (λ (c : Case). c 
 unfolding encode trailer traceOf recordAt recordsFrom decode past has begun ended begins place situation owner numbered wellFormed misplaced again early judge
     rule demand orElse then closing walk distance trailerReply frameReply part recordsIn readReply firstFrom pick put lasts chain needs
     eventsIn beginPosition rowPastWidth spaceFor asking lent.spaces spaced enoughChains onClocks isRecord areRecords answered pairFilled pairReady pairReply keptEntries entries lastKept
-    below.upto leads reach below.some raceb before conflicts happensBefore rank rankIn orderingAt orderingOf linked leq along within some
+    below.upto leads reach below.some raceb before conflicts happensBefore rank rankIn
+    behind targetsAt putsBehind ahead sameLink linkingAt linkingOf linked leq along within some
 hold = refl
 
 -- "7 10 2 wr open", "6 11 1 wr covered"
 pub short-list-T : numbers recordsT (pairsOf recordsT true) ≡ 7 ∷ 10 ∷ 2 ∷ 2 ∷ 1 ∷ 6 ∷ 11 ∷ 1 ∷ 2 ∷ 0 ∷ []
 unfolding numbers entry shapeOf markOf pairsOf shortList neighbour writeBetween below.pairs below.upto leads reach below.some raceb before conflicts
-    happensBefore rank rankIn orderingAt orderingOf linked leq along within some past begins
+    happensBefore rank rankIn behind targetsAt putsBehind ahead sameLink linkingAt linkingOf linked leq along within some past begins
 short-list-T = refl
 
 -- "T, pair 6 11: covered by 7 10": that is its one cover, by position
 races-T : allRaces (settingOf recordsT) ≡ (6, 9) ∷ (5, 10) ∷ []
-unfolding allRaces below.pairs below.upto raceb before conflicts happensBefore rank rankIn orderingAt orderingOf linked leq along within some past begins
+unfolding allRaces below.pairs below.upto raceb before conflicts happensBefore rank rankIn
+    behind targetsAt putsBehind ahead sameLink linkingAt linkingOf linked leq along within some past begins below.some
 races-T = refl
 
 abbrev Either : ℕ → ℕ → Type 0
@@ -109,7 +114,8 @@ second-third (inl e) = ap (λ (p : ℕ × ℕ). eventOf (at recordsT (p .1))) e
 second-third (inr e) = ap (λ (p : ℕ × ℕ). eventOf (at recordsT (p .1))) e
 
 not-third : {c d : ℕ} → Either c d → T (happensBefore recordsT 3 (eventOf (at recordsT c))) → ⊥
-unfolding happensBefore rank rankIn orderingAt orderingOf linked leq along within some past begins
+unfolding happensBefore rank rankIn behind targetsAt putsBehind ahead sameLink linkingAt linkingOf linked leq along within some past begins
+    below.some below.upto
 not-third (inl e) h = subst (λ (p : ℕ × ℕ). T (happensBefore recordsT 3 (eventOf (at recordsT (p .0))))) e h
 not-third (inr e) h = subst (λ (p : ℕ × ℕ). T (happensBefore recordsT 3 (eventOf (at recordsT (p .0))))) e h
 

@@ -19,7 +19,8 @@ use Rattle.records.proofs.BaseKinds.{base-kind}
 use Rattle.trace.specs.Reading.{Acceptable}
 use Rattle.ranks.specs.Ranks.{ranksOf}
 use Rattle.clocks.specs.Rows.{compareIn}
-use Rattle.order.specs.HappensBefore.{Link, rank, happensBefore}
+use Rattle.order.specs.HappensBefore.{Link, happensBefore}
+use Rattle.order.specs.Rank.{rank}
 use Rattle.coverage.specs.Race.{Race}
 use Rattle.coverage.specs.Leading.{leads}
 use Rattle.coverage.specs.Neighbours.{conflicts}

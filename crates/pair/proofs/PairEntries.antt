@@ -12,7 +12,7 @@ use Rattle.records.specs.declared.Record.{Record}
 use Rattle.records.specs.Records.{at, eventOf}
 use Rattle.trace.specs.Reading.{Acceptable}
 use Rattle.trace.proofs.Blocks.{contiguous}
-use Rattle.order.specs.HappensBefore.{rank}
+use Rattle.order.specs.Rank.{rank}
 use Rattle.coverage.specs.Below.{upto}
 use Rattle.coverage.specs.Leading.{leads, lastKept, entries}
 use Rattle.slices.proofs.Tests.{both, either, decide, decide-eq, eq→eqb}

@@ -13,8 +13,9 @@ use Rattle.trace.specs.Place.{place}
 use Rattle.trace.specs.Rule.{situation, owner}
 use Rattle.trace.proofs.Blocks.{Passes, passes-at, contiguous, apart, end-last}
 use Rattle.trace.proofs.PlaceRule.{Outside, begins, joins, Inside, ends, forks, reads, writes, outside, inside}
-use Rattle.order.specs.HappensBefore.{rank}
-use Rattle.order.proofs.TraceOrder.{record-begins, begins-rank, begins-at, counted-passes, rank-one}
+use Rattle.order.specs.Rank.{rank}
+use Rattle.order.proofs.TraceOrder.{record-begins, begins-rank, begins-at, rank-one}
+use Rattle.order.proofs.Counted.{counted-passes}
 use Rattle.slices.proofs.Tests.{decide-eq}
 use Rattle.races.specs.loops.FilledClocks.{rows}
 use Rattle.pair.specs.loops.Kept.{rowOf, Starts, Split, Block}

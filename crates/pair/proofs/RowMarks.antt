@@ -12,7 +12,8 @@ use lib.Seq.{getD-append-seam, ext-getD, getD-take, length-take-le}
 use Rattle.records.specs.declared.Record.{Record}
 use Rattle.records.specs.Records.{at, past, eventOf}
 use Rattle.trace.specs.Reading.{Acceptable}
-use Rattle.order.proofs.TraceOrder.{counted, counted-zero, counted-begin, counted-other, ranked}
+use Rattle.order.proofs.Counted.{counted, counted-zero, counted-begin, counted-other}
+use Rattle.order.proofs.TraceOrder.{ranked}
 use Rattle.coverage.specs.Leading.{leads}
 use Rattle.races.specs.Traces.{settingOf}
 use Rattle.pair.specs.loops.Leading.{mark, marksIn, leadingMarks, Marks}

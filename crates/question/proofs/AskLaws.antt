@@ -15,7 +15,8 @@ use Rattle.trace.specs.Reading.{Acceptable}
 use Rattle.clocks.specs.Rows.{spaceFor}
 use Rattle.clocks.specs.WayRound.{relateIn}
 use Rattle.order.specs.Clocks.{chainOf}
-use Rattle.order.specs.HappensBefore.{rank, traceLinks}
+use Rattle.order.specs.Rank.{rank}
+use Rattle.order.specs.HappensBefore.{traceLinks}
 use Rattle.order.specs.Fill.{eventsIn, rowPastWidth}
 use Rattle.order.specs.Compared.{compared}
 use Rattle.question.specs.loops.ChainPass.{PassesChains}

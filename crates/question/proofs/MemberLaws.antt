@@ -2,7 +2,7 @@
 -- Assumes nothing.
 use Prim.Native.Nat.{ℕ, zero, suc, _+_, _-_, _<_, _≤_, max}
 use mathlib.Core.Path.{_≡_, refl, sym, ap, _∙_}
-use mathlib.Core.Bool.{Bool, cond}
+use mathlib.Core.Bool.{Bool, false, cond}
 use mathlib.Core.List.{List, []}
 use mathlib.Core.Logic.{_≢_, _⊎_, inl, inr}
 use native.Mathlib.Omega.{arith}
@@ -14,6 +14,7 @@ use lib.ListN.{length, getD, set, replicate, length-set, length-append, length-r
 use lib.Seq.{getD-set-same, getD-set-other}
 use Rattle.records.specs.declared.Record.{Record}
 use Rattle.records.specs.Records.{at}
+use Rattle.records.specs.Kinds.{hasSend}
 use Rattle.trace.specs.Reading.{Acceptable}
 use Rattle.records.proofs.Positions.{lt-or-ge}
 use Rattle.order.specs.Links.{leq}
@@ -25,18 +26,20 @@ use Rattle.slices.proofs.Cleared.{zeros-at}
 use Rattle.question.specs.loops.Marking.{marked, marksIn, marksDownIn, markIn}
 use Rattle.ranks.specs.declared.Ordering.{Ordering}
 use Rattle.ranks.specs.declared.Ordering.the-variants.{Link, Begin, Nothing}
-use Rattle.order.specs.HappensBefore.{orderingAt, traceLinks}
+use Rattle.order.specs.loops.RecordLinks.{orderingAt}
+use Rattle.order.specs.HappensBefore.{traceLinks}
 use Rattle.ranks.specs.Ranks.{ranksOf}
 use Rattle.order.specs.Fill.{eventsIn, rowPastWidth, chainTable}
 use Rattle.order.specs.loops.PassEnds.{Short}
 use Rattle.question.specs.loops.ChainPass.{Members, markedChain, ownChain, enterChain, saidBy, turnMembers, RoomFor, AreMembers, ReadyChains, PassesChains}
 use Rattle.order.proofs.CountLaws.{firstFrom-local}
 use Rattle.order.proofs.ChainLaws.{chain-search, chain-le-used, used-zero, used-suc, last-own, last-other, needs-at, needs-none}
-use Rattle.order.proofs.ScheduleLaws.{begins-zero, begins-suc, begins-mono, links-made}
+use Rattle.order.proofs.ScheduleLaws.{begins-zero, begins-suc, begins-mono}
 use Rattle.question.proofs.MarkListLaws.{marks-list}
 use Rattle.order.proofs.RowLaws.{table-length}
 use Rattle.order.proofs.RankLaws.{ops-are}
-use Rattle.order.proofs.TraceOrder.{ops-ordered, forward-links}
+use Rattle.order.proofs.RecordOrder.{records-make, ops-ordered}
+use Rattle.order.proofs.TraceOrder.{forward-links}
 use Rattle.order.proofs.PassLaws.{events-are, few, chains-of, chains-more, begun-below, begin-position}
 
 -- the marks go by what the records say, and so by whatever says the same
@@ -97,9 +100,9 @@ module _ {tr : List Record} (a : Acceptable tr) (x y w : ℕ) (narrow : w ≤ 10
 
   module _ (i : ℕ) (s : Members) (h : i < n) (k : Keeping i s) where
     -- the chain found is the chain
-    found : (u : ℕ) → op i ≡ Begin u → markedChain (marksIn op i u 1024) (s .lasts) (s .chains) ≡ chain le u
+    found : hasSend tr ≡ false → (u : ℕ) → op i ≡ Begin u → markedChain (marksIn op i u 1024) (s .lasts) (s .chains) ≡ chain le u
     unfolding markedChain
-    found u e =
+    found ns u e =
         let b = begun-below a w [] i u h e in
         rw (k .chains-are)
         (firstFrom-local (λ c. marked (marksIn op i u 1024) (getD (s .lasts) c 0)) (λ c. le (getD (lasts le u) c 0) u) 0 (used le (begins op i)) (each u e (b .0) (b .1))
@@ -107,7 +110,7 @@ module _ {tr : List Record} (a : Acceptable tr) (x y w : ℕ) (narrow : w ≤ 10
       where
         each : (u : ℕ) → op i ≡ Begin u → u ≡ begins op i → u < begins op n → (c : ℕ) → 0 ≤ c → c < 0 + used le (begins op i) → marked (marksIn op i u 1024) (getD (s .lasts) c 0) ≡ le (getD (lasts le u) c 0) u
         each u e b l c x y =
-            marks-list (traceLinks tr) (forward-links a) op n (ops-ordered a) (links-made op n) 1024 u i (few a w []) l h e (getD (s .lasts) c 0)
+            marks-list (traceLinks tr) (forward-links a) op n (ops-ordered a) (records-make tr ns) 1024 u i (few a w []) l h e (getD (s .lasts) c 0)
             ∙ ap (λ t. le t u) (k .lasts-are c (omega arith) ∙ ap (λ v. getD (lasts le v) c 0) (sym b))
 
     pub keeping-room : RoomFor (op i) s
@@ -154,12 +157,12 @@ module _ {tr : List Record} (a : Acceptable tr) (x y w : ℕ) (narrow : w ≤ 10
             rw (after, getD-set-other (s .lasts) (chain le u) c u 0 d)
             (k .lasts-are c (omega (arith, l, ap (used le) after, used-suc le u, ap (used le) b, chain-le-used le u, d)) ∙ (ap (λ v. getD (lasts le v) c 0) (sym b) ∙ sym (last-other le u c d)))
 
-    module _ (ranks : List ℕ) (r : ranks ≡ ranksOf tr) where
+    module _ (ranks : List ℕ) (r : ranks ≡ ranksOf tr) (ns : hasSend tr ≡ false) where
       said : (j : ℕ) → saidBy ranks tr j ≡ op j
       said j = rw r (ops-are a j)
 
       turned : (u : ℕ) → op i ≡ Begin u → markedChain (marksIn (saidBy ranks tr) i u 1024) (s .lasts) (s .chains) ≡ chain le u
-      turned u e = ap (λ m. markedChain m (s .lasts) (s .chains)) (down-same (saidBy ranks tr) op said i _) ∙ found u e
+      turned u e = ap (λ m. markedChain m (s .lasts) (s .chains)) (down-same (saidBy ranks tr) op said i _) ∙ found ns u e
 
       abbrev turnedBy : Members
       turnedBy = turnMembers ranks tr x y w i (saidBy ranks tr i) s
@@ -218,6 +221,7 @@ module _ (tr : List Record) (x y w : ℕ) (ranks : List ℕ) where
   pub record Going (ls : List ℕ) (chains first second i : ℕ) : Type 0 where
     pub within : i ≤ length tr
     pub acceptable : Acceptable tr
+    pub no-sends : hasSend tr ≡ false
     pub narrow : w ≤ 1024
     pub ranks-are : ranks ≡ ranksOf tr
     pub keeping : Keeping acceptable x y w narrow i (record { lasts = ls; chains = chains; first = first; second = second })
@@ -226,6 +230,7 @@ module _ (tr : List Record) (x y w : ℕ) (ranks : List ℕ) where
   going-start ls h r = record {
     within = omega arith;
     acceptable = r .acceptable;
+    no-sends = r .no-sends;
     narrow = r .narrow;
     ranks-are = r .ranks-are;
     keeping = keeping-start (r .acceptable) x y w (r .narrow) ls h;
@@ -241,14 +246,15 @@ module _ (tr : List Record) (x y w : ℕ) (ranks : List ℕ) where
       going-next l = record {
         within = omega arith;
         acceptable = g .acceptable;
+        no-sends = g .no-sends;
         narrow = g .narrow;
         ranks-are = g .ranks-are;
-        keeping = rw (add-one i, are-members _ ls′ next first′ second′ t) (keeping-next (g .acceptable) x y w (g .narrow) i _ h (g .keeping) ranks (g .ranks-are) (rw (← t .chains-are) l));
+        keeping = rw (add-one i, are-members _ ls′ next first′ second′ t) (keeping-next (g .acceptable) x y w (g .narrow) i _ h (g .keeping) ranks (g .ranks-are) (g .no-sends) (rw (← t .chains-are) l));
       }
 
       pub going-stop : w < next → PassesChains tr x y w i first′ second′
       going-stop l =
-          let s = keeping-stop (g .acceptable) x y w (g .narrow) i _ h (g .keeping) ranks (g .ranks-are) (rw (t .chains-are) at l) in
+          let s = keeping-stop (g .acceptable) x y w (g .narrow) i _ h (g .keeping) ranks (g .ranks-are) (g .no-sends) (rw (t .chains-are) at l) in
           record { whole = λ e. absurd (s .0 e); short = λ n. s .1 }
 
     pub going-end : length tr ≤ i → PassesChains tr x y w i first second

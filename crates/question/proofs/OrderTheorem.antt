@@ -15,7 +15,9 @@ use Rattle.trace.specs.Reply.{gives, demand, then}
 use Rattle.trace.specs.Reading.{Acceptable, recordsIn, Accepts}
 use Rattle.clocks.specs.WayRound.{WayRound, sameAction, firstBefore, secondBefore, unordered, wayRound}
 use Rattle.order.specs.Clocks.{clocksOf}
-use Rattle.order.specs.HappensBefore.{Begins, HappensBefore, same, rank, traceLinks, happensBefore}
+use Rattle.precedence.specs.Before.{same}
+use Rattle.order.specs.HappensBefore.{Begins, HappensBefore, traceLinks, happensBefore}
+use Rattle.order.specs.Rank.{rank}
 use Rattle.order.specs.Fill.{eventsIn, traceClocks}
 use Rattle.order.specs.Lent.{spaces, enoughChains, clocksAfter, fillReady, fillReply}
 use Rattle.order.specs.Compared.{compared}

@@ -14,7 +14,8 @@ use Rattle.trace.specs.Reading.{recordsIn, readReply}
 use Rattle.question.specs.declared.Answer.{Answer}
 use Rattle.question.specs.declared.Answer.the-variants.{Related, Refused}
 use Rattle.clocks.specs.WayRound.{WayRound, sameAction, firstBefore, secondBefore, unordered, relationPaper, wayRound}
-use Rattle.order.specs.HappensBefore.{HappensBefore, rank}
+use Rattle.order.specs.HappensBefore.{HappensBefore}
+use Rattle.order.specs.Rank.{rank}
 use Rattle.order.specs.Compared.{compared}
 use Rattle.order.specs.Lent.{noWork, spaces, enoughChains}
 

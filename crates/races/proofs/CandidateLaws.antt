@@ -31,8 +31,10 @@ use Rattle.races.specs.loops.Candidates.{cell, accesses, writes, startOf
 use Rattle.records.specs.Kinds.{baseKind}
 use Rattle.records.specs.Search.{leastKind, mayRace, Past, NextAccess}
 use Rattle.clocks.specs.WayRound.{relateIn, saysBefore}
-use Rattle.order.specs.HappensBefore.{rank, happensBefore}
-use Rattle.order.proofs.TraceOrder.{counted, counted-zero, counted-begin, counted-other, ranked, record-begins, begins-rank}
+use Rattle.order.specs.Rank.{rank}
+use Rattle.order.specs.HappensBefore.{happensBefore}
+use Rattle.order.proofs.Counted.{counted, counted-zero, counted-begin, counted-other}
+use Rattle.order.proofs.TraceOrder.{ranked, record-begins, begins-rank}
 use Rattle.races.specs.loops.FilledClocks.{FilledClocks, BothIn}
 use Rattle.races.proofs.FilledLaws.{before-told, rows-both}
 use Rattle.races.proofs.Instance.{laws, access-kind}

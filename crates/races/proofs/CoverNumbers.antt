@@ -27,7 +27,8 @@ use Rattle.coverage.proofs.WholeSteps.{links-direct}
 use Rattle.coverage.proofs.WholeEdges.{taken-test-edges}
 use Rattle.order.specs.Links.{leq}
 use Rattle.order.specs.Clocks.{chainOf, entry}
-use Rattle.order.specs.HappensBefore.{Link, rank, traceLinks, happensBefore}
+use Rattle.order.specs.HappensBefore.{Link, traceLinks, happensBefore}
+use Rattle.order.specs.Rank.{rank}
 use Rattle.order.specs.loops.Numbering.{Numbered, InOrder, Preds, Firsts, clockRow, coverRow}
 use Rattle.order.specs.loops.Raising.{rowAfter, rowBefore, startOf, Seconds, recordsFrom}
 use Rattle.order.proofs.OrderLaws.{≼→leq, leq→≼}
@@ -35,8 +36,10 @@ use Rattle.order.proofs.ClockLaws.{chain-≼, clock}
 use Rattle.order.proofs.SetLaws.{row-same, row-count}
 use Rattle.order.proofs.CoverRows.{race-earlier}
 use Rattle.order.proofs.RaisingLaws.{all-seconds, in-seconds, raised, marked}
-use Rattle.order.proofs.TraceOrder.{counted, counted-more, counted-passes, record-begins, begins-rank, begins-at, forward-links, rank-one, link-ranked, linked-named, up, down, happens-before, before-happens}
-pub use Rattle.order.proofs.EventRows.{events, nameOf, named}
+use Rattle.order.proofs.Counted.{counted, counted-more, counted-passes}
+use Rattle.order.proofs.TraceOrder.{record-begins, begins-rank, begins-at, forward-links, rank-one, link-ranked, linked-named, up, down, happens-before, before-happens}
+pub use Rattle.order.proofs.EventRows.{events, nameOf}
+pub use Rattle.order.proofs.TraceOrder.{named}
 use Rattle.order.proofs.EventRows.{beginOf, begun}
 use Rattle.races.specs.Traces.{settingOf, cellsOf}
 use Rattle.races.proofs.Instance.{laws, links, go-on}

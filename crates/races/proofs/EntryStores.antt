@@ -14,7 +14,7 @@ use Rattle.records.specs.declared.Record.{Record}
 use Rattle.records.specs.Records.{at, eventOf}
 use Rattle.coverage.specs.Race.{raceb}
 use Rattle.ranks.specs.Ranks.{ranksOf}
-use Rattle.order.proofs.TraceOrder.{counted}
+use Rattle.order.proofs.Counted.{counted}
 use Rattle.races.specs.Traces.{isAccess, settingOf}
 use Rattle.races.specs.loops.FilledClocks.{FilledClocks}
 use Rattle.races.specs.Lists.{shapeOf}

@@ -17,7 +17,8 @@ use Rattle.clocks.specs.Rows.{compareIn}
 use Rattle.clocks.specs.WayRound.{wayRound, relateIn, saysBefore, saysUnordered}
 use Rattle.clocks.proofs.WayLaws.{says-before, says-unordered}
 use Rattle.order.specs.Clocks.{table, chainOf}
-use Rattle.order.specs.HappensBefore.{rank, traceLinks, happensBefore}
+use Rattle.order.specs.Rank.{rank}
+use Rattle.order.specs.HappensBefore.{traceLinks, happensBefore}
 use Rattle.order.specs.Links.{leq}
 use Rattle.order.specs.Fill.{eventsIn, rowPastWidth, chainTable, traceClocks}
 use Rattle.order.specs.Compared.{compared}

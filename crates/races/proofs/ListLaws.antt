@@ -34,7 +34,8 @@ use Rattle.order.specs.Fill.{eventsIn}
 use Rattle.races.specs.loops.FilledClocks.{RowsIn, BothIn}
 use Rattle.coverage.proofs.Order.{race-of, race-not-le}
 use Rattle.clocks.specs.WayRound.{relateIn, saysUnordered}
-use Rattle.order.specs.HappensBefore.{rank, happensBefore}
+use Rattle.order.specs.Rank.{rank}
+use Rattle.order.specs.HappensBefore.{happensBefore}
 use Rattle.races.proofs.Instance.{laws, access-kind}
 use Rattle.races.proofs.FilledLaws.{same-event, other-event, rank-is, row-inside, rows-in, rows-both, unordered-told}
 use Rattle.races.proofs.CandidateLaws.{start, racing, race-accesses, last-high, last-after, from-start-is, kind-access, access-base}

@@ -17,7 +17,8 @@ use Rattle.coverage.specs.Leading.{coveredb}
 use Rattle.order.specs.Clocks.{chainOf, entry, flat, clocksOf}
 use Rattle.order.specs.Fill.{eventsIn, traceClocks}
 use Rattle.order.specs.loops.Standing.{begins}
-use Rattle.order.specs.HappensBefore.{orderingAt, traceLinks}
+use Rattle.order.specs.loops.RecordLinks.{orderingAt}
+use Rattle.order.specs.HappensBefore.{traceLinks}
 use Rattle.order.proofs.RankLaws.{ranks-are}
 use Rattle.order.proofs.RowLaws.{flat-length, place}
 use Rattle.order.proofs.FlatLaws.{flat-read}

@@ -14,12 +14,14 @@ use Rattle.order.specs.Links.{leq}
 use Rattle.order.specs.Chains.{used}
 use Rattle.order.specs.Clocks.{chainOf, entry, flat, clocksOf}
 use Rattle.order.specs.Fill.{eventsIn, rowPastWidth, chainTable, traceClocks}
-use Rattle.order.specs.loops.Standing.{begins}
-use Rattle.order.specs.HappensBefore.{orderingAt, traceLinks}
+use Rattle.order.specs.loops.Standing.{begins, Makes}
+use Rattle.order.specs.loops.RecordLinks.{orderingAt}
+use Rattle.order.specs.HappensBefore.{traceLinks}
 use Rattle.order.specs.loops.Walk.{walkFrom}
 use Rattle.order.proofs.ChainLaws.{used-zero, used-suc, used-mono, chain-le-used, chain-below, needs-none}
 use Rattle.order.proofs.ScheduleLaws.{begins-zero, begins-suc, begins-mono, begin-next}
-use Rattle.order.proofs.TraceOrder.{ops-begins, ops-ordered, first-begins}
+use Rattle.order.proofs.RecordOrder.{records-make, ops-begins, ops-ordered, first-begins}
+use Rattle.order.proofs.Accepted.{no-sends}
 use Rattle.order.proofs.TableLaws.{chain-at}
 use Rattle.order.proofs.WalkLaws.{Along, along-start, Arrives}
 use Rattle.races.specs.loops.FilledClocks.{FilledClocks}
@@ -37,6 +39,10 @@ events-in tr = refl
 module _ {tr : List Record} (a : Acceptable tr) where
   pub events-are : begins (orderingAt tr) (length tr) ≡ events tr
   events-are = ops-begins a (length tr) (omega arith)
+
+  -- the links are those that the records make, where there are no sends
+  pub made : Makes (orderingAt tr) (length tr) (traceLinks tr)
+  made = records-make tr (no-sends a)
 
   -- the chain of a row, by the list, has its place in every row
   pub chain-place : (chosen : List ℕ) (w : ℕ) → chosen ≡ chainTable tr → rowPastWidth tr w ≡ eventsIn tr → (t : ℕ) → t < eventsIn tr → (getD chosen t 0 ≡ chainOf (traceLinks tr) t) × (chainOf (traceLinks tr) t < w)
@@ -61,7 +67,7 @@ module _ {tr : List Record} {ranks chosen : List ℕ} {w : ℕ} {clocks₀ : Lis
       let n : 0 < events tr = omega (arith, events-are a, begins-suc (orderingAt tr) 0 (Begin 0) b, begins-mono (orderingAt tr) 1 (length tr) h) in
       record {
         rows = entry (traceLinks tr);
-        standing = stand-arrive a (edge tr short) (list-edges tr short a) 0 0 0 (entry (traceLinks tr)) h b n (λ d k. absurd (omega arith)) (λ v c k. absurd (omega arith)) (λ v c k. l .coming v c (omega arith));
+        standing = stand-arrive a (edge tr short) (list-edges tr short a) (made a) 0 0 0 (entry (traceLinks tr)) h b n (λ d k. absurd (omega arith)) (λ v c k. absurd (omega arith)) (λ v c k. l .coming v c (omega arith));
         clocks-are = f .clocks-are ∙ ap (λ (m : ℕ). flat w m (entry (traceLinks tr)) ++ f .rest) (sym (events-are a));
         chains-are = let c = chain-le-used (leq (traceLinks tr)) 0 in omega (arith, used-zero (leq (traceLinks tr)), used-suc (leq (traceLinks tr)) 0);
       }
@@ -71,7 +77,7 @@ module _ {tr : List Record} {ranks chosen : List ℕ} {w : ℕ} {clocks₀ : Lis
   unfolding onward
   raises-onward {y} s r n h = record {
     rows = v .rows;
-    standing = rw (add-one t) (stand-arrive a (edge tr short) (list-edges tr short a) j (suc t) y (v .rows) inside begins-it h (λ d k. omega (arith, z .seen d k)) (λ x c k. v .along .done x c (omega (arith, begun))) (λ x c k. v .along .coming x c (omega (arith, begun))));
+    standing = rw (add-one t) (stand-arrive a (edge tr short) (list-edges tr short a) (made a) j (suc t) y (v .rows) inside begins-it h (λ d k. omega (arith, z .seen d k)) (λ x c k. v .along .done x c (omega (arith, begun))) (λ x c k. v .along .coming x c (omega (arith, begun))));
     clocks-are = v .clocks-are;
     chains-are = more;
   }

@@ -17,7 +17,8 @@ use Rattle.order.specs.Links.{leq}
 use Rattle.order.specs.Chains.{bit, used}
 use Rattle.order.specs.loops.Sets.{isIn}
 use Rattle.order.specs.Clocks.{chainOf, entry, largest}
-use Rattle.order.specs.HappensBefore.{Link, rank, traceLinks}
+use Rattle.order.specs.HappensBefore.{Link, traceLinks}
+use Rattle.order.specs.Rank.{rank}
 use Rattle.order.specs.loops.Numbering.{Firsts, wholeOf, coverRow, coverRowAt}
 use Rattle.order.proofs.CountLaws.{count-none}
 use Rattle.order.proofs.ChainLaws.{chain-below, used-le-self}

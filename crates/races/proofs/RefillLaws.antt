@@ -19,7 +19,8 @@ use Rattle.order.specs.Chains.{bit, used}
 use Rattle.order.specs.Clocks.{chainOf, entry, largest, table, flat, clocksOf}
 use Rattle.order.specs.Fill.{eventsIn, chainTable, traceClocks}
 use Rattle.order.specs.loops.Standing.{begins}
-use Rattle.order.specs.HappensBefore.{orderingAt, traceLinks}
+use Rattle.order.specs.loops.RecordLinks.{orderingAt}
+use Rattle.order.specs.HappensBefore.{traceLinks}
 use Rattle.order.specs.loops.Walk.{Walked, walkFrom}
 use Rattle.order.proofs.SetLaws.{largest-le}
 use Rattle.order.proofs.ChainLaws.{used-zero, used-suc, used-mono, used-le-self}
@@ -27,13 +28,14 @@ use Rattle.order.proofs.ClockLaws.{entry-law, entry-zero, entry-le}
 use Rattle.order.proofs.RowLaws.{table-length, flat-length, flat-same, flat-zero, place, clocks-length}
 use Rattle.order.specs.loops.Pass.{tick}
 use Rattle.order.proofs.FlatLaws.{addAt, add-own, add-other, flat-read, ticked-row}
-use Rattle.order.proofs.ScheduleLaws.{begins-zero, begins-suc, begins-mono, links-made}
-use Rattle.order.proofs.TraceOrder.{ops-ordered, forward-links, first-begins}
+use Rattle.order.proofs.ScheduleLaws.{begins-zero, begins-suc, begins-mono}
+use Rattle.order.proofs.RecordOrder.{ops-ordered, first-begins}
+use Rattle.order.proofs.TraceOrder.{forward-links}
 use Rattle.order.proofs.TableLaws.{events-few}
 use Rattle.order.proofs.WalkLaws.{Along, along-start, along-begin, along-merged, Arrives}
 use Rattle.races.specs.loops.FilledClocks.{FilledClocks}
 use Rattle.races.specs.loops.Refilling.{Refillable}
-use Rattle.races.proofs.PlaceLaws.{events-in, events-are, chain-place}
+use Rattle.races.proofs.PlaceLaws.{events-in, events-are, made, chain-place}
 use Rattle.races.proofs.TraceWalk.{trace-walk}
 
 -- no row before filling
@@ -116,7 +118,7 @@ module _ {tr : List Record} {ranks chosen : List ℕ} {count w : ℕ} {clocks₀
 
       -- row u has been merged with its direct predecessors' rows
       merged : (c : ℕ) → g .rows u c ≡ largest (traceLinks tr .preds u) (λ p. entry (traceLinks tr) p c)
-      merged c = along-merged (orderingAt tr) none (entry (traceLinks tr)) (length tr) (ops-ordered (f .acceptable)) (traceLinks tr) (links-made (orderingAt tr) (length tr)) i u (g .rows) h (g .at-begin h) (g .along) c ∙ omega arith
+      merged c = along-merged (orderingAt tr) none (entry (traceLinks tr)) (length tr) (ops-ordered (f .acceptable)) (traceLinks tr) (made (f .acceptable)) i u (g .rows) h (g .at-begin h) (g .along) c ∙ omega arith
 
       few : (c : ℕ) → g .rows u c ≤ u
       few c = omega (arith, merged c, largest-le (traceLinks tr .preds u) (λ p. entry (traceLinks tr) p c) u (λ p k. omega (arith, forward-links (f .acceptable) u p k, entry-le (traceLinks tr) (forward-links (f .acceptable)) p c)))

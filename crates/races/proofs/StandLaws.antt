@@ -17,12 +17,14 @@ use Rattle.coverage.specs.Leading.{coveredb}
 use Rattle.coverage.specs.loops.Whole.{Edges}
 use Rattle.slices.proofs.Tests.{decide-eq, same as equal-tests}
 use Rattle.order.specs.loops.Sets.{index}
+use Rattle.order.specs.loops.Standing.{Makes}
 use Rattle.order.specs.Schedule.{linked}
 use Rattle.order.specs.Clocks.{chainOf, entry, largest}
-use Rattle.order.specs.HappensBefore.{orderingAt, traceLinks}
-use Rattle.order.proofs.ScheduleLaws.{linked-suc, links-made}
+use Rattle.order.specs.loops.RecordLinks.{orderingAt}
+use Rattle.order.specs.HappensBefore.{traceLinks}
+use Rattle.order.proofs.ScheduleLaws.{linked-suc}
 use Rattle.order.proofs.WalkLaws.{linked-all}
-use Rattle.order.proofs.TraceOrder.{ops-ordered}
+use Rattle.order.proofs.RecordOrder.{ops-ordered}
 use Rattle.order.proofs.CoverRows.{cover-own, mark-decides, race-earlier}
 use Rattle.races.specs.Traces.{settingOf}
 use Rattle.races.proofs.Instance.{laws}
@@ -55,13 +57,13 @@ module _ {tr : List Record} (a : Acceptable tr) where
         go (inr q) = s .done v c (omega arith)
 
     -- and where the next begin is met
-    pub stand-arrive : (j t y : ℕ) (rows : ℕ → ℕ → ℕ) → j < length tr → orderingAt tr j ≡ Begin t → t < events tr → ((d : ℕ) → d < y → number tr d < t) → ((v c : ℕ) → v < t → rows v c ≡ final tr v c) → ((v c : ℕ) → t ≤ v → rows v c ≡ max (entry (traceLinks tr) v c) (largest (linked (orderingAt tr) j v) (λ p. final tr p c))) → Standing tr e j t y rows
-    stand-arrive j t y rows h b k s f g = record {
+    pub stand-arrive : Makes (orderingAt tr) (length tr) (traceLinks tr) → (j t y : ℕ) (rows : ℕ → ℕ → ℕ) → j < length tr → orderingAt tr j ≡ Begin t → t < events tr → ((d : ℕ) → d < y → number tr d < t) → ((v c : ℕ) → v < t → rows v c ≡ final tr v c) → ((v c : ℕ) → t ≤ v → rows v c ≡ max (entry (traceLinks tr) v c) (largest (linked (orderingAt tr) j v) (λ p. final tr p c))) → Standing tr e j t y rows
+    stand-arrive made j t y rows h b k s f g = record {
       inside = h;
       begins-it = b;
       known = k;
       done = f;
-      row = raised-start a e es t k y first (rows t) (λ c. g t c (omega arith) ∙ ap (max (entry (traceLinks tr) t c)) (linked-all (orderingAt tr) (length tr) (ops-ordered a) (traceLinks tr) (links-made (orderingAt tr) (length tr)) j t (λ p. final tr p c) h b));
+      row = raised-start a e es t k y first (rows t) (λ c. g t c (omega arith) ∙ ap (max (entry (traceLinks tr) t c)) (linked-all (orderingAt tr) (length tr) (ops-ordered a) (traceLinks tr) made j t (λ p. final tr p c) h b));
       coming = λ v c l. rw (linked-suc (orderingAt tr) j v (Begin t) b) (g v c (omega arith));
       seen = λ d l. omega (arith, s d l);
     }

@@ -13,9 +13,9 @@ use Rattle.ranks.specs.Ranks.{ranksOf}
 use Rattle.ranks.specs.OrderingOf.{orderingOf}
 use Rattle.order.specs.Clocks.{flat}
 use Rattle.order.specs.loops.Standing.{begins}
-use Rattle.order.specs.HappensBefore.{orderingAt}
+use Rattle.order.specs.loops.RecordLinks.{orderingAt}
 use Rattle.order.specs.loops.Walk.{walkFrom, orderingBy}
-use Rattle.order.proofs.TraceOrder.{ops-ordered, link-target}
+use Rattle.order.proofs.RecordOrder.{ops-ordered, link-target}
 use Rattle.order.proofs.RankLaws.{ops-are}
 use Rattle.order.proofs.WalkLaws.{Along, Arrives, ZeroPast, walked}
 

@@ -2,6 +2,7 @@ pub mod Records
 pub mod Decoded
 pub mod Positions
 pub mod BaseKinds
+pub mod Sends
 pub mod Leading
 pub mod SearchLaws
 pub mod Encoded

@@ -10,7 +10,8 @@ use Rattle.records.specs.declared.Record.{Record}
 use Rattle.records.specs.Records.{at, eventOf}
 use Rattle.records.specs.Kinds.{baseKind}
 use Rattle.ranks.specs.Ranks.{ranksOf}
-use Rattle.order.specs.HappensBefore.{rank, happensBefore}
+use Rattle.order.specs.Rank.{rank}
+use Rattle.order.specs.HappensBefore.{happensBefore}
 use Rattle.order.specs.Fill.{chainsUsed}
 use Rattle.coverage.specs.Leading.{leads}
 use Rattle.races.specs.Traces.{isAccess, settingOf}

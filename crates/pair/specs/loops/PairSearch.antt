@@ -9,7 +9,8 @@ use lib.ListN.{length, getD, set}
 use Rattle.records.specs.declared.Record.{Record}
 use Rattle.records.specs.Records.{at, eventOf}
 use Rattle.clocks.specs.WayRound.{WayRound, wayRound, relateIn, saysUnordered, saysBefore}
-use Rattle.order.specs.HappensBefore.{rank, happensBefore}
+use Rattle.order.specs.Rank.{rank}
+use Rattle.order.specs.HappensBefore.{happensBefore}
 use Rattle.coverage.specs.Below.{upto}
 use Rattle.coverage.specs.Race.{before, Race, raceb}
 use Rattle.coverage.specs.Cover.{CoversFrom}

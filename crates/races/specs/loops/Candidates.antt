@@ -10,7 +10,8 @@ use lib.ListN.{length, getD}
 use Rattle.records.specs.declared.Record.{Record}
 use Rattle.records.specs.Records.{at, isWrite, eventOf}
 use Rattle.clocks.specs.WayRound.{relateIn, saysBefore}
-use Rattle.order.specs.HappensBefore.{rank, happensBefore}
+use Rattle.order.specs.Rank.{rank}
+use Rattle.order.specs.HappensBefore.{happensBefore}
 use Rattle.coverage.specs.Race.{raceb}
 use Rattle.races.specs.Traces.{isAccess, settingOf}
 

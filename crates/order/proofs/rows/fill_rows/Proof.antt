@@ -1,6 +1,7 @@
 -- `order::rows::fill_rows` meets its contract.
 -- Assumes nothing.
 use Rattle.order.proofs.FillEnds.{ready, ends-short, ends-whole}
+use Rattle.order.proofs.Accepted.{no-sends}
 use Rattle.slices.proofs.Cleared.{zeros-length, cleared-whole}
 use Rattle.order.proofs.TableLaws.{events-few}
 use Rattle.records.specs.Bytes.{decode}
@@ -30,7 +31,7 @@ pass-requires c κs =
     let at-numbers- = c .before .before .before .before .before in
     let at-fill-ranks = at-numbers- .before in
     let a = c .before .before .before .before .before .before .before .before .before .before .before in
-    ready _ (a .pre .0) _ _ (a .pre .1) (now (a .args .clocks)) (a .pre .2) _ _ _ (at-fill-ranks .fill-ranks .ensures) (at-numbers- .numbers-1024 .ensures) (a .pre .3)
+    ready _ (a .pre .0) _ _ (a .pre .1) (now (a .args .clocks)) (a .pre .2) (no-sends (a .pre .0)) _ _ _ (at-fill-ranks .fill-ranks .ensures) (at-numbers- .numbers-1024 .ensures) (a .pre .3)
 
 count-requires : tie.Need-count-requires
 count-requires c κs = search needs

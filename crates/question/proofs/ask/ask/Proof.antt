@@ -1,6 +1,7 @@
 -- `question::ask::ask` meets its contract.
 -- Assumes nothing.
 use Rattle.question.proofs.AskLaws.{rank-told, ask-none, ask-space, ask-short, ask-done}
+use Rattle.order.proofs.Accepted.{no-sends}
 use Rattle.order.proofs.SpaceLaws.{has-room}
 use Rattle.trace.specs.Reply.{gives}
 use Rattle.records.specs.Bytes.{decode}
@@ -94,6 +95,7 @@ chain-pass-requires c κs =
     let r = h .before .before .before .before .before .before .before in
     record {
       acceptable = r .before .before .before .pre .0;
+      no-sends = no-sends (r .before .before .before .pre .0);
       ranks-are = r .ranks .ensures;
       narrow = has-room _ _ _ (sym (h .has-space .ensures) ∙ not-false (h .has-space .result) (c .before .if3 .left)) .narrow;
     }

@@ -1,5 +1,5 @@
 use borrow.Author.Needs.{needs}
-use Rattle.order.proofs.TraceOrder.{counted, counted-zero}
+use Rattle.order.proofs.Counted.{counted, counted-zero}
 use Rattle.races.proofs.EntryStores.{Listing, listing-start, listing-size, listing-room, listing-next, listing-end, no-second, second-at, own-ranks, way-room, way-writes}
 use Rattle.races.proofs.CandidateLaws.{tables-none, tables-pass, kind-access, kind-no-access, access-rank, access-ranked, access-begun, begun-next, counted-le}
 use Rattle.races.specs.loops.Candidates.{Tables}
