@@ -20,22 +20,23 @@
 extern "C" {
 #endif
 
-/* Refusals because of the input: 4 to 8 concern the record under test, 9 the last record. */
+/* Refusals because of the input: 4 to 8 and 31 concern the record under test, 9 the last record. */
 enum {
     JCO_OK = 0,
     JCO_NO_TRAILER = 1,    /* fewer than 8 bytes, or last byte not hex A7 */
     JCO_EDITION = 2,       /* edition not 1 */
     JCO_DISTANCE = 3,      /* distance not a multiple of 5, above 20,480, or more than the bytes before the trailer */
-    JCO_UNKNOWN_KIND = 4,  /* kind not 1 to 6 */
+    JCO_UNKNOWN_KIND = 4,  /* kind not 1 to 6 and not 16 to 19 */
     JCO_IDENTIFIER = 5,    /* event or cell not 1 to 1,024, or second of a begin or end not 0 */
     JCO_OUT_OF_PLACE = 6,  /* out of place, or first is not the open or joining event */
-    JCO_BEGUN_ALREADY = 7, /* begin or join of an event that has begun already, or fork to one */
+    JCO_BEGUN_ALREADY = 7, /* begin or join of an event that has begun already, or fork or send to one */
     JCO_NOT_ENDED = 8,     /* join of an event that has not ended */
     JCO_STOPS_INSIDE = 9,  /* the trace stops inside an event action or after a join */
     JCO_BEGIN_COUNT = 10,  /* begins differ from the trailer's number */
     JCO_NOT_IN_TRACE = 11, /* an event asked about has no begin, or a record asked about is not there */
     JCO_NO_RACE = 12,      /* the two records asked about are no race, first then second */
-    JCO_TOO_LONG = 13      /* more than 32,768 bytes: given by the trace program, by no call */
+    JCO_TOO_LONG = 13,     /* more than 32,768 bytes: given by the trace program, by no call */
+    JCO_BEHIND = 31        /* begin of an event that a link puts behind another target that has not begun; follows 7 */
 };
 
 /* Refusals because of the state: they follow those of the input, but 26, which is first, and 12, which stands between 23 and 24. */
@@ -49,8 +50,10 @@ enum {
     JCO_CLOSED = 26       /* recorder: closed already */
 };
 
-/* Kinds of record. */
+/* Kinds of record. A send is a fork on one of four links, which deliver in the order sent: where one send happens before another on the same link, the
+ * first's target happens before the second's. */
 enum { JCO_KIND_BEGIN = 1, JCO_KIND_END = 2, JCO_KIND_FORK = 3, JCO_KIND_JOIN = 4, JCO_KIND_READ = 5, JCO_KIND_WRITE = 6 };
+enum { JCO_KIND_SEND_0 = 16, JCO_KIND_SEND_1 = 17, JCO_KIND_SEND_2 = 18, JCO_KIND_SEND_3 = 19 };
 
 /* An entry of a list is five numbers: first record, second record, cell, shape (first access, then second), mark. One of the pair question is two. */
 enum { JCO_LIST_ENTRY = 5, JCO_PAIR_ENTRY = 2 };
@@ -63,22 +66,22 @@ enum { JCO_SAME = 1, JCO_BEFORE = 2, JCO_AFTER = 3, JCO_UNORDERED = 4 };
 /* The most that a trace holds. */
 enum { JCO_MOST_EVENTS = 1024, JCO_MOST_RECORDS = 4096 };
 
-/* Reads the trace that the bytes end with; bytes before record 1 are the caller's own. Refuses with 1 to 10. start is where record 1 starts in the
+/* Reads the trace that the bytes end with; bytes before record 1 are the caller's own. Refuses with 1 to 10 and 31. start is where record 1 starts in the
  * bytes, events the number of event actions. */
 uint16_t jco_read(const uint8_t *bytes, size_t bytes_length, uint16_t *place, size_t *start, size_t *records, size_t *events);
 
-/* Fills the clocks with one row of width numbers for each event action, in order of begin. Refuses with 1 to 10, 21, 23. After 23 the first event
+/* Fills the clocks with one row of width numbers for each event action, in order of begin. Refuses with 1 to 10, 31, 21, 23. After 23 the first event
  * actions x width clocks are 0. Clocks past the rows are unchanged in every case. */
 uint16_t jco_fill(const uint8_t *bytes, size_t bytes_length, size_t width, uint16_t *clocks, size_t clocks_length, uint16_t *place, size_t *chains);
 
 /* Which way round do the actions of events t and u stand? relation is JCO_SAME, JCO_BEFORE (t happens before u), JCO_AFTER (u happens before t) or
  * JCO_UNORDERED (neither), and 0 after a refusal: exactly that over clocks that were filled for these bytes and this width, and over any others the
- * comparison of their rows, where equal events are the same and JCO_BEFORE is told if both orders would be. Refuses with 1 to 10, 11, 21, 23. */
+ * comparison of their rows, where equal events are the same and JCO_BEFORE is told if both orders would be. Refuses with 1 to 10, 31, 11, 21, 23. */
 uint16_t jco_order(const uint8_t *bytes, size_t bytes_length, size_t width, const uint16_t *clocks, size_t clocks_length, uint16_t t, uint16_t u,
                    uint16_t *place, uint8_t *relation);
 
 /* The list of all races, and the short list: count entries of JCO_LIST_ENTRY numbers from the start of the list space, ordered by second record, then
- * first. list_length counts numbers. Refuse with 1 to 10, 21, 22, 23, 24. After success and after 24 the clocks are filled as by jco_fill, after 23 they
+ * first. list_length counts numbers. Refuse with 1 to 10, 31, 21, 22, 23, 24. After success and after 24 the clocks are filled as by jco_fill, after 23 they
  * are 0 over event actions x width; after all three the work space is 0 over one byte for each event action. Clocks past the rows and work bytes past
  * the event actions are unchanged. The list space is unchanged past the entries, and after a refusal all of it. */
 uint16_t jco_all_races(const uint8_t *bytes, size_t bytes_length, size_t width, uint16_t *clocks, size_t clocks_length, uint8_t *work, size_t work_length,
@@ -88,7 +91,7 @@ uint16_t jco_short_list(const uint8_t *bytes, size_t bytes_length, size_t width,
 
 /* Asks about the race of records a and b, numbered from 1, a first. Open (covered is 0): count entries (event, last record kept), the event actions of
  * an arrangement that runs b without a, in trace order. Covered (covered is 1): count entries (first, second), races of the trace that cover the pair,
- * in order. An entry is JCO_PAIR_ENTRY numbers. Refuses with 1 to 10, 11, 21, 22, 23, 12, 24. Clocks, work space and list space are left as by a list,
+ * in order. An entry is JCO_PAIR_ENTRY numbers. Refuses with 1 to 10, 31, 11, 21, 22, 23, 12, 24. Clocks, work space and list space are left as by a list,
  * after 12 as after 24. */
 uint16_t jco_ask_pair(const uint8_t *bytes, size_t bytes_length, size_t width, uint16_t *clocks, size_t clocks_length, uint8_t *work, size_t work_length,
                       uint16_t *list, size_t list_length, uint16_t a, uint16_t b, uint16_t *place, uint8_t *covered, size_t *count);
@@ -96,7 +99,7 @@ uint16_t jco_ask_pair(const uint8_t *bytes, size_t bytes_length, size_t width, u
 /* Writes the slim trace of the trace that the bytes end with, from the first byte of out on, with nothing before its record 1: per event action and cell
  * the first read and the first write, and every other record. length is that of the slim trace in bytes, dropped the number of records left out. The
  * slim trace has the same cells with an open race, and the same combinations of first event action and second access among its open races; compacting it
- * drops 0. Refuses with 1 to 10, 24. out is unchanged past the slim trace, and after a refusal all of it. As many bytes as the trace has from its record
+ * drops 0. Refuses with 1 to 10, 31, 24. out is unchanged past the slim trace, and after a refusal all of it. As many bytes as the trace has from its record
  * 1 on are always enough. */
 uint16_t jco_compact(const uint8_t *bytes, size_t bytes_length, uint8_t *out, size_t out_length, uint16_t *place, size_t *length, size_t *dropped);
 
@@ -107,8 +110,8 @@ uint16_t jco_compact(const uint8_t *bytes, size_t bytes_length, uint8_t *out, si
 /* Opens a recorder over the space, whose bytes are unchanged; closed becomes 0. Refuses with 25 (fewer than 8 bytes); the recorder is then closed, 1. */
 uint16_t jco_recorder_open(const uint8_t *space, size_t space_length, uint16_t *count, uint8_t *situation, uint16_t *owner, uint8_t *closed);
 
-/* Stores one record after those before it; no other byte of the space changes. Refuses with 26, 4 to 8 (place is the number that the record would have
- * had), 25; the space and all four numbers are then unchanged. */
+/* Stores one record after those before it; no other byte of the space changes. Refuses with 26, 4 to 8 and 31 (place is the number that the record would
+ * have had), 25; the space and all four numbers are then unchanged. */
 uint16_t jco_recorder_step(uint8_t *space, size_t space_length, uint16_t *count, uint8_t *situation, uint16_t *owner, uint8_t *closed, uint8_t kind,
                            uint16_t first, uint16_t second, uint16_t *place);
 

@@ -1,5 +1,7 @@
 //! A seeded generator of numbers and of traces.
 
+use crate::calls::{Calls, Refusal};
+use crate::plain::Plain;
 use crate::trace::*;
 
 /// SplitMix64.
@@ -43,6 +45,8 @@ pub struct Style {
     pub reads: usize,
     pub forks: usize,
     pub joins: usize,
+    /// of a hundred forks, how many are sends
+    pub sends: usize,
 }
 
 /// A style: short or long, few or many of each thing.
@@ -56,6 +60,7 @@ pub fn style(chance: &mut Chance, longest: usize) -> Style {
         reads: chance.pick(&[0, 20, 50, 50, 80, 100]),
         forks: chance.pick(&[0, 0, 5, 20, 50, 90]),
         joins: chance.pick(&[0, 0, 5, 20, 50, 90]),
+        sends: chance.pick(&[0, 0, 30, 70, 100]),
     }
 }
 
@@ -80,11 +85,14 @@ pub fn records(chance: &mut Chance, style: &Style) -> Vec<Record> {
             let kind = if chance.percent(style.reads) { READ } else { WRITE };
             part.push(Record::new(kind, event, chance.below(style.cells) as u16 + 1));
             if chance.percent(style.forks / 4) {
-                part.push(fork(chance, &names, k, event));
+                part.push(fork(chance, &names, k, event, style.sends));
             }
         }
-        if chance.percent(style.forks) {
-            part.push(fork(chance, &names, k, event));
+        while chance.percent(style.forks) && part.len() < 60 {
+            part.push(fork(chance, &names, k, event, style.sends));
+            if style.sends == 0 {
+                break;
+            }
         }
         part.push(Record::new(END, event, 0));
         if out.len() + part.len() > style.records.min(MAX_RECORDS) {
@@ -95,13 +103,25 @@ pub fn records(chance: &mut Chance, style: &Style) -> Vec<Record> {
     out
 }
 
-/// A fork of a later event, mostly a near one; it may never begin.
-fn fork(chance: &mut Chance, names: &[u16], k: usize, event: u16) -> Record {
+/// A fork of a later event or a send to one, mostly a near one; it may never begin.
+fn fork(chance: &mut Chance, names: &[u16], k: usize, event: u16, sends: usize) -> Record {
     let left = names.len() - 1 - k;
     let ahead = if chance.percent(80) { chance.below(left.clamp(1, 4)) } else { chance.below(left.max(1)) };
     match names.get(k + 1 + ahead) {
+        Some(&started) if chance.percent(sends) => Record::new(SEND + chance.pick(&[0, 0, 1, 2, 3]), event, started),
         Some(&started) => Record::new(FORK, event, started),
         None => Record::new(READ, event, 1),
+    }
+}
+
+/// Where a link puts a begin behind an event that comes later or never, sends to that event become forks; `left` of a hundred traces stay as they are.
+pub fn unblock(chance: &mut Chance, records: &mut [Record], left: usize) {
+    if chance.percent(left) {
+        return;
+    }
+    while let Err(Refusal { number: 31, place }) = Plain.read(&job_file(&[], records)) {
+        let blocked = records[place as usize - 1].first;
+        records.iter_mut().filter(|r| is_send(r.kind) && r.second == blocked).for_each(|r| r.kind = FORK);
     }
 }
 
@@ -136,7 +156,7 @@ pub fn damage(chance: &mut Chance, bytes: &mut Vec<u8>) {
         }
         3 if records > 0 => {
             let at = chance.below(records) * RECORD;
-            bytes[at] = chance.below(9) as u8;
+            bytes[at] = chance.pick(&[0, 1, 2, 3, 4, 5, 6, 7, 8, 15, 16, 17, 19, 20]);
         }
         4 if records > 0 => {
             let at = chance.below(records) * RECORD + chance.pick(&[1, 3]);

@@ -3,7 +3,7 @@
 use crate::random::Chance;
 use crate::trace::*;
 
-pub const SHAPES: [(&str, &str); 13] = [
+pub const SHAPES: [(&str, &str); 18] = [
     ("sparse", "forked chains, many cells, few races"),
     ("dense", "forked chains, four cells, many races"),
     ("unordered", "all event actions unordered, each writes one cell twice"),
@@ -17,7 +17,17 @@ pub const SHAPES: [(&str, &str); 13] = [
     ("tree", "a binary tree of forks, each writes a cell of eight"),
     ("grid", "readers of many cells, then a writer of each cell"),
     ("gather", "many roots, one waits for them all, the rest wait for that one"),
+    ("fan", "one event action sends to all others on link 0, then again on link 1"),
+    ("ladder", "each event action sends to the next two on one link"),
+    ("hub", "unordered senders, one that waits for them all and starts others, which send on: every target behind every other"),
+    ("late", "unordered senders first, four sends each on four links, all targets later"),
+    ("layers", "three layers, the first two send to the next, on two links and on one, order handed up by forks"),
 ];
+
+/// The shapes with sends.
+pub fn has_sends(shape: &str) -> bool {
+    matches!(shape, "fan" | "ladder" | "hub" | "late" | "layers")
+}
 
 /// Builds the records of one event action after another.
 struct Draft {
@@ -130,9 +140,70 @@ pub fn records(shape: &str, n: usize) -> Option<Vec<Record>> {
             let hub = d.event;
             while d.act(&[hub], &[(WRITE, 2)]) {}
         }
+        "fan" => {
+            let m = (n / 4).clamp(2, NAMES) as u16;
+            let steps: Vec<(u8, u16)> = (2..=m).map(|t| (SEND, t)).chain((2..=m).map(|t| (SEND + 1, t))).collect();
+            d.act(&[], &steps);
+            while d.act(&[], &[]) {}
+        }
+        "ladder" => {
+            while {
+                let e = d.event + 1;
+                let steps: Vec<(u8, u16)> =
+                    [e + 1, e + 2].into_iter().filter(|&t| t <= NAMES as u16).map(|t| (SEND, t)).collect();
+                d.act(&[], &steps)
+            } {}
+        }
+        "hub" => hub(&mut d, (n / 15).clamp(1, NAMES / 4 - 1) as u16),
+        "late" => {
+            let m = (n / 8) as u16;
+            for i in 0..m {
+                let steps: Vec<(u8, u16)> = (0..4).map(|l| (SEND + l as u8, 2 * m - (i + 97 * l) % m)).collect();
+                d.act(&[], &steps);
+            }
+            for _ in 0..m {
+                d.act(&[], &[]);
+            }
+        }
+        "layers" => {
+            let w = (n / 12) as u16;
+            for i in 0..w {
+                let mut steps = vec![(SEND, w + 1 + i), (SEND + 1, w + 1 + i)];
+                if i % 3 != 0 && i + 1 < w {
+                    steps.push((FORK, i + 2));
+                }
+                d.act(&[], &steps);
+            }
+            for i in 0..w {
+                d.act(&[], &[(SEND, 2 * w + 1 + i), (WRITE, 1 + i % 4)]);
+            }
+            for i in 0..w {
+                d.act(&[], &[(READ, 1 + i % 4)]);
+            }
+        }
         _ => return None,
     }
     Some(d.records)
+}
+
+/// m senders, one that waits for them, and m more that it starts; every sender has a target of its own.
+fn hub(d: &mut Draft, m: u16) {
+    for i in 0..m {
+        let target = m + 2 + (m - 1 - i);
+        d.act(&[], &[(SEND, target), (SEND, target), (SEND + 1, target)]);
+    }
+    let joins: Vec<u16> = (1..=m).collect();
+    let steps: Vec<(u8, u16)> = (0..m).map(|j| (FORK, 2 * m + 2 + j)).collect();
+    d.act(&joins, &steps);
+    for _ in 0..m {
+        d.act(&[], &[]);
+    }
+    for j in 0..m {
+        d.act(&[], &[(SEND, 3 * m + 2 + j), (SEND + 1, 3 * m + 2 + j)]);
+    }
+    for _ in 0..m {
+        d.act(&[], &[]);
+    }
 }
 
 enum Cells {

@@ -2,7 +2,7 @@
 
 use crate::bed::{Bed, CALLS};
 use crate::calls::Calls;
-use crate::shapes::SHAPES;
+use crate::shapes::{has_sends, SHAPES};
 use std::hint::black_box;
 
 const AREA: usize = 128 * 1024;
@@ -31,18 +31,23 @@ fn deepest(bed: &mut Bed, side: &dyn Calls, call: &str) -> usize {
     AREA - left
 }
 
+/// The deepest stack of one call over the shapes with sends, or over those without.
+fn most(side: &dyn Calls, call: &str, sends: bool) -> usize {
+    let mut most = 0;
+    for (shape, _) in SHAPES.iter().filter(|(shape, _)| has_sends(shape) == sends) {
+        let mut bed = Bed::new(shape, 4096).unwrap();
+        bed.find_pairs();
+        if bed.applies(call) {
+            most = most.max(deepest(&mut bed, side, call));
+        }
+    }
+    most
+}
+
 /// The deepest stack of each call over all shapes at 4,096 records.
 pub fn run(side: &dyn Calls) {
-    println!("| call | deepest stack, bytes |\n|---|---:|");
+    println!("| call | deepest stack, bytes | with sends |\n|---|---:|---:|");
     for call in CALLS.iter().chain(&["order"]) {
-        let mut most = 0;
-        for (shape, _) in SHAPES {
-            let mut bed = Bed::new(shape, 4096).unwrap();
-            bed.find_pairs();
-            if bed.applies(call) {
-                most = most.max(deepest(&mut bed, side, call));
-            }
-        }
-        println!("| {call} | {most} |");
+        println!("| {call} | {} | {} |", most(side, call, false), most(side, call, true));
     }
 }

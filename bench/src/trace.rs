@@ -6,6 +6,9 @@ pub const FORK: u8 = 3;
 pub const JOIN: u8 = 4;
 pub const READ: u8 = 5;
 pub const WRITE: u8 = 6;
+/// Sends on links 0 to 3 are kinds 16 to 19.
+pub const SEND: u8 = 16;
+pub const LINKS: u8 = 4;
 
 /// Event and cell numbers run from 1 to this.
 pub const NAMES: usize = 1024;
@@ -13,6 +16,15 @@ pub const MAX_RECORDS: usize = 4096;
 pub const RECORD: usize = 5;
 pub const TRAILER: usize = 8;
 pub const MARK: u8 = 0xA7;
+
+pub fn is_send(kind: u8) -> bool {
+    (SEND..SEND + LINKS).contains(&kind)
+}
+
+/// A fork or a send.
+pub fn starts(kind: u8) -> bool {
+    kind == FORK || is_send(kind)
+}
 
 #[derive(Clone, Copy, Debug, PartialEq, Eq)]
 pub struct Record {

@@ -1,4 +1,5 @@
-//! Is a given sequence of entries a cover? By the definition, with happens-before found by a search over forks and joins, without clocks.
+//! Is a given sequence of entries a cover? By the definition, with happens-before found by a search over forks, sends and joins, without clocks; the
+//! link rule is applied until it gives nothing more.
 
 use crate::trace::*;
 
@@ -15,11 +16,37 @@ fn steps(bytes: &[u8]) -> Steps {
     let mut next: Vec<Vec<usize>> = vec![Vec::new(); NAMES + 1];
     for r in &records {
         match r.kind {
-            FORK => next[r.first as usize].push(r.second as usize),
             JOIN => next[r.second as usize].push(r.first as usize),
+            kind if starts(kind) => next[r.first as usize].push(r.second as usize),
             _ => {}
         }
     }
+    let mut before = closed(&records, &next);
+    while link_rule(&records, &before, &mut next) {
+        before = closed(&records, &next);
+    }
+    Steps { records, before }
+}
+
+/// Where one send is before another on the same link, the first's target is before the second's; false where that says nothing new.
+fn link_rule(records: &[Record], before: &[Vec<bool>], next: &mut [Vec<usize>]) -> bool {
+    let begins = |e: u16| !before[e as usize].is_empty();
+    let sends: Vec<&Record> = records.iter().filter(|r| is_send(r.kind) && begins(r.second)).collect();
+    let mut more = false;
+    for (j, s) in sends.iter().enumerate() {
+        for r in &sends[..j] {
+            let (t, u) = (r.second as usize, s.second as usize);
+            if r.kind == s.kind && before[r.first as usize][s.first as usize] && !before[t][u] {
+                next[t].push(u);
+                more = true;
+            }
+        }
+    }
+    more
+}
+
+/// What each event that begins happens before.
+fn closed(records: &[Record], next: &[Vec<usize>]) -> Vec<Vec<bool>> {
     let mut before = vec![Vec::new(); NAMES + 1];
     for r in records.iter().filter(|r| r.kind == BEGIN) {
         let start = r.first as usize;
@@ -32,7 +59,7 @@ fn steps(bytes: &[u8]) -> Steps {
         }
         before[start] = reached;
     }
-    Steps { records, before }
+    before
 }
 
 impl Steps {

@@ -10,7 +10,7 @@ mod tally;
 
 use crate::calls::*;
 use crate::plain::Plain;
-use crate::random::{damage, mix, records, style, Chance};
+use crate::random::{damage, mix, records, style, unblock, Chance};
 use crate::shapes::{self, SHAPES};
 use crate::trace::{job_file, Record, MAX_RECORDS};
 use std::fmt::Debug;
@@ -92,7 +92,9 @@ fn some_records(chance: &mut Chance) -> Vec<Record> {
     let longest = chance.pick(&[12, 30, 30, 60, 60, 60, 200, 200, 700, 4096]);
     if chance.percent(70) {
         let style = style(chance, longest);
-        return records(chance, &style);
+        let mut records = records(chance, &style);
+        unblock(chance, &mut records, 15);
+        return records;
     }
     let (shape, _) = chance.pick(&SHAPES);
     let n = if chance.percent(3) { MAX_RECORDS } else { 8 + chance.below(longest.min(700)) };

@@ -10,9 +10,10 @@ struct Side {
     space: Vec<u8>,
 }
 
-fn some_record(chance: &mut Chance, like: Record) -> Record {
+fn some_record(chance: &mut Chance, like: Record, sends: bool) -> Record {
     let mut r = like;
     match chance.below(4) {
+        0 if sends => r.kind = chance.pick(&[15, 16, 17, 18, 19, 20]),
         0 => r.kind = chance.below(9) as u8,
         1 => r.first = chance.pick(&[0, 1, 2, 3, 1024, 1025, 65535]),
         2 => r.second = chance.pick(&[0, 1, 2, 3, 1024, 1025, 65535]),
@@ -51,7 +52,8 @@ fn close(other: &dyn Calls, plain: &mut Side, side: &mut Side, tally: &mut Tally
 pub fn compare(other: &dyn Calls, chance: &mut Chance, tally: &mut Tally) -> Agreed {
     let longest = chance.pick(&[10, 30, 60, 60, 200, 4096]);
     let style = style(chance, longest);
-    let wanted = records(chance, &style);
+    let mut wanted = records(chance, &style);
+    unblock(chance, &mut wanted, 50);
     let needed = wanted.len() * RECORD + TRAILER;
     let space = if chance.percent(5) { chance.below(20) } else { length(chance, needed) };
     let space = junk8(chance, space);
@@ -61,10 +63,12 @@ pub fn compare(other: &dyn Calls, chance: &mut Chance, tally: &mut Tally) -> Agr
     let mut plain = Side { recorder, space };
     let mut side = plain.clone();
     let mut honest = true;
-    let (wrong, altering) = (chance.pick(&[0, 0, 3, 20]), chance.percent(20));
+    // over altered bytes 31 is what the product's own definition says of them: compared only where there is no send
+    let altering = style.sends == 0 && chance.percent(40);
+    let wrong = chance.pick(&[0, 0, 3, 20]);
     for r in wanted {
         while chance.percent(wrong) {
-            let r = some_record(chance, r);
+            let r = some_record(chance, r, !altering);
             step(other, &mut plain, &mut side, r, tally)?;
         }
         if altering && chance.percent(5) {

@@ -63,13 +63,14 @@ pub fn fill(trace: &Checked, width: usize, clocks: &mut [u16]) -> Answer<Chains>
     check_space(width, trace.events, clocks.len())?;
     let clocks = &mut clocks[..trace.events * width];
     let mut row_of = [0u16; NAMES + 1];
+    let mut event_of: Vec<u16> = Vec::with_capacity(trace.events);
     let mut waiting = Waiting::new();
     let mut chains = Chains { spots: Vec::with_capacity(trace.events), used: 0 };
     let mut members = vec![0u16; width];
     for (i, r) in trace.records().enumerate() {
         match r.kind {
-            FORK => waiting.add(r.second, row_of[r.first as usize]),
-            JOIN => waiting.add(r.first, row_of[r.second as usize]),
+            FORK if trace.table.is_none() => waiting.add(r.second, row_of[r.first as usize]),
+            JOIN if trace.table.is_none() => waiting.add(r.first, row_of[r.second as usize]),
             BEGIN => {
                 let row = chains.spots.len();
                 row_of[r.first as usize] = row as u16;
@@ -79,6 +80,13 @@ pub fn fill(trace: &Checked, width: usize, clocks: &mut [u16]) -> Answer<Chains>
                 for p in waiting.rows(r.first) {
                     raise(new, &before[p * width..][..chains.used]);
                 }
+                if let Some(table) = &trace.table {
+                    // each row before leaves its own entry at its chain, the last one the largest
+                    for (spot, _) in chains.spots.iter().zip(&event_of).filter(|(_, &t)| table.before(t, r.first)) {
+                        new[spot.chain as usize] = spot.tick;
+                    }
+                }
+                event_of.push(r.first);
                 // The last member of chain c happens before the new one when all its members are counted.
                 let counted = new[..chains.used].iter().zip(&members[..chains.used]);
                 let free = counted.into_iter().position(|(x, y)| x == y);

@@ -3,6 +3,7 @@
 mod candidates;
 mod clocks;
 mod compactor;
+mod links;
 mod lists;
 mod pair;
 mod reading;

@@ -1,5 +1,6 @@
 //! Reading: the trailer, then each record in turn.
 
+use super::links::Table;
 use crate::calls::{refuse, Answer, Refusal};
 use crate::trace::*;
 
@@ -17,10 +18,12 @@ enum Status {
     Ended,
 }
 
-/// A trace that no refusal of 1 to 10 concerns.
+/// A trace that no refusal of 1 to 10 and no 31 concerns.
 pub struct Checked<'a> {
     pub start: usize,
     pub events: usize,
+    /// where there are sends
+    pub table: Option<Table>,
     body: &'a [u8],
 }
 
@@ -46,6 +49,7 @@ struct Reader {
     owner: u16,
     status: [Status; NAMES + 1],
     begins: usize,
+    sends: bool,
 }
 
 fn is_name(x: u16) -> bool {
@@ -54,7 +58,7 @@ fn is_name(x: u16) -> bool {
 
 impl Reader {
     fn new() -> Self {
-        Reader { situation: Situation::Between, owner: 0, status: [Status::Unknown; NAMES + 1], begins: 0 }
+        Reader { situation: Situation::Between, owner: 0, status: [Status::Unknown; NAMES + 1], begins: 0, sends: false }
     }
 
     /// Takes one record, or says which refusal of 4 to 8 applies.
@@ -63,22 +67,23 @@ impl Reader {
         let well_formed = match r.kind {
             BEGIN | END => r.second == 0,
             FORK | JOIN | READ | WRITE => is_name(r.second),
+            kind if is_send(kind) => is_name(r.second),
             _ => return Err(4),
         };
         if !well_formed || !is_name(r.first) {
             return Err(5);
         }
-        let starts = matches!(r.kind, BEGIN | JOIN);
+        let opens = matches!(r.kind, BEGIN | JOIN);
         let in_place = match self.situation {
-            Situation::Between => starts,
-            Situation::AfterJoin => starts && r.first == self.owner,
-            Situation::Inside => !starts && r.first == self.owner,
+            Situation::Between => opens,
+            Situation::AfterJoin => opens && r.first == self.owner,
+            Situation::Inside => !opens && r.first == self.owner,
         };
         if !in_place {
             return Err(6);
         }
         let (first, second) = (r.first as usize, r.second as usize);
-        if starts && self.status[first] != Status::Unknown || r.kind == FORK && self.status[second] != Status::Unknown {
+        if opens && self.status[first] != Status::Unknown || starts(r.kind) && self.status[second] != Status::Unknown {
             return Err(7);
         }
         if r.kind == JOIN && self.status[second] != Status::Ended {
@@ -95,7 +100,10 @@ impl Reader {
                 Situation::Between
             }
             JOIN => Situation::AfterJoin,
-            _ => Situation::Inside,
+            _ => {
+                self.sends |= is_send(r.kind);
+                Situation::Inside
+            }
         };
         self.owner = r.first;
         Ok(())
@@ -118,17 +126,35 @@ pub fn read(bytes: &[u8]) -> Answer<Checked<'_>> {
     }
     let start = front.len() - distance;
     let mut reader = Reader::new();
-    let mut place = 0;
     let body = &front[start..];
+    let (passed, found) = scan(&mut reader, body, u16::from_le_bytes([b0, b1]) as usize);
+    let table = if reader.sends { Some(fill(&body[..passed * RECORD])?) } else { None };
+    found?;
+    Ok(Checked { start, events: reader.begins, table, body })
+}
+
+/// How many records pass 4 to 8, and the first refusal of 4 to 10.
+fn scan(reader: &mut Reader, body: &[u8], begins: usize) -> (usize, Answer<()>) {
+    let mut passed = 0;
     for r in body.chunks_exact(RECORD).map(Record::decode) {
-        place += 1;
-        reader.take(r).map_err(|number| Refusal { number, place })?;
+        if let Err(number) = reader.take(r) {
+            return (passed, Err(Refusal { number, place: passed as u16 + 1 }));
+        }
+        passed += 1;
     }
     if reader.situation != Situation::Between {
-        return Err(Refusal { number: 9, place });
+        return (passed, Err(Refusal { number: 9, place: passed as u16 }));
     }
-    if reader.begins != u16::from_le_bytes([b0, b1]) as usize {
-        return refuse(10);
+    (passed, if reader.begins == begins { Ok(()) } else { refuse(10) })
+}
+
+/// The table over these records, or 31.
+fn fill(body: &[u8]) -> Answer<Table> {
+    let mut table = Table::new();
+    for (i, r) in body.chunks_exact(RECORD).map(Record::decode).enumerate() {
+        if !table.take(r) {
+            return Err(Refusal { number: 31, place: i as u16 + 1 });
+        }
     }
-    Ok(Checked { start, events: reader.begins, body })
+    Ok(table)
 }

@@ -1,5 +1,6 @@
 //! The recorder, from what its state and the lent bytes say, whoever wrote them.
 
+use super::links::Table;
 use crate::calls::{refuse, Answer, Recorder, Refusal};
 use crate::trace::*;
 
@@ -13,23 +14,35 @@ fn stored<'a>(space: &'a [u8], n: usize) -> impl Iterator<Item = Record> + 'a {
     space.chunks_exact(RECORD).take(n).map(Record::decode)
 }
 
+/// 31, were e to begin after the records stored.
+fn blocked(space: &[u8], n: usize, e: u16) -> bool {
+    let mut table = Table::new();
+    for s in stored(space, n) {
+        table.take(s);
+    }
+    table.begin_blocked(e)
+}
+
 /// Situations: 0 between event actions, 1 after a join, more inside one. Gives the next one.
 fn judge(space: &[u8], n: usize, recorder: &Recorder, r: Record) -> Result<u8, u16> {
     let name = |x: u16| (1..=NAMES as u16).contains(&x);
     let seen = |kind: u8, event: u16| stored(space, n).any(|s| s.kind == kind && s.first == event);
-    if !(BEGIN..=WRITE).contains(&r.kind) {
+    if !(BEGIN..=WRITE).contains(&r.kind) && !is_send(r.kind) {
         return Err(4);
     }
     let second_good = if r.kind <= END { r.second == 0 } else { name(r.second) };
     if !name(r.first) || !second_good {
         return Err(5);
     }
-    let starts = r.kind == BEGIN || r.kind == JOIN;
-    if starts == (recorder.situation > 1) || recorder.situation > 0 && r.first != recorder.owner {
+    let opens = r.kind == BEGIN || r.kind == JOIN;
+    if opens == (recorder.situation > 1) || recorder.situation > 0 && r.first != recorder.owner {
         return Err(6);
     }
-    if starts && seen(BEGIN, r.first) || r.kind == FORK && seen(BEGIN, r.second) {
+    if opens && seen(BEGIN, r.first) || starts(r.kind) && seen(BEGIN, r.second) {
         return Err(7);
+    }
+    if r.kind == BEGIN && stored(space, n).any(|s| is_send(s.kind) && s.second == r.first) && blocked(space, n, r.first) {
+        return Err(31);
     }
     if r.kind == JOIN && !seen(END, r.second) {
         return Err(8);

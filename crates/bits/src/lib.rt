@@ -1,7 +1,8 @@
 // A table of bits, a triangle of 1,024 rows, and four sets of numbers below 1,024, in words of 64 bits.
 ghost use mathlib.Core.Path.{_≡_};
 ghost use Prim.Native.Nat.{_+_, _≤_, _<_};
-ghost use lib.ListN.{getD};
+ghost use lib.ListN.{length, getD};
+ghost use Rattle.slices.specs.Slices.{zeros};
 ghost use Rattle.bits.specs.Words.{bitAt, withBit, orFrom, orOthers};
 ghost use Rattle.bits.specs.Table.{rowStart, bitOf, putBit, orRow, member, orSet};
 
@@ -63,6 +64,18 @@ fn row_start(u: usize) -> usize
         return 17 * u;
     }
     17 * (1023 - u) + (16 - u / 64)
+}
+
+// No bit in any word.
+pub fn clear(words: &mut [u64])
+    ensures { λ r. ⌜ now (words .exit) ≡ zeros (length (now (words .entry))) ⌝ }
+{
+    let n = words.len();
+    let mut i = 0;
+    while i < n {
+        words[i] = 0;
+        i += 1;
+    }
 }
 
 // Is p in row u?

@@ -32,8 +32,8 @@ use Rattle.races.specs.Traces.{isAccess, cellsOf, settingOf}
 use Rattle.races.proofs.Instance.{laws, access-kind}
 use Rattle.compactor.specs.SlimTrace.{repeats, dropped, kept, slimOf, old, droppedIn}
 use Rattle.compactor.specs.Same.{IsTrace, SameOrder, SameRaces, NothingMore, SlimmerJobFiles}
-use Rattle.compactor.proofs.Thinned.{thin-length, thin-at, thin-acceptable, thin-rank, thin-begins}
-use Rattle.compactor.proofs.ThinLinks.{no-start, thin-links}
+use Rattle.compactor.proofs.Thinned.{thin-length, thin-at, thin-rank, thin-begins}
+use Rattle.compactor.proofs.ThinLinks.{no-start, thin-acceptable, thin-links}
 
 module _ (tr : List Record) where
   -- record i is dropped for an earlier record j

@@ -1,4 +1,4 @@
--- Any records of an acceptable trace that leave out accesses alone have the trace's links. Assumes nothing.
+-- Any records of an acceptable trace that leave out accesses alone are an acceptable trace, with the trace's links. Assumes nothing.
 use Prim.Native.Nat.{ℕ, zero, suc, _-_, _≤_, _<_}
 use mathlib.Core.Path.{_≡_, refl, sym, ap, ap₂, _∙_, fun-ext, subst}
 use mathlib.Core.Logic.{_⊎_, inl, inr}
@@ -11,12 +11,15 @@ use lib.ListN.{length}
 use Rattle.records.specs.declared.Record.{Record}
 use Rattle.records.specs.Records.{at, past, begins, isBegin, isJoin}
 use Rattle.records.specs.Kinds.{starts, sameLink}
+use Rattle.trace.specs.Rule.{rule}
+use Rattle.trace.specs.Plain.{plainRule}
 use Rattle.trace.specs.Reading.{Acceptable}
+use Rattle.trace.proofs.Behind.{rule-passes, rule-free}
 use Rattle.slices.proofs.Tests.{decide, failed, same as equal-tests}
 use Rattle.coverage.specs.Below.{some, upto, only}
 use Rattle.coverage.proofs.Lists.{upto-zero, upto-no}
-use Rattle.coverage.proofs.Indexed.{size, size-zero, size-yes, size-no, item-at, size-more}
-use Rattle.precedence.specs.Table.{Table, ahead, someTarget, sets, table}
+use Rattle.coverage.proofs.Indexed.{size, item, size-zero, size-yes, size-no, item-passes, item-at, place-of, size-more, size-most}
+use Rattle.precedence.specs.Table.{Table, ahead, someTarget, sets, table, missing, blockedFor}
 use Rattle.precedence.proofs.Rows.{link-first, link-second}
 use Rattle.ranks.specs.declared.Ordering.the-variants.{Nothing}
 use Rattle.order.specs.Schedule.{linked}
@@ -25,7 +28,7 @@ use Rattle.order.specs.LinkRule.{linkingOf, linkingAt, putsBehind, targetsAt, b
 use Rattle.order.specs.HappensBefore.{traceLinks}
 use Rattle.races.specs.Traces.{isAccess}
 use Rattle.races.proofs.Instance.{access-kind}
-use Rattle.compactor.proofs.Thinned.{thin, thin-length, thin-at, thin-rank, alike}
+use Rattle.compactor.proofs.Thinned.{rule-alike, thin, thin-length, thin-at, thin-rank, alike, all-alike}
 
 upto-step : (n : ℕ) (q : ℕ → Bool) → upto (suc n) q ≡ upto n q ++ only (q n) n
 unfolding upto
@@ -193,7 +196,36 @@ module _ {tr : List Record} (acc : Acceptable tr) (keep : ℕ → Bool) (drops :
   tables : (i : ℕ) → i ≤ length tr → table thinned (place i) ≡ table tr i
   tables i l = fun-ext (λ t. fun-ext (table-alike i l t))
 
-  -- so are the targets that the link rule finds at a begin
+  -- so 31 refuses none of their begins
+  missing-alike : (i : ℕ) → i ≤ length tr → (e v : ℕ) → missing thinned (place i) e v ≡ missing tr i e v
+  missing-alike i l e v = rw (alike acc keep drops i l .begun-same v)
+
+  blocked-alike : (i : ℕ) → i ≤ length tr → (e : ℕ) → blockedFor thinned (place i) e ≡ blockedFor tr i e
+  unfolding blockedFor
+  blocked-alike i l e =
+      let z : missing thinned (place i) e ≡ missing tr i e = fun-ext (missing-alike i l e) in
+      rw (tables i l, z) (target-alike (table tr i) e (missing tr i e) i l)
+
+  passes-at-place : (i : ℕ) → i < length tr → T (keep i) → rule (past thinned (place i)) (at thinned (place i)) ≡ 0
+  passes-at-place i l h =
+      let (plain, free) = rule-passes tr i (acc .passes i l) in
+      rule-free thinned (place i)
+      (λ b. ap (blockedFor thinned (place i)) (at-place-first i l h) ∙ blocked-alike i (omega arith) (at tr i .first)
+      ∙ free (subst (λ (r : Record). T (isBegin r)) (at-place i l h) b))
+      ∙ ap (plainRule (past thinned (place i))) (at-place i l h) ∙ rule-alike (alike acc keep drops i (omega arith)) (at tr i) ∙ plain
+
+  -- they are an acceptable trace
+  pub thin-acceptable : Acceptable thinned
+  thin-acceptable = record {
+    few = let m = size-most keep (length tr) in omega (arith, thin-length acc keep drops, acc .few, m);
+    passes = λ k l.
+        let h : k < size keep (length tr) = omega (arith, thin-length acc keep drops) in
+        let (m, kept) = item-passes keep (length tr) k h in
+        subst (λ (x : ℕ). rule (past thinned x) (at thinned x) ≡ 0) (place-of keep (length tr) k h) (passes-at-place (item keep (length tr) k) m kept);
+    closed = all-alike acc keep drops .situations ∙ acc .closed;
+  }
+
+  -- the targets that the link rule finds at a begin are the trace's
   between : (i x : ℕ) → i < length tr → x < i → T (keep x)
       → some (place i) (λ y. ltb (place x) y && ahead thinned (table tr i) (at tr i .first) (place x) y)
       ≡ some i (λ y. ltb x y && ahead tr (table tr i) (at tr i .first) x y)

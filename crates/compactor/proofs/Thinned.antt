@@ -1,6 +1,6 @@
 -- Any records of an acceptable trace that leave out accesses alone: what comes before each, and their ranks, are the trace's. Assumes nothing.
 use Prim.Native.Nat.{ℕ, zero, suc, _≤_, _<_}
-use mathlib.Core.Path.{_≡_, refl, sym, ap, _∙_, subst}
+use mathlib.Core.Path.{_≡_, refl, sym, ap, _∙_}
 use mathlib.Core.Logic.{_⊎_, inl, inr, ⊎-elim}
 use mathlib.Core.Bool.{Bool, false}
 use mathlib.Core.List.{List, [], _∷_, map}
@@ -12,15 +12,16 @@ use lib.ListN.{length, getD, length-map}
 use Rattle.records.specs.declared.Record.{Record}
 use Rattle.records.specs.Records.{noRecord, at, past, has, begun, ended, begins}
 use Rattle.trace.specs.Place.{place}
-use Rattle.trace.specs.Rule.{situation, owner, rule}
+use Rattle.trace.specs.Rule.{situation, owner}
+use Rattle.trace.specs.Plain.{plainRule}
 use Rattle.trace.specs.Reading.{Acceptable}
 use Rattle.trace.proofs.Blocks.{Passes, passes-at}
-use Rattle.trace.proofs.PlaceRule.{Outside, begins as begins-outside, joins, Inside, ends, forks, reads, writes, outside, inside}
+use Rattle.trace.proofs.PlaceRule.{Outside, begins as begins-outside, joins, Inside, ends, forks, reads, writes, sends, outside, inside}
 use Rattle.records.proofs.Positions.{lt-or-ge}
 use Rattle.order.specs.Rank.{rankIn, rank}
 use Rattle.coverage.specs.Below.{upto}
 use Rattle.slices.proofs.Tests.{decide}
-use Rattle.coverage.proofs.Indexed.{size, item, size-zero, size-yes, size-no, item-passes, item-at, place-of, size-most}
+use Rattle.coverage.proofs.Indexed.{size, item, size-zero, size-yes, size-no, item-at}
 use Rattle.races.specs.Traces.{isAccess}
 use Rattle.races.proofs.Instance.{access-kind}
 
@@ -38,8 +39,9 @@ pub record Alike (before before′ : List Record) : Type 0 where
   pub counts : begins before′ ≡ begins before
   pub ranks : (e : ℕ) → rankIn e before′ ≡ rankIn e before
 
-pub rule-alike : {before before′ : List Record} → Alike before before′ → (r : Record) → rule before′ r ≡ rule before r
-unfolding rule
+-- 4 to 8
+pub rule-alike : {before before′ : List Record} → Alike before before′ → (r : Record) → plainRule before′ r ≡ plainRule before r
+unfolding plainRule
 rule-alike a r = rw (a .situations, a .owners, a .begun-same (r .first), a .begun-same (r .second), a .ended-same (r .second))
 
 alike-start : Alike [] []
@@ -91,6 +93,7 @@ module _ {tr : List Record} (acc : Acceptable tr) where
       within n (forks e h) = omega arith
       within n (reads e h) = omega arith
       within n (writes e h) = omega arith
+      within n (sends l m h) = omega arith
 
       go : (situation (past tr i) < 2) ⊎ (2 ≤ situation (past tr i)) → place (situation (past tr i)) (at tr i .kind) ≤ 2
       go (inl m) = out _ (outside (situation (past tr i)) (at tr i .kind) (p .known) (p .placed) m)
@@ -116,6 +119,7 @@ module _ {tr : List Record} (acc : Acceptable tr) where
       within n (forks e h) = absurd (⊎-elim (λ q. omega arith) (λ q. omega arith) k)
       within n (reads e h) = h
       within n (writes e h) = h
+      within n (sends l m h) = h
 
       go : (s < 2) ⊎ (2 ≤ s) → (place s (at tr i .kind) ≡ s) × (at tr i .first ≡ owner (past tr i))
       go (inl m) = absurd (out (outside s (at tr i .kind) (p .known) (p .placed) m))
@@ -158,23 +162,10 @@ module _ {tr : List Record} (acc : Acceptable tr) where
             let (s, o) = access-inside i (omega arith) k in
             rw (past-dropped i h) (alike-one a (at tr i) k s o)
 
-    all-alike : Alike (past tr (length tr)) (past thin (length thin))
+    pub all-alike : Alike (past tr (length tr)) (past thin (length thin))
     all-alike = rw thin-length (alike (length tr) (omega arith))
 
-    -- they are an acceptable trace
-    pub thin-acceptable : Acceptable thin
-    thin-acceptable = record {
-      few = let m = size-most keep (length tr) in omega (arith, thin-length, acc .few, m);
-      passes = λ k l.
-          let h : k < size keep (length tr) = omega (arith, thin-length) in
-          let i = item keep (length tr) k in
-          let (m, _) = item-passes keep (length tr) k h in
-          let a : Alike (past tr i) (past thin k) = subst (λ (x : ℕ). Alike (past tr i) (past thin x)) (place-of keep (length tr) k h) (alike i (omega arith)) in
-          ap (rule (past thin k)) (thin-at k h) ∙ rule-alike a (at tr i) ∙ acc .passes i m;
-      closed = all-alike .situations ∙ acc .closed;
-    }
-
-    -- with the same ranks and number of begins
+    -- the same ranks and number of begins
     pub thin-rank : (e : ℕ) → rank thin e ≡ rank tr e
     unfolding rank
     thin-rank e = all-alike .ranks e

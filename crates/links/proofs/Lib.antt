@@ -6,3 +6,4 @@ pub mod FillSim
 pub mod RankSim
 pub mod BeginLaws
 pub mod BeginSim
+pub mod FillLength

@@ -1,12 +1,15 @@
 // Happens-before with links that deliver in order, as a table of bits by rank, and refusal 31.
+use bits::clear;
 use bits::get;
 use bits::has;
 use bits::or_row;
 use bits::or_set;
 use bits::put;
+use ranks::fill_ranks;
 use ranks::rank_of;
 use ranks::ranks;
 use records::EventId;
+use records::RECORD_BYTES;
 use records::access;
 use slices::numbers;
 use slices::zeros::numbers_1025;
@@ -15,6 +18,7 @@ ghost use Prim.Native.Nat.{_<_};
 ghost use lib.ListN.{length};
 ghost use Rattle.slices.specs.Slices.{zeros};
 ghost use Rattle.records.specs.Bytes.{decode};
+ghost use Rattle.ranks.specs.Ranks.{ranksOf};
 ghost use Rattle.records.specs.Records.{at};
 ghost use Rattle.links.specs.Rule.{rankIn, missing, behind, reach, Turned, Leaves, walk};
 ghost use Rattle.links.specs.Fill.{linked, beginRow, Stepped, Stops, fillFrom, fillAll};
@@ -211,20 +215,35 @@ pub fn fill(recs: &[u8], ranks: &[u16], table: &mut [u64]) -> usize
     fill_rows(recs, ranks, n, table, &mut last)
 }
 
+// The ranks and the table over all records, in lent memory; the position of the first begin that 31 refuses, or the number of records.
+pub fn fill_all(recs: &[u8], ranks: &mut [u16; 1025], table: &mut [u64; 8704]) -> usize
+    ensures { λ r. ⌜ Stops (fillAll (decode (now (recs .entry)))) r (now (table .exit)) × (now (ranks .exit) ≡ ranksOf (decode (now (recs .entry)))) ⌝ }
+{
+    fill_ranks(recs, ranks);
+    clear(table);
+    fill(recs, ranks, table)
+}
+
 // A table without bits.
-fn no_bits() -> [u64; 8704]
+pub fn no_bits() -> [u64; 8704]
     ensures { λ r. ⌜ r ≡ zeros 8704 ⌝ }
 {
     [0; 8704]
 }
 
-// The position of the first begin that 31 refuses, or the number of records.
+// The position of the first begin that 31 refuses, or the number of records, with a table of its own. Bytes past the last whole record count for nothing:
+// where there are any it asks itself again without them. A function that calls itself is not inlined, so the table stands in no caller's frame.
 pub fn first_blocked(recs: &[u8]) -> usize
     ensures { λ r. ⌜ r ≡ fillAll (decode (now (recs .entry))) .stop ⌝ }
 {
     let all = ranks(recs);
     let mut table = no_bits();
-    fill(recs, &all, &mut table)
+    let stop = fill(recs, &all, &mut table);
+    let whole = recs.len() / RECORD_BYTES;
+    if recs.len() == RECORD_BYTES * whole {
+        return stop;
+    }
+    first_blocked(access::records_from(recs, 0, whole))
 }
 
 // Record j is a send to e.
@@ -312,7 +331,8 @@ fn may_block(recs: &[u8], ranks: &[u16], from: usize, e: EventId) -> bool
     may_walk(recs, ranks, from, e, &mut sent)
 }
 
-// The table over all records, and the walk for e, whose row would be u.
+// The table over all records, and the walk for e, whose row would be u. It asks itself again without bytes past the last whole record, as
+// `first_blocked` does, and so has its frame to itself.
 fn blocked_by_table(recs: &[u8], ranks: &[u16], from: usize, e: EventId, u: usize) -> bool
     ensures { λ r. ⌜ r ≡ tableBlocked (decode (now (recs .entry))) (rankIn (now (ranks .entry))) from (e .0) u ⌝ }
 {
@@ -322,7 +342,12 @@ fn blocked_by_table(recs: &[u8], ranks: &[u16], from: usize, e: EventId, u: usiz
     let mut table = no_bits();
     fill(recs, ranks, &mut table);
     put(&mut table, u, u);
-    link_rule(recs, ranks, from, e, (u + 1) as u16, &mut table)
+    let stuck = link_rule(recs, ranks, from, e, (u + 1) as u16, &mut table);
+    let whole = recs.len() / RECORD_BYTES;
+    if recs.len() == RECORD_BYTES * whole {
+        return stuck;
+    }
+    blocked_by_table(access::records_from(recs, 0, whole), ranks, from, e, u)
 }
 
 // 31 would refuse the begin of e after these records.

@@ -58,16 +58,21 @@ module _ (tr : List Record) where
   unfolding rankIn past
   rank-before e i n = go (ℕ-discrete (at tr i .kind) 1) (ℕ-discrete (at tr i .first) e)
     where
-      go : Dec (at tr i .kind ≡ 1) → Dec (at tr i .first ≡ e) → cond (isBegin (at tr i) && eqb (at tr i .first) e) (counted i + 1) (rankIn e (past tr i)) ≡ rankIn e (past tr i)
+      go : Dec (at tr i .kind ≡ 1) → Dec (at tr i .first ≡ e)
+          → cond (isBegin (at tr i) && eqb (at tr i .first) e) (counted i + 1) (rankIn e (past tr i)) ≡ rankIn e (past tr i)
       go (no m) _ = rw (ne-eqb (at tr i .kind) 1 m)
       go (yes k) (no m) = rw (eq-eqb (at tr i .kind) 1 k, ne-eqb (at tr i .first) e m)
       go (yes k) (yes q) = absurd (n (k, q))
 
-  pub rank-at : (e j i : ℕ) → j < i → at tr j .kind ≡ 1 → at tr j .first ≡ e → ((k : ℕ) → k < i → at tr k .kind ≡ 1 → at tr k .first ≡ e → k ≡ j) → rankIn e (past tr i) ≡ counted j + 1
+  pub rank-at : (e j i : ℕ) → j < i → at tr j .kind ≡ 1 → at tr j .first ≡ e
+      → ((k : ℕ) → k < i → at tr k .kind ≡ 1 → at tr k .first ≡ e → k ≡ j) → rankIn e (past tr i) ≡ counted j + 1
   rank-at e j zero l k q f = absurd (not-suc-le-zero l)
   rank-at e j (suc i) l k q f = go (eq-or-lt-of-le (le-of-suc-le-suc l)) (rank-at e j i)
     where
-      go : (j ≡ i) ⊎ (j < i) → (j < i → at tr j .kind ≡ 1 → at tr j .first ≡ e → ((k : ℕ) → k < i → at tr k .kind ≡ 1 → at tr k .first ≡ e → k ≡ j) → rankIn e (past tr i) ≡ counted j + 1) → rankIn e (past tr (suc i)) ≡ counted j + 1
+      go : (j ≡ i) ⊎ (j < i)
+          → (j < i → at tr j .kind ≡ 1 → at tr j .first ≡ e → ((k : ℕ) → k < i → at tr k .kind ≡ 1 → at tr k .first ≡ e → k ≡ j)
+          → rankIn e (past tr i) ≡ counted j + 1)
+          → rankIn e (past tr (suc i)) ≡ counted j + 1
       go (inl z) ih = rw z (rank-here e i (rw (← z) k) (rw (← z) q))
       go (inr m) ih = rank-before e i (λ p. omega (arith, f i (omega arith) (p .0) (p .1), m)) ∙ ih m k q (λ x h a b. f x (omega arith) a b)
 
@@ -76,7 +81,10 @@ module _ (tr : List Record) where
   rank-found e zero n = absurd (n refl)
   rank-found e (suc i) n = go (ℕ-discrete (at tr i .kind) 1) (ℕ-discrete (at tr i .first) e) (rank-found e i)
     where
+      later : Found tr isBegin e i → Found tr isBegin e (suc i)
+      later r = let l = r .earlier in record { at-position = r .at-position; earlier = omega arith; passes = r .passes; event = r .event }
+
       go : Dec (at tr i .kind ≡ 1) → Dec (at tr i .first ≡ e) → (rankIn e (past tr i) ≢ 0 → Found tr isBegin e i) → Found tr isBegin e (suc i)
       go (yes k) (yes q) f = record { at-position = i; earlier = omega arith; passes = eq-eqb (at tr i .kind) 1 k; event = q }
-      go (no m) _ f = let r = f (rw (rank-before e i (λ p. m (p .0))) at n) in let l = r .earlier in record { at-position = r .at-position; earlier = omega arith; passes = r .passes; event = r .event }
-      go (yes k) (no m) f = let r = f (rw (rank-before e i (λ p. m (p .1))) at n) in let l = r .earlier in record { at-position = r .at-position; earlier = omega arith; passes = r .passes; event = r .event }
+      go (no m) _ f = later (f (rw (rank-before e i (λ p. m (p .0))) at n))
+      go (yes k) (no m) f = later (f (rw (rank-before e i (λ p. m (p .1))) at n))

@@ -37,7 +37,7 @@ module _ (l : Links) where
   chains-at k t h =
       List·getD-append (table k (chainOf l)) (replicate (1024 - k) 0) 0 t (omega (arith, table-length k (chainOf l))) ∙ table-at k (chainOf l) t h
 
-  chains-more : (k : ℕ) → k < 1024 → set (chainsOf k) k (chainOf l k) ≡ chainsOf (suc k)
+  pub chains-more : (k : ℕ) → k < 1024 → set (chainsOf k) k (chainOf l k) ≡ chainsOf (suc k)
   unfolding table
   chains-more k h =
       let e : 1024 - k ≡ suc (1024 - suc k) = omega arith in

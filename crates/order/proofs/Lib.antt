@@ -24,7 +24,6 @@ pub mod EventRows
 pub mod LinkRuleLaws
 pub mod LinkedTrace
 pub mod LinkedExamples
-pub mod Accepted
 pub mod TraceOrder
 pub mod TraceLaws
 pub mod RecordOrder
@@ -45,5 +44,7 @@ pub mod OwnPart
 pub mod Variants
 pub mod Upward
 -- Rows from the table of bits
+pub mod BeginLaws
+pub mod TablePass
 pub mod FromTableLaws
 pub mod FillTable

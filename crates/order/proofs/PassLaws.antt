@@ -343,10 +343,10 @@ module _ (tr : List Record) (w : ℕ) (ranks clocks₀ : List ℕ) where
     pub at-begin : i < length tr → orderingAt tr i ≡ Begin u
     pub passing : Passing acceptable w (drop (eventsIn tr * w) clocks₀) i (record { clocks = clocks; sizes = sizes; chosen = chosen; chains = chains })
 
-  pub going-start : (sizes chosen : List ℕ) → Ready tr w ranks clocks₀ sizes chosen → Going clocks₀ sizes chosen 0 0 0
-  going-start sizes chosen r = record {
+  pub going-start : (sizes chosen : List ℕ) → Ready tr w ranks clocks₀ sizes chosen → hasSend tr ≡ false → Going clocks₀ sizes chosen 0 0 0
+  going-start sizes chosen r ns = record {
     acceptable = r .acceptable;
-    no-sends = r .no-sends;
+    no-sends = ns;
     narrow = r .narrow;
     ranks-are = r .ranks-are;
     within = omega arith;

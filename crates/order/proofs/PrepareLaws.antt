@@ -18,8 +18,8 @@ use Rattle.ranks.specs.Ranks.{ranksOf}
 use Rattle.clocks.specs.Rows.{spaceFor}
 use Rattle.order.specs.declared.Filling.{Filling}
 use Rattle.order.specs.Fill.{rowPastWidth, chainsUsed, chainTable, traceClocks, noChains}
-use Rattle.order.specs.Lent.{workFor, noWork, spaced, enoughChains, onClocks, clocksAfter, chainsFilled, fillReady, fillReply}
-use Rattle.order.specs.Prepare.{asked, readWithin, noTrace}
+use Rattle.order.specs.Lent.{asking, workFor, noWork, spaced, enoughChains, onClocks, clocksAfter, chainsFilled, fillReady, fillReply}
+use Rattle.order.specs.Prepare.{asked, readWithin, within, noTrace}
 use Rattle.order.specs.Paper.{fillPaper, Fills, Prepares}
 use Rattle.order.specs.loops.FillsTrace.{FillsTrace}
 use Rattle.order.proofs.EntryLaws.{read-acceptable, read-events}
@@ -41,6 +41,12 @@ module _ (b : List ℕ) (ready : Reply Trace) (w : ℕ) (cs ranks : List ℕ) wh
   passed t e cs′ chosen ranks′ r rs q g =
       let f = subst (λ (x : List Record). FillsTrace x (t .events) w cs cs′ r chosen ranks′) q g in
       record { answer = rw (← e) (f .answer); trace-is = rw (← e) refl; clocks-after = rw (← e) (f .clocks-after); chains-after = rw (← e) (f .chains-after); ranks-after = rw (← e) (f .ranks-after) }
+
+-- a reading at hand, within the spaces
+pub within-reading : (b : List ℕ) (found : Reply Trace) (lo hi w space room : ℕ) → found ≡ readReply b
+    → within found lo hi w space room ≡ readWithin b lo hi w space room
+unfolding readWithin within asking
+within-reading b found lo hi w space room e = rw e
 
 -- a reading within the spaces that is accepted
 module _ (b : List ℕ) (lo hi w space room : ℕ) (t : Trace) where

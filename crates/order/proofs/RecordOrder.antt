@@ -72,8 +72,12 @@ module _ {tr : List Record} (a : Acceptable tr) where
     where
       go : Said i → begins (orderingAt tr) i ≡ counted tr i → beginsBy (orderingAt tr i) (begins (orderingAt tr) i) ≡ counted tr (suc i)
       go (begins-it k) ih = rw (op-begin i h k, counted-begin tr i k) (omega arith)
-      go (forks-it k) ih = rw (op-fork i k) (link-no-begin (rank tr (at tr i .first)) (rank tr (at tr i .second)) (begins (orderingAt tr) i) ∙ ih ∙ sym (counted-other tr i (λ z. omega arith)))
-      go (joins-it k) ih = rw (op-join i k) (link-no-begin (rank tr (at tr i .second)) (rank tr (at tr i .first)) (begins (orderingAt tr) i) ∙ ih ∙ sym (counted-other tr i (λ z. omega arith)))
+      go (forks-it k) ih =
+          rw (op-fork i k)
+          (link-no-begin (rank tr (at tr i .first)) (rank tr (at tr i .second)) (begins (orderingAt tr) i) ∙ ih ∙ sym (counted-other tr i (λ z. omega arith)))
+      go (joins-it k) ih =
+          rw (op-join i k)
+          (link-no-begin (rank tr (at tr i .second)) (rank tr (at tr i .first)) (begins (orderingAt tr) i) ∙ ih ∙ sym (counted-other tr i (λ z. omega arith)))
       go (nothing x y z) ih = rw (op-other i x y z) (ih ∙ sym (counted-other tr i x))
 
   -- Of a link that a record makes: one that has begun before the record, and one that begins after it.
@@ -95,13 +99,15 @@ module _ {tr : List Record} (a : Acceptable tr) where
   some-rank : (e p : ℕ) → rank tr e ≡ suc p → Begins tr e
   some-rank e p r = rank-begins a e (λ z. omega arith)
 
-  fork-stands : (i : ℕ) → i < length tr → at tr i .kind ≡ 3 → (p u : ℕ) → rank tr (at tr i .first) ≡ p → rank tr (at tr i .second) ≡ u → Stands (counted tr i) (linkOf p u)
+  fork-stands : (i : ℕ) → i < length tr → at tr i .kind ≡ 3 → (p u : ℕ) → rank tr (at tr i .first) ≡ p → rank tr (at tr i .second) ≡ u
+      → Stands (counted tr i) (linkOf p u)
   fork-stands i h k zero u r s = tt
   fork-stands i h k (suc p) zero r s = tt
   fork-stands i h k (suc p) (suc u) r s =
       let b = some-rank (at tr i .second) u s in
       let l = fork-before-begin a i (b .position) h k (begins-at a b) (sym (b .of-event)) in
-      (found-by (at tr i .first) i (omega arith) (body-after-begin a i h (λ z. omega arith) (λ z. omega arith)) p r, begun-from (at tr i .second) i b (omega arith) u s)
+      let f = body-after-begin a i h (λ z. omega arith) (λ z. omega arith) in
+      (found-by (at tr i .first) i (omega arith) f p r, begun-from (at tr i .second) i b (omega arith) u s)
 
   -- the event that a join waits for has begun before
   waited-found : (i : ℕ) → i < length tr → at tr i .kind ≡ 4 → Found tr isBegin (at tr i .second) i
@@ -113,7 +119,8 @@ module _ {tr : List Record} (a : Acceptable tr) where
       let m = g .earlier in
       record { at-position = g .at-position; earlier = omega arith; passes = g .passes; event = g .event ∙ f .event }
 
-  join-stands : (i : ℕ) → i < length tr → at tr i .kind ≡ 4 → (p u : ℕ) → rank tr (at tr i .second) ≡ p → rank tr (at tr i .first) ≡ u → Stands (counted tr i) (linkOf p u)
+  join-stands : (i : ℕ) → i < length tr → at tr i .kind ≡ 4 → (p u : ℕ) → rank tr (at tr i .second) ≡ p → rank tr (at tr i .first) ≡ u
+      → Stands (counted tr i) (linkOf p u)
   join-stands i h k zero u r s = tt
   join-stands i h k (suc p) zero r s = tt
   join-stands i h k (suc p) (suc u) r s =

@@ -12,7 +12,7 @@ use Rattle.trace.specs.Reading.{Acceptable}
 use Rattle.precedence.specs.Before.{same, path}
 use Rattle.precedence.proofs.Theorems as precedence
 use Rattle.order.specs.HappensBefore.{Link, happensBefore}
-use Rattle.order.proofs.Accepted.{accepted-whole}
+use Rattle.trace.proofs.Whole.{accepted-whole}
 use Rattle.order.proofs.TraceOrder.{record-begins, test-is, happens-before, before-happens}
 
 module _ {tr : List Record} (a : Acceptable tr) where

@@ -19,7 +19,7 @@ use Rattle.order.proofs.Counted.{counted}
 use Rattle.order.proofs.EventRows.{events, nameOf}
 use Rattle.order.proofs.LinkedTrace as whole
 use Rattle.order.proofs.LinkedTrace.{Ranked, Named}
-use Rattle.order.proofs.Accepted.{accepted-whole}
+use Rattle.trace.proofs.Whole.{accepted-whole}
 
 module _ {tr : List Record} (a : Acceptable tr) where
   -- an event that begins has a rank, and one with a rank begins

@@ -1,22 +1,24 @@
 -- "Plausible and false": "A chain found among direct predecessors only.", with a trace on which it takes another chain. `refl` computes it.
 use Prim.Native.Nat.{ℕ}
 use mathlib.Core.Path.{_≡_, refl}
-use mathlib.Core.Bool.{Bool}
+use mathlib.Core.Bool.{Bool, false}
 use mathlib.Core.List.{List, [], _∷_}
 use lib.Dec.{eqb}
 use Rattle.records.specs.declared.Record.{Record}
 use Rattle.records.specs.Bytes.{recordAt, recordsFrom, decode, part}
 use Rattle.records.specs.Records.{past, has, begun, ended, begins}
 use Rattle.trace.specs.Place.{place}
-use Rattle.trace.specs.Rule.{situation, owner, numbered, wellFormed, misplaced, again, early, judge, rule}
+use Rattle.trace.specs.Rule.{situation, owner, numbered, wellFormed, misplaced, again, early, judge, inTurn, rule}
+use Rattle.trace.specs.Rule as rules
 use Rattle.trace.specs.Reply.{demand, orElse, then}
 use Rattle.trace.specs.Reading.{closing, walk, distance, trailerReply, frameReply, recordsIn, readReply, Accepts}
 use Rattle.records.specs.Encoding.{encode, trailer, traceOf}
 use Rattle.trace.proofs.Examples.{rec}
-use Rattle.records.specs.Kinds.{sameLink}
+use Rattle.records.specs.Kinds.{sameLink, hasSend}
 use Rattle.coverage.specs.Below.{upto}
 use Rattle.coverage.specs.Below as below
-use Rattle.precedence.specs.Table.{ahead}
+use Rattle.precedence.specs.Table.{ahead, someTarget, sets, blockedFor}
+use Rattle.precedence.specs.Table as precedence
 use Rattle.order.specs.Links.{Links, within, along, some, leq}
 use Rattle.order.specs.Chains.{firstFrom, pick, put, lasts, chain, needs}
 use Rattle.order.specs.Schedule.{linked}
@@ -31,9 +33,10 @@ abbrev records : List Record
 records = rec 1 1 0 ∷ rec 2 1 0 ∷ rec 1 2 0 ∷ rec 2 2 0 ∷ rec 4 3 1 ∷ rec 4 3 2 ∷ rec 1 3 0 ∷ rec 3 3 4 ∷ rec 3 3 5
     ∷ rec 2 3 0 ∷ rec 1 4 0 ∷ rec 2 4 0 ∷ rec 1 5 0 ∷ rec 2 5 0 ∷ []
 
-pub is-accepted : Accepts (traceOf records) (record { start = 0; records = 14; events = 5 })
+pub is-accepted : Accepts (traceOf records) (record { start = 0; records = 14; events = 5; sends = false })
 unfolding encode trailer traceOf recordAt recordsFrom decode past has begun ended begins place situation owner numbered wellFormed misplaced again early
-    judge rule demand orElse then closing walk distance trailerReply frameReply part recordsIn readReply
+    inTurn rules.behind judge rule demand orElse then closing walk distance trailerReply frameReply part recordsIn readReply
+    below.some sameLink hasSend ahead someTarget sets precedence.table blockedFor
 is-accepted = refl
 
 -- the test by which that rule finds a chain: its last member is a direct predecessor

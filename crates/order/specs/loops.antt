@@ -9,3 +9,4 @@ pub mod PassEnds
 pub mod Standing
 pub mod FillsTrace
 pub mod FromTable
+pub mod TablePass

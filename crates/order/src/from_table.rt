@@ -1,14 +1,20 @@
 // The row of an event action straight from the table of bits that tells what happens before it.
+use crate::rows::Passed;
 use crate::rows::begin_row;
 use bits::get;
 use clocks::clear_row;
+use records::access;
 ghost use mathlib.Core.Path.{_≡_};
 ghost use Rattle.order.specs.Links.{Links};
 ghost use Prim.Native.Nat.{_<_};
+ghost use Rattle.records.specs.Bytes.{decode};
 ghost use Rattle.bits.specs.Table.{bitOf};
+ghost use Rattle.links.specs.Fill.{fillAll};
 ghost use Rattle.clocks.specs.Rows.{rowsIf};
 ghost use Rattle.order.specs.loops.FromTable.{takeOwn, takeBefore, makeRow, RoomToTake, RoomToMake, Tells, ReadyToMake, MakesRows};
+ghost use Rattle.order.specs.Fill.{eventsIn, beginPosition};
 ghost use Rattle.order.specs.loops.Pass.{Are};
+ghost use Rattle.order.specs.loops.PassEnds.{Ready, Passes};
 
 // Row u at t's chain becomes t's own entry, where t is before u.
 fn take_own(table: &[u64], t: usize, u: usize, width: usize, clocks: &mut [u16], chosen: &[u16])
@@ -90,5 +96,46 @@ pub(crate) fn make_rows(
     MadeRows {
         rows: u,
         chains: chains,
+    }
+}
+
+// The position of the begin of row u, or the number of records.
+pub fn begin_of(recs: &[u8], u: usize) -> usize
+    ensures { λ r. ⌜ r ≡ beginPosition (decode (now (recs .entry))) u ⌝ }
+{
+    let n = access::count(recs);
+    let mut begun = 0usize;
+    let mut i = 0;
+    while i < n {
+        if access::kind_at(recs, i) == 1 {
+            if begun == u {
+                return i;
+            }
+            begun += 1;
+        }
+        i += 1;
+    }
+    n
+}
+
+// All rows from the table.
+pub(crate) fn pass_table(
+    recs: &[u8],
+    events: usize,
+    ranks: &[u16],
+    table: &[u64],
+    clocks: &mut [u16],
+    width: usize,
+    sizes: &mut [u16],
+    chosen: &mut [u16],
+) -> Passed
+    requires { ⌜ Ready (decode (now recs)) width (now ranks) (now clocks) (now sizes) (now chosen)
+        × (events ≡ eventsIn (decode (now recs))) × (now table ≡ fillAll (decode (now recs)) .words) ⌝ }
+    ensures { λ r. ⌜ Passes (decode (now (recs .entry))) width (now (clocks .entry)) (now (clocks .exit)) (now (chosen .exit)) (r .chains) (r .position) ⌝ }
+{
+    let made = make_rows(table, events, width, clocks, sizes, chosen);
+    Passed {
+        chains: made.chains,
+        position: begin_of(recs, made.rows),
     }
 }

@@ -1,10 +1,11 @@
 // Happens-before, chains and vector clocks.
-mod from_table;
+pub mod from_table;
 mod linking;
-pub mod links;
 mod merge;
+pub mod merging;
 mod rows;
 
+use links::no_bits;
 use records::Operation;
 use records::Trace;
 use records::access;
@@ -15,8 +16,12 @@ use trace::Reading;
 use trace::Refusal;
 ghost use mathlib.Core.Path.{_≡_};
 ghost use lib.ListN.{length};
+ghost use Rattle.slices.specs.Slices.{zeros};
 ghost use Rattle.trace.specs.Paper.{paper};
-ghost use Rattle.order.specs.Prepare.{asked, readWithin};
+ghost use Rattle.trace.specs.Reading.{readReply};
+ghost use Rattle.order.specs.Fill.{noChains};
+ghost use Rattle.order.specs.Prepare.{asked, within, readWithin};
+ghost use Rattle.order.specs.loops.TablePass.{TellsLinks};
 ghost use Rattle.order.specs.Paper.{refusalIn, Fills, Prepares};
 
 // What filling finds: the number of chains used, or why it is refused.
@@ -54,19 +59,18 @@ fn has_records(records: usize, lowest: u16, highest: u16) -> bool
     (highest as usize) <= records
 }
 
-// Reads the trace for a call that asks about those records and is lent `space` clocks and `room` bytes: 11 where a record is not in the trace, 21
-// where the rows do not fit the clocks, 22 where there are more event actions than bytes.
+// A reading for a call that asks about those records and is lent `space` clocks and `room` bytes: 11 where a record is not in the trace, 21 where the
+// rows do not fit the clocks, 22 where there are more event actions than bytes.
 fn read_within(
-    bytes: &[u8],
+    reading: Reading,
     lowest: u16,
     highest: u16,
     width: usize,
     space: usize,
     room: usize,
 ) -> Reading
-    ensures { λ r. ⌜ paper r ≡ readWithin (now (bytes .entry)) lowest highest width space room ⌝ }
+    ensures { λ r. ⌜ paper r ≡ within (paper reading) lowest highest width space room ⌝ }
 {
-    let reading = trace::read(bytes);
     let Reading::Accepted(t) = reading else {
         return reading;
     };
@@ -91,8 +95,78 @@ fn read_within(
     reading
 }
 
+// Fills the lent clocks for a call whose reading is at hand; where a record is a send, from the table.
+fn fill_within(
+    bytes: &[u8],
+    reading: Reading,
+    lowest: u16,
+    highest: u16,
+    width: usize,
+    room: usize,
+    clocks: &mut [u16],
+    chosen: &mut [u16],
+    ranks: &mut [u16; 1025],
+    table: &[u64],
+) -> Prepared
+    requires { ⌜ (paper reading ≡ readReply (now bytes)) × (now chosen ≡ noChains) × TellsLinks (now bytes) (now table) ⌝ }
+    ensures { λ r. ⌜ Prepares (now (bytes .entry)) (readWithin (now (bytes .entry)) lowest highest width (length (now (clocks .entry))) room)
+        width (now (clocks .entry)) (now (clocks .exit)) (now (chosen .exit)) (now (ranks .entry)) (now (ranks .exit)) (r .answer) (r .trace) ⌝ }
+{
+    let ready = read_within(reading, lowest, highest, width, clocks.len(), room);
+    let Reading::Accepted(t) = ready else {
+        return rows::unfilled(trace::refusal_of(ready));
+    };
+    let answer = rows::fill_rows(
+        access::records(bytes, t),
+        t.events,
+        width,
+        clocks,
+        chosen,
+        ranks,
+        t.sends,
+        table,
+    );
+    Prepared {
+        answer: answer,
+        trace: t,
+    }
+}
+
+// The same for a trace with sends, read here. Two functions call it, so that it is inlined in neither: calls for traces without sends keep their
+// stack.
+fn prepare_linked(
+    bytes: &[u8],
+    lowest: u16,
+    highest: u16,
+    width: usize,
+    room: usize,
+    clocks: &mut [u16],
+    chosen: &mut [u16],
+    ranks: &mut [u16; 1025],
+) -> Prepared
+    requires { ⌜ now chosen ≡ noChains ⌝ }
+    ensures { λ r. ⌜ Prepares (now (bytes .entry)) (readWithin (now (bytes .entry)) lowest highest width (length (now (clocks .entry))) room)
+        width (now (clocks .entry)) (now (clocks .exit)) (now (chosen .exit)) (now (ranks .entry)) (now (ranks .exit)) (r .answer) (r .trace) ⌝ }
+{
+    let mut read_ranks = numbers_1025();
+    let mut table = no_bits();
+    let reading = trace::read_linked(bytes, &mut read_ranks, &mut table);
+    fill_within(
+        bytes,
+        reading,
+        lowest,
+        highest,
+        width,
+        room,
+        clocks,
+        chosen,
+        ranks,
+        &table,
+    )
+}
+
 // Reads the trace once and fills the lent clocks, for a call that asks about the records from the lowest to the highest and has a work space of `room`
-// bytes: 11 comes before 21, and 22 between 21 and 23. Gives the chain of each row in `of`, and the ranks of all events in `all` where the call
+// bytes: 11 comes before 21, and 22 between 21 and 23. Gives the chain of each row in `chosen`, and the ranks of all events in `ranks` where the call
 // passes 22.
 pub fn prepare(
     bytes: &[u8],
@@ -108,40 +182,66 @@ pub fn prepare(
         width (now (clocks .entry)) (now (clocks .exit)) (now (chosen .exit)) (now (ranks .entry)) (now (ranks .exit)) (r .answer) (r .trace) ⌝ }
 {
     clear(chosen, 1024);
-    let reading = read_within(bytes, lowest.0, highest.0, width, clocks.len(), room);
-    let Reading::Accepted(t) = reading else {
-        return rows::unfilled(trace::refusal_of(reading));
-    };
-    let answer = rows::fill_rows(
-        access::records(bytes, t),
-        t.events,
+    let first = trace::read_plain(bytes);
+    if first.sends {
+        return prepare_linked(
+            bytes,
+            lowest.0,
+            highest.0,
+            width,
+            room,
+            clocks,
+            chosen,
+            ranks,
+        );
+    }
+    let reading = first.reading;
+    let none = no_words();
+    fill_within(
+        bytes,
+        reading,
+        lowest.0,
+        highest.0,
         width,
+        room,
         clocks,
         chosen,
         ranks,
-    );
-    Prepared {
-        answer: answer,
-        trace: t,
-    }
+        &none,
+    )
+}
+
+// No table.
+fn no_words() -> [u64; 1]
+    ensures { λ r. ⌜ r ≡ zeros 1 ⌝ }
+{
+    [0; 1]
 }
 
 // Fills the lent clocks with the clock rows of the trace. No trace has more event actions than 1,024.
 pub fn fill(bytes: &[u8], width: usize, clocks: &mut [u16]) -> Filling
     ensures { λ r. ⌜ Fills (now (bytes .entry)) width (now (clocks .entry)) (now (clocks .exit)) r ⌝ }
 {
-    let reading = read_within(bytes, 1, 0, width, clocks.len(), 1024);
-    let Reading::Accepted(t) = reading else {
-        return Filling::Refused(trace::refusal_of(reading));
-    };
     let mut chosen = numbers_1024();
     let mut ranks = numbers_1025();
-    rows::fill_rows(
-        access::records(bytes, t),
-        t.events,
+    let first = trace::read_plain(bytes);
+    if first.sends {
+        let prepared = prepare_linked(bytes, 1, 0, width, 1024, clocks, &mut chosen, &mut ranks);
+        return prepared.answer;
+    }
+    let reading = first.reading;
+    let none = no_words();
+    let prepared = fill_within(
+        bytes,
+        reading,
+        1,
+        0,
         width,
+        1024,
         clocks,
         &mut chosen,
         &mut ranks,
-    )
+        &none,
+    );
+    prepared.answer
 }

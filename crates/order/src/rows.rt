@@ -1,6 +1,7 @@
 // All rows in one pass over the records: at a link the earlier row is merged into the later one, and at a begin the chain is read off the merged row.
 use crate::Filling;
 use crate::Prepared;
+use crate::from_table::pass_table;
 use crate::linking::pass_links;
 use crate::merge;
 use clocks::add_one;
@@ -13,11 +14,13 @@ use slices::numbers::clear;
 use slices::zeros::numbers_1024;
 use trace::Refusal;
 ghost use mathlib.Core.Path.{_≡_};
-ghost use mathlib.Core.Bool.{true};
+ghost use mathlib.Core.Bool.{true, false};
 ghost use Prim.Native.Nat.{_*_, _-_, _≤_, _<_, min};
-ghost use lib.Dec.{eqb};
+ghost use lib.Dec.{T, eqb};
 ghost use lib.ListN.{length, getD};
 ghost use Rattle.records.specs.Bytes.{decode};
+ghost use Rattle.records.specs.Kinds.{hasSend};
+ghost use Rattle.links.specs.Fill.{fillAll};
 ghost use Rattle.trace.specs.Reading.{Acceptable};
 ghost use Rattle.clocks.specs.Rows.{spaceFor, rowsIf, clearRow};
 ghost use Rattle.order.specs.Fill.{eventsIn, noChains};
@@ -90,6 +93,7 @@ pub(crate) struct Passed {
     pub position: usize,
 }
 
+// Over the records, where none is a send.
 fn pass(
     recs: &[u8],
     ranks: &[u16],
@@ -98,7 +102,7 @@ fn pass(
     sizes: &mut [u16],
     chosen: &mut [u16],
 ) -> Passed
-    requires { ⌜ Ready (decode (now recs)) width (now ranks) (now clocks) (now sizes) (now chosen) ⌝ }
+    requires { ⌜ Ready (decode (now recs)) width (now ranks) (now clocks) (now sizes) (now chosen) × (hasSend (decode (now recs)) ≡ false) ⌝ }
     ensures { λ r. ⌜ Passes (decode (now (recs .entry))) width (now (clocks .entry)) (now (clocks .exit)) (now (chosen .exit)) (r .chains) (r .position) ⌝ }
 {
     let n = access::count(recs);
@@ -124,6 +128,29 @@ fn pass(
     }
 }
 
+// By links that deliver in order from the table, where a record is a send; else over the records.
+fn pass_rows(
+    recs: &[u8],
+    events: usize,
+    sends: bool,
+    ranks: &[u16],
+    table: &[u64],
+    clocks: &mut [u16],
+    width: usize,
+    sizes: &mut [u16],
+    chosen: &mut [u16],
+) -> Passed
+    requires { ⌜ Ready (decode (now recs)) width (now ranks) (now clocks) (now sizes) (now chosen)
+        × (events ≡ eventsIn (decode (now recs))) × (sends ≡ hasSend (decode (now recs)))
+        × (T sends → now table ≡ fillAll (decode (now recs)) .words) ⌝ }
+    ensures { λ r. ⌜ Passes (decode (now (recs .entry))) width (now (clocks .entry)) (now (clocks .exit)) (now (chosen .exit)) (r .chains) (r .position) ⌝ }
+{
+    if sends {
+        return pass_table(recs, events, ranks, table, clocks, width, sizes, chosen);
+    }
+    pass(recs, ranks, clocks, width, sizes, chosen)
+}
+
 // Refused before the clocks are filled.
 pub(crate) fn unfilled(why: Refusal) -> Prepared
     ensures { λ r. ⌜ (r .answer ≡ Filling.Refused why) × (r .trace ≡ noTrace) ⌝ }
@@ -134,11 +161,13 @@ pub(crate) fn unfilled(why: Refusal) -> Prepared
             start: 0,
             records: 0,
             events: 0,
+            sends: false,
         },
     }
 }
 
-// The rows of an accepted trace that has the space for them, the chain of each row, all 0 after 23, and the ranks of all events.
+// The rows of an accepted trace that has the space for them, the chain of each row, all 0 after 23, and the ranks of all events; where a record is a
+// send, from the table.
 pub(crate) fn fill_rows(
     recs: &[u8],
     events: usize,
@@ -146,16 +175,29 @@ pub(crate) fn fill_rows(
     clocks: &mut [u16],
     chosen: &mut [u16],
     ranks: &mut [u16; 1025],
+    sends: bool,
+    table: &[u64],
 ) -> Filling
     requires { ⌜ Acceptable (decode (now recs)) × (events ≡ eventsIn (decode (now recs)))
-        × (spaceFor width events (length (now clocks)) ≡ true) × (now chosen ≡ noChains) ⌝ }
+        × (spaceFor width events (length (now clocks)) ≡ true) × (now chosen ≡ noChains) × (sends ≡ hasSend (decode (now recs)))
+        × (T sends → now table ≡ fillAll (decode (now recs)) .words) ⌝ }
     ensures { λ r. ⌜ FillsTrace (decode (now (recs .entry))) events width (now (clocks .entry)) (now (clocks .exit)) r
         (now (chosen .exit)) (now (ranks .exit)) ⌝ }
 {
     let rows = events as u16;
     ranks::fill_ranks(recs, ranks);
     let mut sizes = numbers_1024();
-    let passed = pass(recs, ranks, clocks, width, &mut sizes, chosen);
+    let passed = pass_rows(
+        recs,
+        events,
+        sends,
+        ranks,
+        table,
+        clocks,
+        width,
+        &mut sizes,
+        chosen,
+    );
     let position = passed.position;
     if position < access::count(recs) {
         clear_rows(clocks, width, rows);

@@ -12,10 +12,11 @@ use Rattle.records.specs.declared.Trace.{Trace}
 use Rattle.records.specs.Bytes.{recordAt, recordsFrom, decode, part}
 use Rattle.records.specs.Records.{past, has, begun, ended}
 use Rattle.records.specs.Records as records
-use Rattle.records.specs.Kinds.{sameLink}
-use Rattle.precedence.specs.Table.{ahead}
+use Rattle.records.specs.Kinds.{sameLink, hasSend}
+use Rattle.precedence.specs.Table.{ahead, blockedFor, someTarget}
 use Rattle.trace.specs.Place.{place}
-use Rattle.trace.specs.Rule.{situation, owner, numbered, wellFormed, misplaced, again, early, judge, rule}
+use Rattle.trace.specs.Rule.{situation, owner, numbered, wellFormed, misplaced, again, early, judge, inTurn, rule}
+use Rattle.trace.specs.Rule as rules
 use Rattle.trace.specs.Reply.{Reply, refused, gives, demand, orElse, then, unless}
 use Rattle.trace.specs.Reading.{closing, walk, distance, trailerReply, frameReply, recordsIn, readReply, recordsRead}
 use Rattle.records.specs.Encoding.{encode, trailer}
@@ -142,7 +143,7 @@ cases =
     -- "P no bytes: refusal 1, place 0."
     case [] reads (read (refused 1 0))
     -- "P trailer 0, 0, 1, hex A7: accepted, nothing listed."
-    ∷ case bare reads (read (gives (record { start = 0; records = 0; events = 0 })))
+    ∷ case bare reads (read (gives (record { start = 0; records = 0; events = 0; sends = false })))
     ∷ case bare shortListOf (listed (gives (summary 0 0 0 0)) noList)
     ∷ case bare allRacesOf (listed (gives (summary 0 0 0 0)) noList)
     -- "P T, width 2: rows 1 0, 2 0, 1 1."
@@ -179,5 +180,5 @@ unfolding cases encode trailer recordAt recordsFrom decode past has begun ended 
     beginPosition rowPastWidth chainsUsed traceClocks spaceFor asking spaces spaced enoughChains onClocks clocksFilled clocksAfter fillReady fillReply some upto pairs
     before raceb coversFromb reach leads lastKept entries conflicts writeBetween neighbour allRaces shortList pairsOf shapeOf markOf
     lists.entry numbers listFilled listReady listReply listAfter isRecord areRecords answered pairFilled pairReady
-    pairReply keptEntries
+    pairReply keptEntries hasSend rules.behind inTurn blockedFor someTarget
 hold = refl

@@ -9,9 +9,10 @@ use lib.Dec.{T}
 use Rattle.records.specs.Bytes.{recordAt, recordsFrom, decode, part}
 use Rattle.records.specs.Records.{at, eventOf, past, has, begun, ended, begins}
 use Rattle.records.specs.Kinds.{sameLink}
-use Rattle.precedence.specs.Table.{ahead}
+use Rattle.precedence.specs.Table.{ahead, blockedFor, someTarget}
 use Rattle.trace.specs.Place.{place}
-use Rattle.trace.specs.Rule.{situation, owner, numbered, wellFormed, misplaced, again, early, judge, rule}
+use Rattle.trace.specs.Rule.{situation, owner, numbered, wellFormed, misplaced, again, early, judge, inTurn, rule}
+use Rattle.trace.specs.Rule as rules
 use Rattle.trace.specs.Reply.{Reply, refused, demand, orElse, then}
 use Rattle.trace.specs.Reading.{closing, walk, distance, trailerReply, frameReply, recordsIn, readReply}
 use Rattle.records.specs.Encoding.{encode, trailer, traceOf}
@@ -82,7 +83,7 @@ unfolding encode trailer traceOf recordAt recordsFrom decode past has begun ende
     rule demand orElse then closing walk distance trailerReply frameReply part recordsIn readReply firstFrom pick put lasts chain needs
     eventsIn beginPosition rowPastWidth spaceFor asking lent.spaces spaced enoughChains onClocks isRecord areRecords answered pairFilled pairReady pairReply keptEntries entries lastKept
     below.upto leads reach below.some raceb before conflicts happensBefore rank rankIn
-    behind targetsAt putsBehind ahead sameLink linkingAt linkingOf linked leq along within some
+    behind targetsAt putsBehind ahead sameLink linkingAt linkingOf linked leq along within some rules.behind inTurn blockedFor someTarget
 hold = refl
 
 -- "7 10 2 wr open", "6 11 1 wr covered"

@@ -12,7 +12,7 @@ use Rattle.trace.specs.Reading.{Acceptable}
 use Rattle.trace.specs.Place.{place}
 use Rattle.trace.specs.Rule.{situation, owner}
 use Rattle.trace.proofs.Blocks.{Passes, passes-at, contiguous, apart, end-last}
-use Rattle.trace.proofs.PlaceRule.{Outside, begins, joins, Inside, ends, forks, reads, writes, outside, inside}
+use Rattle.trace.proofs.PlaceRule.{Outside, begins, joins, Inside, ends, forks, reads, writes, sends, outside, inside}
 use Rattle.order.specs.Rank.{rank}
 use Rattle.order.proofs.TraceOrder.{record-begins, begins-rank, begins-at, rank-one}
 use Rattle.order.proofs.Counted.{counted-passes}
@@ -141,6 +141,7 @@ module _ {tr : List Record} (a : Acceptable tr) where
       on (forks k q) z = omega arith
       on (reads k q) z = omega arith
       on (writes k q) z = omega arith
+      on (sends k l q) z = omega arith
 
       go : (situation (past tr i) < 2) ⊎ (2 ≤ situation (past tr i)) → place (situation (past tr i)) (at tr i .kind) ≢ 0
       go (inl l) = off (outside (situation (past tr i)) (at tr i .kind) (p .known) (p .placed) l)

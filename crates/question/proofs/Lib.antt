@@ -2,6 +2,8 @@
 pub mod MarkLaws
 pub mod MarkListLaws
 pub mod Examples
+pub mod HoldLaws
 pub mod MemberLaws
+pub mod TableChainLaws
 pub mod AskLaws
 pub mod OrderTheorem

@@ -1,17 +1,13 @@
 -- The pass that finds the chains from the trace alone keeps the last member of each chain and the chains of the rows asked for, and stops at the begin for which the width has no chain left.
 -- Assumes nothing.
-use Prim.Native.Nat.{ℕ, zero, suc, _+_, _-_, _<_, _≤_, max}
+use Prim.Native.Nat.{ℕ, zero, suc, _+_, _<_, _≤_}
 use mathlib.Core.Path.{_≡_, refl, sym, ap, _∙_}
-use mathlib.Core.Bool.{Bool, false, cond}
+use mathlib.Core.Bool.{Bool, false}
 use mathlib.Core.List.{List, []}
 use mathlib.Core.Logic.{_≢_, _⊎_, inl, inr}
 use native.Mathlib.Omega.{arith}
 use native.Mathlib.Numerals.{add-one}
-use native.Mathlib.Decide.{ℕ-discrete}
-use borrow.Author.Tests.{le-leb, lt-leb, eq-eqb, ne-eqb}
-use lib.Dec.{eqb}
-use lib.ListN.{length, getD, set, replicate, length-set, length-append, length-replicate}
-use lib.Seq.{getD-set-same, getD-set-other}
+use lib.ListN.{length, getD}
 use Rattle.records.specs.declared.Record.{Record}
 use Rattle.records.specs.Records.{at}
 use Rattle.records.specs.Kinds.{hasSend}
@@ -19,10 +15,7 @@ use Rattle.trace.specs.Reading.{Acceptable}
 use Rattle.records.proofs.Positions.{lt-or-ge}
 use Rattle.order.specs.Links.{leq}
 use Rattle.order.specs.Chains.{lasts, chain, used, needs, first}
-use Rattle.order.specs.Clocks.{table, chainOf}
 use Rattle.order.specs.loops.Standing.{begins}
-use Rattle.slices.specs.Slices.{zeros}
-use Rattle.slices.proofs.Cleared.{zeros-at}
 use Rattle.question.specs.loops.Marking.{marked, marksIn, marksDownIn, markIn}
 use Rattle.ranks.specs.declared.Ordering.{Ordering}
 use Rattle.ranks.specs.declared.Ordering.the-variants.{Link, Begin, Nothing}
@@ -31,39 +24,22 @@ use Rattle.order.specs.HappensBefore.{traceLinks}
 use Rattle.ranks.specs.Ranks.{ranksOf}
 use Rattle.order.specs.Fill.{eventsIn, rowPastWidth, chainTable}
 use Rattle.order.specs.loops.PassEnds.{Short}
-use Rattle.question.specs.loops.ChainPass.{Members, markedChain, ownChain, enterChain, saidBy, turnMembers, RoomFor, AreMembers, ReadyChains, PassesChains}
+use Rattle.question.specs.loops.ChainPass.{Members, markedChain, enterChain, saidBy, turnMembers, RoomFor, AreMembers, ReadyChains, PassesChains}
 use Rattle.order.proofs.CountLaws.{firstFrom-local}
-use Rattle.order.proofs.ChainLaws.{chain-search, chain-le-used, used-zero, used-suc, last-own, last-other, needs-at, needs-none}
-use Rattle.order.proofs.ScheduleLaws.{begins-zero, begins-suc, begins-mono}
+use Rattle.order.proofs.ChainLaws.{chain-search, needs-at, needs-none}
+use Rattle.order.proofs.ScheduleLaws.{begins-zero, begins-suc}
 use Rattle.question.proofs.MarkListLaws.{marks-list}
-use Rattle.order.proofs.RowLaws.{table-length}
+use Rattle.question.proofs.HoldLaws.{Holding, enter-room, enter-full, are-members, holding-start, holding-next}
 use Rattle.order.proofs.RankLaws.{ops-are}
 use Rattle.order.proofs.RecordOrder.{records-make, ops-ordered}
 use Rattle.order.proofs.TraceOrder.{forward-links}
-use Rattle.order.proofs.PassLaws.{events-are, few, chains-of, chains-more, begun-below, begin-position}
+use Rattle.order.proofs.PassLaws.{events-are, few, begun-below, begin-position}
 
 -- the marks go by what the records say, and so by whatever says the same
 down-same : (f g : ℕ → Ordering) → ((i : ℕ) → f i ≡ g i) → (i : ℕ) (ms : List ℕ) → marksDownIn f i ms ≡ marksDownIn g i ms
 unfolding marksDownIn
 down-same f g h zero ms = refl
 down-same f g h (suc i) ms = rw (h i) (down-same f g h i (markIn (g i) ms))
-
-enter-room : (x y w u : ℕ) (s : Members) (c : ℕ) → c < w → enterChain x y w u s c ≡ record { lasts = set (s .lasts) c u; chains = max (s .chains) (suc c); first = ownChain x u c (s .first); second = ownChain y u c (s .second) }
-unfolding enterChain
-enter-room x y w u s c h = rw (lt-leb w c h)
-
-enter-full : (x y w u : ℕ) (s : Members) (c : ℕ) → w ≤ c → enterChain x y w u s c ≡ record { lasts = s .lasts; chains = suc w; first = s .first; second = s .second }
-unfolding enterChain
-enter-full x y w u s c h = rw (le-leb w c h)
-
--- the chain of the row asked for is its entry in the list of chains by row
-own-entry : (asked u c : ℕ) (chosen : List ℕ) → u < length chosen → ownChain asked u c (getD chosen asked 0) ≡ getD (set chosen u c) asked 0
-unfolding ownChain
-own-entry asked u c chosen h = go (ℕ-discrete u asked)
-  where
-    go : Dec (u ≡ asked) → cond (eqb u asked) c (getD chosen asked 0) ≡ getD (set chosen u c) asked 0
-    go (yes e) = rw (← e, eq-eqb u u refl) (sym (getD-set-same chosen u c 0 h))
-    go (no n) = rw (ne-eqb u asked n) (sym (getD-set-other chosen u asked c 0 (λ e. n (sym e))))
 
 module _ {tr : List Record} (a : Acceptable tr) (x y w : ℕ) (narrow : w ≤ 1024) where
   abbrev op : ℕ → Ordering
@@ -76,27 +52,11 @@ module _ {tr : List Record} (a : Acceptable tr) (x y w : ℕ) (narrow : w ≤ 10
   le = leq (traceLinks tr)
 
   -- after the first i records
-  pub record Keeping (i : ℕ) (s : Members) : Type 0 where
-    pub lasts-are : (c : ℕ) → c < used le (begins op i) → getD (s .lasts) c 0 ≡ getD (lasts le (begins op i)) c 0
-    pub lasts-size : length (s .lasts) ≡ 1024
-    pub chains-are : s .chains ≡ used le (begins op i)
-    pub chains-fit : s .chains ≤ w
-    pub first-is : s .first ≡ getD (chains-of a w [] (begins op i)) x 0
-    pub second-is : s .second ≡ getD (chains-of a w [] (begins op i)) y 0
+  abbrev pub Keeping : ℕ → Members → Type 0
+  Keeping i s = Holding (traceLinks tr) x y w (begins op i) s
 
   pub keeping-start : (ls : List ℕ) → length ls ≡ 1024 → Keeping 0 (record { lasts = ls; chains = 0; first = 0; second = 0 })
-  unfolding zeros table
-  keeping-start ls h = record {
-    lasts-are = λ c l. absurd (omega (arith, l, none));
-    lasts-size = h;
-    chains-are = sym none;
-    chains-fit = omega arith;
-    first-is = rw (begins-zero op) (sym (zeros-at 1024 x));
-    second-is = rw (begins-zero op) (sym (zeros-at 1024 y));
-  }
-    where
-      none : used le (begins op 0) ≡ 0
-      none = ap (used le) (begins-zero op) ∙ used-zero le
+  keeping-start ls h = rw (begins-zero op) (holding-start (traceLinks tr) x y w ls h)
 
   module _ (i : ℕ) (s : Members) (h : i < n) (k : Keeping i s) where
     -- the chain found is the chain
@@ -125,37 +85,12 @@ module _ {tr : List Record} (a : Acceptable tr) (x y w : ℕ) (narrow : w ≤ 10
         go Nothing e = tt
 
     -- row u enters its chain
-    entered : (u : ℕ) → op i ≡ Begin u → chain le u < w → Keeping (suc i) (record { lasts = set (s .lasts) (chain le u) u; chains = max (s .chains) (suc (chain le u)); first = ownChain x u (chain le u) (s .first); second = ownChain y u (chain le u) (s .second) })
+    entered : (u : ℕ) → op i ≡ Begin u → chain le u < w → Keeping (suc i) (enterChain x y w u s (chain le u))
     entered u e t =
         let b = begun-below a w [] i u h e in
-        let next = begins-suc op i (Begin u) e in
-        record {
-          lasts-are = λ c l. last c l (ℕ-discrete c (chain le u));
-          lasts-size = length-set (s .lasts) (chain le u) u ∙ k .lasts-size;
-          chains-are = rw (next, k .chains-are) (ap (λ v. max (used le (begins op i)) (suc (chain le v))) (b .0) ∙ sym (used-suc le (begins op i)));
-          chains-fit = omega (arith, k .chains-fit);
-          first-is = rw (next, k .first-is, b .0) (own x);
-          second-is = rw (next, k .second-is, b .0) (own y);
-        }
-      where
-        size : length (chains-of a w [] (begins op i)) ≡ 1024
-        size = omega (arith, length-append (table (begins op i) (chainOf (traceLinks tr))) (replicate (1024 - begins op i) 0), table-length (begins op i) (chainOf (traceLinks tr)), length-replicate {A = ℕ} (1024 - begins op i) 0, few a w [], begins-mono op i n (omega arith))
-
-        own : (z : ℕ) → ownChain z (begins op i) (chain le (begins op i)) (getD (chains-of a w [] (begins op i)) z 0) ≡ getD (chains-of a w [] (suc (begins op i))) z 0
-        own z =
-            let b = begun-below a w [] i u h e in
-            own-entry z (begins op i) (chain le (begins op i)) (chains-of a w [] (begins op i)) (omega (arith, size, few a w [], b .0, b .1))
-            ∙ ap (λ chosen. getD chosen z 0) (chains-more a w [] (begins op i) (omega (arith, few a w [], b .0, b .1)))
-
-        after : begins op (suc i) ≡ suc u
-        after = begins-suc op i (Begin u) e ∙ ap suc (sym (begun-below a w [] i u h e .0))
-
-        last : (c : ℕ) → c < used le (begins op (suc i)) → Dec (c ≡ chain le u) → getD (set (s .lasts) (chain le u) u) c 0 ≡ getD (lasts le (begins op (suc i))) c 0
-        last c l (yes d) = rw (after, d, getD-set-same (s .lasts) (chain le u) u 0 (omega (arith, k .lasts-size))) (sym (last-own le u))
-        last c l (no d) =
-            let b = begun-below a w [] i u h e .0 in
-            rw (after, getD-set-other (s .lasts) (chain le u) c u 0 d)
-            (k .lasts-are c (omega (arith, l, ap (used le) after, used-suc le u, ap (used le) b, chain-le-used le u, d)) ∙ (ap (λ v. getD (lasts le v) c 0) (sym b) ∙ sym (last-other le u c d)))
+        let f = few a w [] in
+        let next : begins op (suc i) ≡ suc u = begins-suc op i (Begin u) e ∙ ap suc (sym (b .0)) in
+        rw next (holding-next (traceLinks tr) x y w narrow u (omega (arith, b .1)) s (rw (b .0) k) t)
 
     module _ (ranks : List ℕ) (r : ranks ≡ ranksOf tr) (ns : hasSend tr ≡ false) where
       said : (j : ℕ) → saidBy ranks tr j ≡ op j
@@ -172,7 +107,7 @@ module _ {tr : List Record} (a : Acceptable tr) (x y w : ℕ) (narrow : w ≤ 10
       keeping-next l = rw (said i) (go (op i) refl (rw (said i) at l))
         where
           begun : (u : ℕ) → op i ≡ Begin u → (chain le u < w) ⊎ (w ≤ chain le u) → enterChain x y w u s (chain le u) .chains ≤ w → Keeping (suc i) (enterChain x y w u s (chain le u))
-          begun u e (inl t) l = rw (enter-room x y w u s (chain le u) t) (entered u e t)
+          begun u e (inl t) l = entered u e t
           begun u e (inr t) l = absurd (omega (arith, l, ap (λ m. m .chains) (enter-full x y w u s (chain le u) t)))
 
           stays : (o : Ordering) → op i ≡ o → begins op (suc i) ≡ begins op i → Keeping (suc i) s
@@ -214,9 +149,6 @@ module _ {tr : List Record} (a : Acceptable tr) (x y w : ℕ) (narrow : w ≤ 10
       (needs-none le w (eventsIn tr) .1 (omega (arith, k .chains-are, k .chains-fit, ap (used le) v)), rw (← v) (k .first-is), rw (← v) (k .second-is))
 
 -- The loop of the pass, turn by turn.
-are-members : (s : Members) (ls : List ℕ) (chains first second : ℕ) → AreMembers s ls chains first second → record { lasts = ls; chains = chains; first = first; second = second } ≡ s
-are-members s ls chains first second e = rw (e .lasts-are, e .chains-are, e .first-is, e .second-is)
-
 module _ (tr : List Record) (x y w : ℕ) (ranks : List ℕ) where
   pub record Going (ls : List ℕ) (chains first second i : ℕ) : Type 0 where
     pub within : i ≤ length tr
@@ -226,11 +158,11 @@ module _ (tr : List Record) (x y w : ℕ) (ranks : List ℕ) where
     pub ranks-are : ranks ≡ ranksOf tr
     pub keeping : Keeping acceptable x y w narrow i (record { lasts = ls; chains = chains; first = first; second = second })
 
-  pub going-start : (ls : List ℕ) → length ls ≡ 1024 → ReadyChains tr w ranks → Going ls 0 0 0 0
-  going-start ls h r = record {
+  pub going-start : (ls : List ℕ) → length ls ≡ 1024 → ReadyChains tr w ranks → hasSend tr ≡ false → Going ls 0 0 0 0
+  going-start ls h r ns = record {
     within = omega arith;
     acceptable = r .acceptable;
-    no-sends = r .no-sends;
+    no-sends = ns;
     narrow = r .narrow;
     ranks-are = r .ranks-are;
     keeping = keeping-start (r .acceptable) x y w (r .narrow) ls h;

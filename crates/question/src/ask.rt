@@ -1,6 +1,8 @@
 // The order question on an accepted trace.
 use crate::Answer;
+use crate::chains::Passed;
 use crate::chains::chain_pass;
+use crate::from_table::table_pass;
 use clocks::has_space;
 use clocks::relate;
 use records::EventId;
@@ -9,9 +11,11 @@ use records::access;
 use trace::Refusal;
 ghost use mathlib.Core.Path.{_≡_};
 ghost use Rattle.records.specs.Bytes.{decode};
+ghost use Rattle.records.specs.Kinds.{hasSend};
 ghost use Rattle.trace.specs.Reading.{Acceptable};
 ghost use Rattle.order.specs.Fill.{eventsIn};
 ghost use Rattle.trace.specs.Reply.{Reply};
+ghost use Rattle.question.specs.loops.ChainPass.{ReadyChains, PassesChains};
 ghost use Rattle.question.specs.Question.{orderPaper, orderTrace};
 
 fn refused(number: u16, place: Operation) -> Answer
@@ -23,16 +27,45 @@ fn refused(number: u16, place: Operation) -> Answer
     })
 }
 
-// Events t and u of an accepted trace.
+// The chains of rows x and y: by links that deliver in order from the table, where a record is a send; else over the records. The pass from the table is
+// called at two places, for the earlier row first, so that it is compiled with a frame of its own: that holds the table.
+fn pass_chains(
+    recs: &[u8],
+    events: usize,
+    sends: bool,
+    ranks: &[u16],
+    x: usize,
+    y: usize,
+    width: usize,
+) -> Passed
+    requires { ⌜ ReadyChains (decode (now recs)) width (now ranks) × (events ≡ eventsIn (decode (now recs))) × (sends ≡ hasSend (decode (now recs))) ⌝ }
+    ensures { λ r. ⌜ PassesChains (decode (now (recs .entry))) x y width (r .position) (r .first) (r .second) ⌝ }
+{
+    if sends {
+        if x <= y {
+            return table_pass(recs, events, ranks, x, y, width);
+        }
+        let back = table_pass(recs, events, ranks, y, x, width);
+        return Passed {
+            position: back.position,
+            first: back.second,
+            second: back.first,
+        };
+    }
+    chain_pass(recs, ranks, x, y, width)
+}
+
+// Events t and u of an accepted trace, where a record is a send or none is.
 pub(crate) fn ask(
     recs: &[u8],
     events: usize,
+    sends: bool,
     width: usize,
     clocks: &[u16],
     t: EventId,
     u: EventId,
 ) -> Answer
-    requires { ⌜ Acceptable (decode (now recs)) × (events ≡ eventsIn (decode (now recs))) ⌝ }
+    requires { ⌜ Acceptable (decode (now recs)) × (events ≡ eventsIn (decode (now recs))) × (sends ≡ hasSend (decode (now recs))) ⌝ }
     ensures { λ r. ⌜ orderPaper r ≡ orderTrace (decode (now (recs .entry))) events width (now (clocks .entry)) (t .0) (u .0) ⌝ }
 {
     let all = ranks::ranks(recs);
@@ -49,7 +82,7 @@ pub(crate) fn ask(
     }
     let x = first - 1;
     let y = second - 1;
-    let passed = chain_pass(recs, &all, x as usize, y as usize, width);
+    let passed = pass_chains(recs, events, sends, &all, x as usize, y as usize, width);
     if passed.position < access::count(recs) {
         return refused(trace::CHAINS, Operation((passed.position + 1) as u16));
     }

@@ -8,9 +8,11 @@ use slices::bytes::put;
 use slices::zeros::bytes_1024;
 use slices::zeros::numbers_1024;
 ghost use mathlib.Core.Path.{_≡_};
+ghost use mathlib.Core.Bool.{false};
 ghost use Prim.Native.Nat.{_≤_, _<_};
 ghost use lib.ListN.{length};
 ghost use Rattle.records.specs.Bytes.{decode};
+ghost use Rattle.records.specs.Kinds.{hasSend};
 ghost use Rattle.question.specs.loops.Marking.{marked, markIn, marksIn};
 ghost use Rattle.question.specs.loops.ChainPass.{markedChain, ownChain, enterChain, saidBy, turnMembers, RoomFor, AreMembers, ReadyChains, PassesChains};
 
@@ -65,10 +67,10 @@ fn marked_chain(marks: &[u8], lasts: &[u16], chains: usize) -> usize
 }
 
 // The chains taken, more than the width where it has none left, and the chains of the two rows asked for: 0 before a row enters one.
-struct Taken {
-    chains: usize,
-    first: u16,
-    second: u16,
+pub(crate) struct Taken {
+    pub chains: usize,
+    pub first: u16,
+    pub second: u16,
 }
 
 // The chain of a row asked for, where row u enters chain c.
@@ -83,7 +85,7 @@ fn own_chain(asked: usize, u: usize, c: usize, own: u16) -> u16
 }
 
 // Row u enters chain c, where rows x and y are asked for.
-fn enter_chain(
+pub(crate) fn enter_chain(
     lasts: &mut [u16],
     taken: Taken,
     x: usize,
@@ -160,9 +162,9 @@ pub(crate) struct Passed {
     pub second: u16,
 }
 
-// One pass over the records, where rows x and y are asked for.
+// One pass over the records, where rows x and y are asked for and no record is a send.
 pub(crate) fn chain_pass(recs: &[u8], ranks: &[u16], x: usize, y: usize, width: usize) -> Passed
-    requires { ⌜ ReadyChains (decode (now recs)) width (now ranks) ⌝ }
+    requires { ⌜ ReadyChains (decode (now recs)) width (now ranks) × (hasSend (decode (now recs)) ≡ false) ⌝ }
     ensures { λ r. ⌜ PassesChains (decode (now (recs .entry))) x y width (r .position) (r .first) (r .second) ⌝ }
 {
     let n = access::count(recs);

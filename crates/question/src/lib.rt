@@ -1,6 +1,7 @@
 // The order question.
 mod ask;
 mod chains;
+mod from_table;
 
 use clocks::Relation;
 use records::EventId;
@@ -27,6 +28,7 @@ pub fn ask_order(bytes: &[u8], width: usize, clocks: &[u16], t: EventId, u: Even
     ask::ask(
         access::records(bytes, read),
         read.events,
+        read.sends,
         width,
         clocks,
         t,

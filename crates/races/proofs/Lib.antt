@@ -20,6 +20,9 @@ pub mod SecondLaws
 pub mod RaiseLaws
 pub mod ClimbLaws
 pub mod TraceWalk
+pub mod LeadRows
+pub mod LeadLaws
+pub mod LeadTrace
 pub mod PlaceLaws
 pub mod GoLaws
 pub mod MarkAllLaws

@@ -4,8 +4,9 @@ use Prim.Native.Nat.{ℕ, suc, _+_, _*_, _-_, _≤_, _<_}
 use mathlib.Core.Path.{_≡_, refl, sym, ap, ap₂, _∙_, subst}
 use mathlib.Core.Logic.{_≢_}
 use mathlib.Core.Bool.{Bool, cond}
-use mathlib.Core.List.{List, [], _++_}
+use mathlib.Core.List.{List, _++_}
 use native.Mathlib.Omega.{arith}
+use native.Mathlib.Nat.{mul-le-mul-right, suc-mul}
 use lib.Dec.{leb}
 use lib.ListN.{length, getD, drop, length-append}
 use lib.Seq.{drop-at}
@@ -27,7 +28,8 @@ use Rattle.races.specs.loops.FilledClocks.{FilledClocks, RowsIn}
 use Rattle.races.specs.Traces.{settingOf}
 use Rattle.races.specs.Lists.{markOf}
 use Rattle.races.specs.loops.Marking.{first, second, Remarked}
-use Rattle.races.specs.loops.Raising.{Unmarked, rowIn, markIn, Markable, MarksSecond, raiseDown, Place, MayGo, Went}
+use Rattle.races.specs.loops.Raising.{Unmarked, rowIn, markIn, Markable, MarksSecond, raiseDown, Place, onward, MayGo, Went}
+use Rattle.races.specs.loops.Leading.{MayLead}
 use Rattle.races.proofs.CoverNumbers.{events, number, number-name}
 use Rattle.races.proofs.FilledLaws.{chosen-length}
 use Rattle.races.proofs.MarkingLaws.{remarked-none, remarked-on}
@@ -100,21 +102,22 @@ module _ {tr : List Record} {ranks chosen : List ℕ} {w : ℕ} {clocks₀ list�
   chain-fits : (t : ℕ) → t < events tr → (getD chosen t 0 ≡ chainOf (traceLinks tr) t) × (chainOf (traceLinks tr) t < w)
   chain-fits t h = chain-place (f .acceptable) chosen w (f .chosen-are) (f .enough) t (omega (arith, events-in tr))
 
+  -- the rows stand in the clocks
+  left-room : {clocks : List ℕ} (l : Left clocks) → begins (orderingAt tr) (length tr) * w ≤ length clocks
+  left-room l = omega (arith, ap length (l .clocks-are), length-append (flat w (begins (orderingAt tr) (length tr)) (l .rows)) (f .rest), flat-length w (begins (orderingAt tr) (length tr)) (l .rows))
+
   -- two rows in the clocks, and their comparison
   rows-in : {clocks : List ℕ} (l : Left clocks) (t u : ℕ) → t < events tr → u < events tr → RowsIn chosen w clocks t u
   rows-in l t u h k =
       let (e, c) = chain-fits t h in
       let m = begins (orderingAt tr) (length tr) in
       let q = events-are (f .acceptable) in
-      let n = omega-length l in
+      let n = left-room l in
       record {
         known = omega (arith, chosen-length f, events-few (f .acceptable), events-in tr);
         own = rw e (omega (arith, n, place w m t (chainOf (traceLinks tr) t) (omega arith) c));
         other = rw e (omega (arith, n, place w m u (chainOf (traceLinks tr) t) (omega arith) c));
       }
-    where
-      omega-length : {clocks : List ℕ} (l : Left clocks) → begins (orderingAt tr) (length tr) * w ≤ length clocks
-      omega-length l = omega (arith, ap length (l .clocks-are), length-append (flat w (begins (orderingAt tr) (length tr)) (l .rows)) (f .rest), flat-length w (begins (orderingAt tr) (length tr)) (l .rows))
 
   compared : {clocks : List ℕ} (l : Left clocks) (t u : ℕ) → t < events tr → u < events tr → compareIn clocks w (getD chosen t 0) t u ≡ leb (l .rows t (chainOf (traceLinks tr) t)) (l .rows u (chainOf (traceLinks tr) t))
   unfolding compareIn
@@ -154,16 +157,24 @@ module _ {tr : List Record} {ranks chosen : List ℕ} {w : ℕ} {clocks₀ list�
       reached : row ≤ u
       reached = omega (arith, row-is, p .behind (secondAt tr (un .short) k) (p .split .from k (omega arith) (in-list k h)) (race-at k h .inside))
 
-      pub may-go : MayGo tr chosen row position u
-      may-go =
+      pub may-lead : MayLead chosen w clocks u
+      may-lead =
           let o = chosen-length f in
           let q = events-few (f .acceptable) in
           let z = events-in tr in
           let i = known in
-          let s = p .raises .standing .inside in
-          record { ahead = reached; known = omega arith; low = omega arith; inside = omega arith }
+          record {
+            known = omega arith;
+            low = omega arith;
+            narrow = f .narrow;
+            room = omega (arith, left-room (g .left), mul-le-mul-right w i, suc-mul u w, ap (λ (m : ℕ). m * w) (events-are (f .acceptable)));
+            chains-fit = λ t l. let (e, c) = chain-fits t (omega arith) in rw e c;
+          }
 
-      pub arrived : {row′ position′ chains′ : ℕ} {clocks′ : List ℕ} → Went tr ranks chosen w row position chains clocks u row′ position′ chains′ clocks′ → (row′ ≡ u) × Arrived k u position′ chains′ clocks′
+      pub may-go : MayGo tr chosen w clocks row position u
+      may-go = let s = p .raises .standing .inside in record { ahead = reached; rows = may-lead; inside = omega arith }
+
+      pub arrived : {row′ position′ chains′ : ℕ} {clocks′ : List ℕ} → Went (onward tr ranks chosen w) row position chains clocks u row′ position′ chains′ clocks′ → (row′ ≡ u) × Arrived k u position′ chains′ clocks′
       arrived {row′} {position′} {chains′} {clocks′} v =
           let s : Place = record { row = row; position = position; chains = chains; clocks = clocks } in
           let r = p .raises in
@@ -226,7 +237,7 @@ module _ {tr : List Record} {ranks chosen : List ℕ} {w : ℕ} {clocks₀ list�
 
           module _ (l : e < count) where
             pub raise-room : (k ≤ e) × (5 * e ≤ length list′) × (u < 65536) × ((i : ℕ) → k ≤ i → i < e → 0 < first list′ i)
-            raise-room = (omega (arith, ms .ahead), omega (arith, list-room un on), may-go .low, λ i x y. omega (arith, first-is un on i (omega arith)))
+            raise-room = (omega (arith, ms .ahead), omega (arith, list-room un on), may-lead .low, λ i x y. omega (arith, first-is un on i (omega arith)))
 
             same : (i : ℕ) → k ≤ i → i < e → secondAt tr (un .short) i ≡ secondAt tr (un .short) k
             same i x y = omega (arith, ms .same i x y, second-at, second-is un (g .remarked) i (omega arith))
@@ -267,11 +278,12 @@ module _ {tr : List Record} {ranks chosen : List ℕ} {w : ℕ} {clocks₀ list�
                     rows = c .raised;
                     standing = record {
                       inside = old .inside;
-                      begins-it = old .begins-it;
                       known = old .known;
                       done = λ v d n. c .others v d (omega arith) ∙ old .done v d n;
                       row = raised-next (f .acceptable) (edge tr (un .short)) (list-edges tr (un .short) (f .acceptable)) u known (old .row) (secondAt tr (un .short) k) inside (s .row-is) (s .split .from k (omega arith) (in-list k h)) (λ x d t n m. split-next tr (un .short) (s .split) (in-list k h) x d t m) (c .vs) (taken-firsts tr (un .short) group (f .acceptable) u known inside (s .row-is) (c .taken)) (c .raised u) (c .own);
-                      coming = λ v d n. c .others v d (omega arith) ∙ old .coming v d n;
+                      begins-it = old .begins-it;
+                      coming = λ m v d n. c .others v d (omega arith) ∙ old .coming m v d n;
+                      filled = λ m v d n. c .others v d (omega arith) ∙ old .filled m v d n;
                       seen = λ d n. omega (arith, s .row-is, number-mono (f .acceptable) d (secondAt tr (un .short) k) (omega arith) inside);
                     };
                     clocks-are = clocks-now;

@@ -3,6 +3,7 @@ pub mod FilledClocks
 pub mod Candidates
 pub mod ListPass
 pub mod Marking
+pub mod Leading
 pub mod Raising
 pub mod Refilling
 pub mod ListsFilled

@@ -25,6 +25,8 @@ ghost use lib.Dec.{T, eqb};
 ghost use lib.ListN.{length};
 ghost use lib.Seq.{sets};
 ghost use Rattle.records.specs.Bytes.{decode};
+ghost use Rattle.records.specs.Records.{at};
+ghost use Rattle.races.specs.loops.Refilling.{Source};
 ghost use Rattle.order.specs.Fill.{eventsIn, chainsUsed};
 ghost use Rattle.trace.specs.Reply.{Reply};
 ghost use Rattle.races.specs.Lists.{entryNumbers, shapeOf};
@@ -240,6 +242,7 @@ fn count_all(
 
 // Writes all entries and marks them; their number. The clocks are as before.
 fn write_all(
+    bytes: &[u8],
     recs: &[u8],
     ranks: &[u16],
     chosen: &[u16],
@@ -248,13 +251,26 @@ fn write_all(
     clocks: &mut [u16],
     list: &mut [u16],
     short: bool,
+    sends: bool,
 ) -> usize
-    requires { ⌜ FilledClocks (decode (now recs)) (now ranks) (now chosen) width (now clocks) × (events ≡ eventsIn (decode (now recs))) ⌝ }
+    requires { ⌜ FilledClocks (decode (now recs)) (now ranks) (now chosen) width (now clocks) × (events ≡ eventsIn (decode (now recs))) ×
+        Source (now bytes) (decode (now recs)) width sends ⌝ }
     requires { ⌜ entryNumbers * length (pairsBelow (decode (now recs)) short (length (decode (now recs)))) ≤ length (now list) ⌝ }
     ensures { λ r. ⌜ ListsAll (decode (now (recs .entry))) short (now (list .entry)) (now (list .exit)) r × (now (clocks .exit) ≡ now (clocks .entry)) ⌝ }
 {
     let found = list_all(recs, ranks, chosen, width, clocks, list, short, true);
-    raising::mark_list(recs, ranks, chosen, events, width, clocks, list, found);
+    raising::mark_list(
+        bytes,
+        recs,
+        ranks,
+        chosen,
+        events,
+        width,
+        clocks,
+        list,
+        found,
+        sends,
+    );
     found
 }
 
@@ -280,6 +296,7 @@ fn listed(events: usize, records: usize, chains: usize, count: usize) -> Listing
 
 // The list of a trace whose clocks are filled.
 fn list_filled(
+    bytes: &[u8],
     recs: &[u8],
     events: usize,
     width: usize,
@@ -289,9 +306,10 @@ fn list_filled(
     chains: usize,
     list: &mut [u16],
     short: bool,
+    sends: bool,
 ) -> Listing
     requires { ⌜ FilledClocks (decode (now recs)) (now ranks) (now chosen) width (now clocks) × (events ≡ eventsIn (decode (now recs))) ×
-        (chains ≡ chainsUsed (decode (now recs))) ⌝ }
+        (chains ≡ chainsUsed (decode (now recs))) × Source (now bytes) (decode (now recs)) width sends ⌝ }
     ensures { λ r. ⌜ ListsFilled short (decode (now (recs .entry))) events (now (clocks .entry)) (now (clocks .exit)) (now (list .entry))
         (now (list .exit)) r ⌝ }
 {
@@ -303,7 +321,18 @@ fn list_filled(
     if counted == 0 {
         return listed(events, records, chains, 0);
     }
-    let found = write_all(recs, ranks, chosen, events, width, clocks, list, short);
+    let found = write_all(
+        bytes,
+        recs,
+        ranks,
+        chosen,
+        events,
+        width,
+        clocks,
+        list,
+        short,
+        sends,
+    );
     listed(events, records, chains, found)
 }
 
@@ -340,6 +369,7 @@ pub(crate) fn list_races(
     };
     let recs = access::records(bytes, t);
     list_filled(
+        bytes,
         recs,
         events,
         width,
@@ -349,5 +379,6 @@ pub(crate) fn list_races(
         chains,
         list,
         short,
+        t.sends,
     )
 }

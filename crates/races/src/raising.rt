@@ -1,20 +1,26 @@
 // The marks of a list's entries by the rows of the combined order, happens-before and the races of the list: made in place in the lent clocks, event
 // action by event action.
 use crate::ENTRY_NUMBERS;
+use crate::leading::lead_in;
 use crate::refilling::refill;
 use clocks::merge_row;
-use order::links::merge_links;
+use order::fill;
+use order::merging::merge_links;
 use ranks::row_at;
 ghost use mathlib.Core.Path.{_≡_};
 ghost use Prim.Native.Nat.{ℕ, _+_, _*_, _-_, _≤_, _<_, max};
 ghost use lib.ListN.{length, getD};
 ghost use Rattle.records.specs.Bytes.{decode};
+ghost use Rattle.records.specs.Kinds.{hasSend};
 ghost use Rattle.clocks.specs.Rows.{compareIn};
 ghost use Rattle.order.specs.Fill.{eventsIn};
 ghost use Rattle.races.specs.loops.FilledClocks.{FilledClocks, RowsIn};
 ghost use Rattle.races.specs.Lists.{entryNumbers};
+ghost use Rattle.races.specs.loops.Refilling.{Source};
 ghost use Rattle.races.specs.loops.Marking.{first};
-ghost use Rattle.races.specs.loops.Raising.{Unmarked, MarksList, markIn, Markable, MarksSecond, raiseBy, raiseDown, MayGo, Went, MarksAll};
+ghost use Rattle.races.specs.loops.Raising.{Unmarked, MarksList, markIn, Markable, MarksSecond, raiseBy, raiseDown, MarksAll};
+ghost use Rattle.races.specs.loops.Raising.{byRecords, byClocks, onward, MayGo, Went};
+ghost use Rattle.races.specs.loops.Leading.{MayLead};
 
 // Whether row t's own entry, at its chain, is at most row u's, as the rows stand, raised: whether t leads to u.
 fn comes_before(chosen: &[u16], width: usize, clocks: &[u16], t: usize, u: usize) -> bool
@@ -124,15 +130,15 @@ fn more_chains(chosen: &[u16], chains: usize, u: usize) -> usize
     chains
 }
 
-// Where raising stands: at the begin of that row, and the chains taken by it and those before.
+// Where raising stands: at that row, and the chains taken by it and those before. Without a send, position is that of the row's begin.
 struct Stand {
     row: usize,
     position: usize,
     chains: usize,
 }
 
-// Goes on to row u: rows are merged along the links.
-fn go_on(
+// Goes on to row u along the records: rows are merged along the links.
+fn walk_on(
     recs: &[u8],
     ranks: &[u16],
     chosen: &[u16],
@@ -141,8 +147,8 @@ fn go_on(
     s: Stand,
     u: usize,
 ) -> Stand
-    requires { ⌜ MayGo (decode (now recs)) (now chosen) (s .row) (s .position) u ⌝ }
-    ensures { λ r. ⌜ Went (decode (now (recs .entry))) (now (ranks .entry)) (now (chosen .entry)) width (s .row) (s .position) (s .chains)
+    requires { ⌜ MayGo (decode (now recs)) (now chosen) width (now clocks) (s .row) (s .position) u ⌝ }
+    ensures { λ r. ⌜ Went (byRecords (now (chosen .entry)) width (decode (now (recs .entry))) (now (ranks .entry))) (s .row) (s .position) (s .chains)
         (now (clocks .entry)) u (r .row) (r .position) (r .chains) (now (clocks .exit)) ⌝ }
 {
     let mut t = s.row;
@@ -160,6 +166,47 @@ fn go_on(
     }
 }
 
+// Goes on to row u by the clocks alone.
+fn lead_on(chosen: &[u16], width: usize, clocks: &mut [u16], s: Stand, u: usize) -> Stand
+    requires { ⌜ (s .row ≤ u) × MayLead (now chosen) width (now clocks) u ⌝ }
+    ensures { λ r. ⌜ Went (byClocks (now (chosen .entry)) width) (s .row) (s .position) (s .chains)
+        (now (clocks .entry)) u (r .row) (r .position) (r .chains) (now (clocks .exit)) ⌝ }
+{
+    let mut t = s.row;
+    let mut chains = s.chains;
+    while t < u {
+        t += 1;
+        lead_in(chosen, width, chains, clocks, t);
+        chains = more_chains(chosen, chains, t);
+    }
+    Stand {
+        row: t,
+        position: s.position,
+        chains: chains,
+    }
+}
+
+// Goes on to row u.
+fn go_on(
+    recs: &[u8],
+    ranks: &[u16],
+    chosen: &[u16],
+    width: usize,
+    clocks: &mut [u16],
+    s: Stand,
+    u: usize,
+    sends: bool,
+) -> Stand
+    requires { ⌜ MayGo (decode (now recs)) (now chosen) width (now clocks) (s .row) (s .position) u × (sends ≡ hasSend (decode (now recs))) ⌝ }
+    ensures { λ r. ⌜ Went (onward (decode (now (recs .entry))) (now (ranks .entry)) (now (chosen .entry)) width) (s .row) (s .position) (s .chains)
+        (now (clocks .entry)) u (r .row) (r .position) (r .chains) (now (clocks .exit)) ⌝ }
+{
+    if sends {
+        return lead_on(chosen, width, clocks, s, u);
+    }
+    walk_on(recs, ranks, chosen, width, clocks, s, u)
+}
+
 // Marks that many entries. The clocks are filled before; afterwards their rows hold other things.
 fn mark_all(
     recs: &[u8],
@@ -169,8 +216,10 @@ fn mark_all(
     clocks: &mut [u16],
     list: &mut [u16],
     count: usize,
+    sends: bool,
 )
-    requires { ⌜ FilledClocks (decode (now recs)) (now ranks) (now chosen) width (now clocks) × Unmarked (decode (now recs)) (now list) count ⌝ }
+    requires { ⌜ FilledClocks (decode (now recs)) (now ranks) (now chosen) width (now clocks) × Unmarked (decode (now recs)) (now list) count ×
+        (sends ≡ hasSend (decode (now recs))) ⌝ }
     ensures { λ r. ⌜ MarksAll (decode (now (recs .entry))) width (now (clocks .entry)) (now (clocks .exit)) (now (list .entry)) (now (list .exit)) count ⌝ }
 {
     let mut s = Stand {
@@ -181,7 +230,7 @@ fn mark_all(
     let mut k = 0;
     while k < count {
         let u = row_at(recs, ranks, (list[ENTRY_NUMBERS * k + 1] - 1) as usize);
-        s = go_on(recs, ranks, chosen, width, clocks, s, u);
+        s = go_on(recs, ranks, chosen, width, clocks, s, u, sends);
         let e = mark_second(recs, ranks, chosen, width, clocks, u, list, k, count);
         if e < count {
             raise(recs, ranks, width, s.chains, clocks, u, list, k, e);
@@ -190,8 +239,9 @@ fn mark_all(
     }
 }
 
-// Marks that many entries; the clocks are filled before and after.
+// Marks that many entries; the clocks are filled before and after. Records don't say all links of a trace with a send: it is filled anew from its bytes.
 pub(crate) fn mark_list(
+    bytes: &[u8],
     recs: &[u8],
     ranks: &[u16],
     chosen: &[u16],
@@ -200,14 +250,19 @@ pub(crate) fn mark_list(
     clocks: &mut [u16],
     list: &mut [u16],
     count: usize,
+    sends: bool,
 )
-    requires { ⌜ FilledClocks (decode (now recs)) (now ranks) (now chosen) width (now clocks)
-        × Unmarked (decode (now recs)) (now list) count × (events ≡ eventsIn (decode (now recs))) ⌝ }
+    requires { ⌜ FilledClocks (decode (now recs)) (now ranks) (now chosen) width (now clocks) × Unmarked (decode (now recs)) (now list) count ×
+        (events ≡ eventsIn (decode (now recs))) × Source (now bytes) (decode (now recs)) width sends ⌝ }
     ensures { λ r. ⌜ MarksList (decode (now (recs .entry))) (now (clocks .entry)) (now (clocks .exit)) (now (list .entry)) (now (list .exit)) count ⌝ }
 {
     if count == 0 {
         return;
     }
-    mark_all(recs, ranks, chosen, width, clocks, list, count);
+    mark_all(recs, ranks, chosen, width, clocks, list, count, sends);
+    if sends {
+        fill(bytes, width, clocks);
+        return;
+    }
     refill(recs, ranks, chosen, events, width, clocks);
 }

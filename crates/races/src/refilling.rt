@@ -1,7 +1,7 @@
 // The clock rows once more, where the chain of each row is known.
 use clocks::add_one;
 use clocks::clear_rows;
-use order::links::merge_links;
+use order::merging::merge_links;
 use records::access;
 ghost use mathlib.Core.Path.{_≡_};
 ghost use mathlib.Core.List.{_++_};

@@ -1,6 +1,7 @@
 // The reader's answer by document 01's words: each record against all that stand before it.
 use crate::paths::event_of;
 use crate::paths::is_kind;
+use crate::paths::is_send;
 use crate::paths::target_of;
 use crate::slots::get_byte;
 use crate::slots::less;
@@ -63,11 +64,11 @@ fn has_place(recs: &[u8], i: usize) -> bool {
     }
 }
 
-// "begin or join whose first has begun already; fork whose second has begun already, itself included"
+// "begin or join whose first has begun already; fork whose second has begun already, itself included"; a send has "the same fields and checks"
 fn has_begun(recs: &[u8], i: usize) -> bool {
     match access::kind_at(recs, i) {
         1 | 4 => find(recs, i, 1, event_of(recs, i)) < i,
-        3 => find(recs, i, 1, target_of(recs, i)) < i,
+        3 | 16..=19 => find(recs, i, 1, target_of(recs, i)) < i,
         _ => false,
     }
 }
@@ -77,14 +78,15 @@ fn waits(recs: &[u8], i: usize) -> bool {
     is_kind(recs, i, 4) & (i <= find(recs, i, 2, target_of(recs, i)))
 }
 
-// The refusal of record i, where none before it is refused; 0 for none.
+// The refusal of record i, where none before it is refused; 0 for none. No trace here has two sends, so that none is put behind another (31).
 fn refusal_at(recs: &[u8], i: usize) -> usize {
     let kind = access::kind_at(recs, i);
     let ended = pick(waits(recs, i), 8, 0);
     let begun = pick(has_begun(recs, i), 7, ended);
     let place = pick(has_place(recs, i), begun, 6);
     let numbers = pick(has_numbers(recs, i), place, 5);
-    pick((kind == 0) | (6 < kind), 4, numbers)
+    let known = ((0 < kind) & (kind < 7)) | is_send(recs, i);
+    pick(known, numbers, 4)
 }
 
 // The first record that is refused, or as many as there are.
@@ -165,6 +167,7 @@ fn judge_before(bytes: &[u8], at: usize, d: usize) -> Verdict {
         start: at - d,
         records: d / 5,
         events: 0,
+        sends: false,
     };
     judge_records(access::records(bytes, t), pair_at(bytes, plus(at, 4)))
 }

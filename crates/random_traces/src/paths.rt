@@ -47,6 +47,12 @@ pub(crate) fn is_kind(recs: &[u8], i: usize, kind: u8) -> bool {
     access::kind_at(recs, i) == kind
 }
 
+// A send on one of four links: placed, checked and ordering as a fork.
+pub(crate) fn is_send(recs: &[u8], i: usize) -> bool {
+    let kind = access::kind_at(recs, i);
+    (15 < kind) & (kind < 20)
+}
+
 // The event number of t.
 pub(crate) fn number_of(table: &[usize], t: usize) -> usize {
     get(table, t)
@@ -94,15 +100,20 @@ pub(crate) fn find_begins(recs: &[u8], table: &mut [usize]) -> usize {
     found
 }
 
-// The two that a fork or a join orders; 0 for the later one where record i is neither.
+// A fork or a send.
+fn starts(recs: &[u8], i: usize) -> bool {
+    is_kind(recs, i, 3) | is_send(recs, i)
+}
+
+// The two that a fork, a send or a join orders; 0 for the later one where record i is none of them.
 fn earlier(recs: &[u8], table: &[usize], i: usize) -> usize {
     let joined = rank(table, target_of(recs, i));
-    pick(is_kind(recs, i, 3), action_of(recs, table, i), joined)
+    pick(starts(recs, i), action_of(recs, table, i), joined)
 }
 
 fn later(recs: &[u8], table: &[usize], i: usize) -> usize {
-    let forked = pick(is_kind(recs, i, 3), rank(table, target_of(recs, i)), 0);
-    pick(is_kind(recs, i, 4), action_of(recs, table, i), forked)
+    let started = pick(starts(recs, i), rank(table, target_of(recs, i)), 0);
+    pick(is_kind(recs, i, 4), action_of(recs, table, i), started)
 }
 
 // Those that happen before the later one, with those before the earlier one.

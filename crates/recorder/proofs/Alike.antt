@@ -42,24 +42,24 @@ module _ (tr ys : List Record) (start m : ℕ) (each : (i : ℕ) → i < length 
       rw (drop-cons tr i noRecord (omega arith), z) w
 
 -- a refusal by the walk is a later record's, or 9 or 10
-late : (t u : Bool) (q : ℕ) (y : Reply Trace) (n p : ℕ) → ((n p : ℕ) → y ≡ refused n p → ⊥) → demand t 9 q (demand u 10 0 y) ≡ refused n p → 9 ≤ n
+late : (t u : Bool) (q : ℕ) (y : Reply Trace) (n p : ℕ) → ((n p : ℕ) → y ≡ refused n p → ⊥) → demand t 9 q (demand u 10 0 y) ≡ refused n p → (n ≡ 9) ⊎ (n ≡ 10)
 unfolding demand
 late true true q y n p f e = absurd (f n p e)
-late true false q y n p f e = let z : 10 ≡ n = cc in omega arith
-late false u q y n p f e = let z : 9 ≡ n = cc in omega arith
+late true false q y n p f e = let z : 10 ≡ n = cc in inr (sym z)
+late false u q y n p f e = let z : 9 ≡ n = cc in inl (sym z)
 
-later : (start m : ℕ) (rest done : List Record) (n p : ℕ) → walk start m done rest ≡ refused n p → (9 ≤ n) ⊎ (length done < p)
+later : (start m : ℕ) (rest done : List Record) (n p : ℕ) → walk start m done rest ≡ refused n p → ((n ≡ 9) ⊎ (n ≡ 10)) ⊎ (length done < p)
 unfolding walk ending
 later start m [] done n p e = inl (late (eqb (situation done) between) (eqb (begins done) m) (length done) _ n p
     (λ n p q. let z : _≡_ {A = ℕ} 0 1 = cc in omega arith) e)
 later start m (x ∷ rest) done n p e = go (rule done x) e (later start m rest (x ∷ done) n p)
   where
-    wider : (9 ≤ n) ⊎ (suc (length done) < p) → (9 ≤ n) ⊎ (length done < p)
+    wider : ((n ≡ 9) ⊎ (n ≡ 10)) ⊎ (suc (length done) < p) → ((n ≡ 9) ⊎ (n ≡ 10)) ⊎ (length done < p)
     wider (inl l) = inl l
     wider (inr l) = inr (omega arith)
 
     go : (v : ℕ) → orElse v (length done + 1) (walk start m (x ∷ done) rest) ≡ refused n p
-        → (walk start m (x ∷ done) rest ≡ refused n p → (9 ≤ n) ⊎ (suc (length done) < p)) → (9 ≤ n) ⊎ (length done < p)
+        → (walk start m (x ∷ done) rest ≡ refused n p → ((n ≡ 9) ⊎ (n ≡ 10)) ⊎ (suc (length done) < p)) → ((n ≡ 9) ⊎ (n ≡ 10)) ⊎ (length done < p)
     go zero q f = wider (f (unfold orElse in q))
     go (suc v) q f = let z : length done + 1 ≡ p = unfold orElse in cc in inr (omega arith)
 
@@ -81,7 +81,7 @@ unfolding pass
 no-place w r y zero n k t e = let z : _≡_ {A = ℕ} 0 1 = cc in omega arith
 no-place w r y (suc v) n k t e = let z : 0 ≡ k + 1 = cc in omega arith
 
--- A step is refused with 4 to 8 exactly when the reader would refuse the trace there, by the same number and place; whatever records follow.
+-- A step is refused with 4 to 8 or 31 exactly when the reader would refuse the trace there, by the same number and place; whatever records follow.
 module _ {b : List ℕ} {tr : List Record} {w : List ℕ} {r : Recorder} (c : Recording b tr w r) (x : Record) (rest : List Record)
     (few : length (tr ++ x ∷ rest) ≤ 4096) (narrow : AllNarrow (tr ++ x ∷ rest)) (p : List ℕ) where
   abbrev m : ℕ
@@ -97,7 +97,7 @@ module _ {b : List ℕ} {tr : List Record} {w : List ℕ} {r : Recorder} (c : Re
       ∙ through tr (x ∷ rest) (length p) m (holds c .passes) (length tr) 0 (omega arith)
       ∙ rw (past-length tr (length tr))
 
-  pub refused-alike : (n : ℕ) → n ≤ 8 → (stepLeft w r x .answer ≡ refused n (length tr + 1))
+  pub refused-alike : (n : ℕ) → (n ≤ 8) ⊎ (n ≡ 31) → (stepLeft w r x .answer ≡ refused n (length tr + 1))
       ↔ (readReply (p ++ traceOf (tr ++ x ∷ rest)) ≡ refused n (length tr + 1))
   refused-alike n l =
       let h = holds c in
@@ -108,8 +108,14 @@ module _ {b : List ℕ} {tr : List Record} {w : List ℕ} {r : Recorder} (c : Re
             (sym reader-says ∙ e)),
       )
     where
-      ahead : (9 ≤ n) ⊎ (suc (length (past tr (length tr))) < length tr + 1) → ⊥
-      ahead (inl k) = omega arith
+      not-closing : (n ≤ 8) ⊎ (n ≡ 31) → (n ≡ 9) ⊎ (n ≡ 10) → ⊥
+      not-closing (inl i) (inl j) = omega arith
+      not-closing (inl i) (inr j) = omega arith
+      not-closing (inr i) (inl j) = omega arith
+      not-closing (inr i) (inr j) = omega arith
+
+      ahead : ((n ≡ 9) ⊎ (n ≡ 10)) ⊎ (suc (length (past tr (length tr))) < length tr + 1) → ⊥
+      ahead (inl k) = not-closing l k
       ahead (inr k) = let q = past-length tr (length tr) in omega arith
 
 nine-answer : (w : List ℕ) (r : Recorder) (t u : Bool) (v k : ℕ) (y : Left ℕ) → y .answer ≡ gives v

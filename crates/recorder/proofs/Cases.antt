@@ -6,6 +6,7 @@ use mathlib.Core.List.{List, [], _∷_, _++_}
 use lib.ListN.{take, replicate}
 use Rattle.records.specs.Bytes.{recordAt, recordsFrom, decode, part}
 use Rattle.records.specs.Records.{past, has, begun, ended, begins}
+use Rattle.links.specs.Begin.{sendTo, lastSend, beginBlocked}
 use Rattle.trace.specs.Place.{place}
 use Rattle.trace.specs.Rule.{numbered, wellFormed, misplaced, again, early, judge}
 use Rattle.trace.specs.Reply.{refused, gives}
@@ -43,7 +44,7 @@ pub record TooFew : Type 0 where
 
 pub hold : TooFew
 unfolding openLeft stepLeft closeLeft pass held closedAlready judged before space full stopsInside noTrailer stored part decode
-    recordsFrom recordAt past has begun ended begins place numbered wellFormed misplaced again early judge encode trailer traceOf
+    recordsFrom recordAt past has begun ended begins place numbered wellFormed misplaced again early judge sendTo lastSend beginBlocked encode trailer traceOf
 hold =
     let c = step (step (opening refl) (rec 1 1 0) refl) (rec 2 1 0) refl in
     record { enough = c; too-few = refl; goes-on = lent (refused-closing (lent c few refl) 25 0 refl) many refl; closed = refl; bytes-are = refl }

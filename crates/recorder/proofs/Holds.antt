@@ -12,15 +12,20 @@ use lib.Dec.{leb}
 use lib.ListN.{length, take, drop, length-append, length-take, length-drop}
 use lib.Seq.{take-at, drop-at}
 use Rattle.records.specs.declared.Record.{Record}
-use Rattle.records.specs.Records.{at, past}
+use Rattle.records.specs.Records.{at, past, isBegin}
 use Rattle.trace.specs.Place.{between, place}
-use Rattle.trace.specs.Rule.{situation, owner, rule}
+use Rattle.links.specs.Begin.{beginBlocked}
+use Rattle.trace.specs.Rule.{situation, owner, behind, rule}
+use Rattle.trace.specs.Plain.{plainRule}
 use Rattle.records.specs.Bytes.{decode, part}
 use Rattle.trace.specs.Reply.{Reply, refused, gives}
 use Rattle.trace.proofs.ReplyLaws.{not-both}
 use Rattle.records.specs.Encoding.{encode, stored}
 use Rattle.records.proofs.Encoded.{AllNarrow, encode-length, encode-append, decode-encode}
 use Rattle.trace.proofs.Encoded.{passes-narrow}
+use Rattle.trace.proofs.Passed.{Passes, passing}
+use Rattle.trace.proofs.Behind.{rule-passes, judge-alike, behind-is}
+use Rattle.trace.proofs.Whole.{begin-told}
 use Rattle.recorder.specs.declared.Recorder.{Recorder}
 use Rattle.recorder.specs.Recording.{Done, done, Left, pass, held, before, judged, closedAlready, space, full}
 use Rattle.recorder.specs.Recording.{stopsInside, noTrailer, openLeft, stepLeft, closeLeft}
@@ -85,8 +90,11 @@ pub record Holds (tr : List Record) (w : List ℕ) (r : Recorder) : Type 0 where
   pub owns : r .owner .0 ≡ owner (past tr (length tr))
 
 module _ {tr : List Record} {w : List ℕ} {r : Recorder} (h : Holds tr w r) where
+  passes-at : (i : ℕ) → i < length tr → Passes (past tr i) (at tr i)
+  passes-at i l = passing (past tr i) (at tr i) (rule-passes tr i (h .passes i l) .0)
+
   pub narrow : AllNarrow tr
-  narrow i l = passes-narrow (past tr i) (at tr i) (h .passes i l)
+  narrow i l = passes-narrow (past tr i) (at tr i) (passes-at i l)
 
   pub held-is : held r ≡ length tr
   unfolding held
@@ -100,10 +108,18 @@ module _ {tr : List Record} {w : List ℕ} {r : Recorder} (h : Holds tr w r) whe
   unfolding before
   before-is = rw records-are
 
+  -- what is computed for 31 is 31
+  links-told : (x : Record) → plainRule (past tr (length tr)) x ≡ 0 → isBegin x ≡ true → beginBlocked tr (x .first) ≡ behind (x .first) (past tr (length tr))
+  links-told x e b =
+      begin-told (record { passes-at = passes-at }) (λ i l. rule-passes tr i (h .passes i l) .1) (h .few) x (passing (past tr (length tr)) x e) b
+      ∙ sym (behind-is tr (length tr) (x .first))
+
   -- the recorder's check is the reader's rule
   pub judged-is : (x : Record) → judged w (length tr) r x ≡ rule (past tr (length tr)) x
-  unfolding judged rule
-  judged-is x = rw (before-is, h .stands, h .owns)
+  unfolding judged rule plainRule
+  judged-is x =
+      rw (before-is, records-are, h .stands, h .owns)
+      (judge-alike (situation (past tr (length tr))) (owner (past tr (length tr))) x _ _ _ _ (behind (x .first) (past tr (length tr))) (links-told x))
 
   pub step-is : (x : Record) → stepLeft w r x ≡ pass w r (rule (past tr (length tr)) x) (length tr + 1)
       (pass w r (full w (length tr)) 0 (stepping w (length tr) x (place (r .situation) (x .kind))))

@@ -7,3 +7,4 @@ pub mod Beyond
 pub mod RoundTrip
 pub mod Alike
 pub mod Cases
+pub mod LinksLast

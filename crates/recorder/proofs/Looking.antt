@@ -7,7 +7,8 @@ use mathlib.Core.List.{List}
 use borrow.Author.Tests.{eq-eqb, ne-eqb}
 use lib.Dec.{eqb}
 use Rattle.records.specs.declared.Record.{Record}
-use Rattle.records.specs.Records.{at, past, isBegin, isFork, isJoin, has}
+use Rattle.records.specs.Records.{at, past, isBegin, isJoin, has}
+use Rattle.records.specs.Kinds.{starts}
 use Rattle.trace.specs.Rule.{again, early, judge}
 use Rattle.records.proofs.Records.{past-less}
 use Rattle.recorder.specs.Recording.{ofKind}
@@ -30,10 +31,10 @@ module _ (tr : List Record) (kind e i : ℕ) (h : 0 < i) where
       drop-false true b = refl
       drop-false false b = refl
 
--- The rules ask whether first has begun of a begin and a join only, whether second has begun of a fork, whether it has ended of a join.
-again-asked : (r : Record) (x y : Bool) → again r ((isBegin r || isJoin r) && x) (isFork r && y) ≡ again r x y
+-- The rules ask whether first has begun of a begin and a join only, whether second has begun of a fork and a send, whether it has ended of a join.
+again-asked : (r : Record) (x y : Bool) → again r ((isBegin r || isJoin r) && x) (starts r && y) ≡ again r x y
 unfolding again
-again-asked r x y = go (isBegin r || isJoin r) (isFork r)
+again-asked r x y = go (isBegin r || isJoin r) (starts r)
   where
     go : (s f : Bool) → cond f (f && y) (s && (s && x)) ≡ cond f y (s && x)
     go true true = refl
@@ -49,6 +50,7 @@ early-asked r z = go (isJoin r)
     go true = refl
     go false = refl
 
-pub judge-asked : (s e : ℕ) (r : Record) (x y z : Bool) → judge s e r ((isBegin r || isJoin r) && x) (isFork r && y) (isJoin r && z) ≡ judge s e r x y z
+pub judge-asked : (s e : ℕ) (r : Record) (x y z h : Bool)
+    → judge s e r ((isBegin r || isJoin r) && x) (starts r && y) (isJoin r && z) h ≡ judge s e r x y z h
 unfolding judge
-judge-asked s e r x y z = rw (again-asked r x y, early-asked r z)
+judge-asked s e r x y z h = rw (again-asked r x y, early-asked r z)

@@ -9,6 +9,7 @@ use Rattle.records.specs.Bytes.{recordBytes, trailerBytes}
 use Rattle.records.specs.declared.Record.{Record}
 use Rattle.records.specs.Records.{past, begun, ended, begins}
 use Rattle.records.specs.Bytes.{decode, part}
+use Rattle.links.specs.Begin.{beginBlocked}
 use Rattle.trace.specs.Place.{between, place}
 use Rattle.trace.specs.Rule.{judge}
 use Rattle.trace.specs.Reply.{Reply, refused, gives}
@@ -86,9 +87,12 @@ ofKind kind x = eqb (x .kind) kind
 unfoldable pub before : List ℕ → ℕ → List Record
 before b n = past (decode (part b 0 n)) (length (decode (part b 0 n)))
 
--- 4 to 8, by the reader's rules: the refusal of record x after the first n records of the bytes, or 0
+-- 4 to 8 and 31, by the reader's rules: the refusal of record x after the first n records of the bytes, or 0. 31 is computed, so that it is told over altered
+-- bytes too.
 unfoldable pub judged : List ℕ → ℕ → Recorder → Record → ℕ
-judged b n r x = judge (r .situation) (r .owner .0) x (begun (x .first) (before b n)) (begun (x .second) (before b n)) (ended (x .second) (before b n))
+judged b n r x =
+    judge (r .situation) (r .owner .0) x (begun (x .first) (before b n)) (begun (x .second) (before b n)) (ended (x .second) (before b n))
+    (beginBlocked (decode (part b 0 n)) (x .first))
 
 -- "26: recorder only, closed already."
 unfoldable pub closedAlready : Recorder → ℕ
@@ -116,7 +120,7 @@ openLeft b =
     (record { answer = done; recorder = record { count = 0; situation = between; owner = record { 0 = 0 }; closed = false }; bytes = b })
     (record { answer = refused 25 0; recorder = record { count = 0; situation = between; owner = record { 0 = 0 }; closed = true }; bytes = b })
 
--- "The recorder gives 26, then 4 to 8, then 25"; the place of 4 to 8 is the number that the record would have had.
+-- "The recorder gives 26, then 4 to 8, then 25", with 31 "following 7 on a begin"; the place of 4 to 8 and 31 is the number that the record would have had.
 unfoldable pub stepLeft : List ℕ → Recorder → Record → Left Done
 stepLeft b r x =
     pass b r (closedAlready r) 0

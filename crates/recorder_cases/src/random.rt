@@ -1,4 +1,5 @@
-// Steps at random. Each step taken is also logged apart; for each one refused with 4 to 8 the reader is given the same records with the refused one at the end.
+// Steps at random. Each step taken is also logged apart; for each one refused with 4 to 8 or 31 the reader is given the same records with the refused
+// one at the end.
 use crate::raw;
 use crate::say;
 use recorder::Closing;
@@ -13,26 +14,45 @@ struct Totals {
     taken: u64,
     refused: u64,
     alike: u64,
+    behind: u64,
 }
 
 fn following(seed: u64) -> u64 {
     (seed % 65537 * 75 + 74) % 65537
 }
 
-// A record of a kind 0 to 7, mostly for the recorder's own event, among a few events and cells.
+// Kinds 0 to 7, and the four sends.
+fn kind_of(k: u64) -> u8 {
+    match k {
+        0 => 0,
+        1 => 1,
+        2 => 2,
+        3 => 3,
+        4 => 4,
+        5 => 5,
+        6 => 6,
+        7 => 7,
+        8 => 16,
+        9 => 17,
+        10 => 18,
+        _ => 19,
+    }
+}
+
+// A record of such a kind, mostly for the recorder's own event, among a few events and cells.
 fn draw(seed: u64, r: Recorder) -> Record {
     let owner = r.owner;
     let mut first = owner.0;
-    if seed / 8 % 4 == 0 {
-        first = (seed / 32 % 40) as u16;
+    if seed / 12 % 4 == 0 {
+        first = (seed / 48 % 40) as u16;
     }
     if r.situation == 0 {
-        first = (seed / 32 % 40) as u16;
+        first = (seed / 48 % 40) as u16;
     }
-    let mut second = (seed / 1280 % 40) as u16;
-    let kind = (seed % 8) as u8;
+    let mut second = (seed / 1920 % 40) as u16;
+    let kind = kind_of(seed % 12);
     if kind < 3 {
-        second = (seed / 1280 % 40 / 39) as u16;
+        second = (seed / 1920 % 40 / 33) as u16;
     }
     Record {
         kind: kind,
@@ -65,6 +85,7 @@ fn turn(bytes: &mut [u8], log: &mut [u8], t: Totals) -> Totals {
     let mut taken = t.taken;
     let mut refused = t.refused;
     let mut alike = t.alike;
+    let mut behind = t.behind;
     match answer {
         Stepped::Taken => {
             raw::put(log, r.count, rec);
@@ -75,6 +96,9 @@ fn turn(bytes: &mut [u8], log: &mut [u8], t: Totals) -> Totals {
             if reader_agrees(bytes, r.count, rec, f) {
                 alike = std::num::wrapping_add_u64(alike, 1);
             }
+            if f.number == trace::BEHIND {
+                behind = std::num::wrapping_add_u64(behind, 1);
+            }
         }
     }
     Totals {
@@ -83,6 +107,7 @@ fn turn(bytes: &mut [u8], log: &mut [u8], t: Totals) -> Totals {
         taken: taken,
         refused: refused,
         alike: alike,
+        behind: behind,
     }
 }
 
@@ -114,6 +139,7 @@ fn logged(bytes: &mut [u8], log: &mut [u8], r: Recorder, situation: u8, kind: u8
 
 fn read_back(bytes: &[u8], log: &[u8], r: Recorder, a: Closing) {
     let Closing::Closed(n) = a else {
+        say::line();
         return;
     };
     let reading = trace::read(raw::front(bytes, n));
@@ -132,6 +158,7 @@ fn recorded(bytes: &mut [u8], log: &mut [u8], seed: u64) -> Totals {
         taken: 0,
         refused: 0,
         alike: 0,
+        behind: 0,
     };
     let mut t = turns(bytes, log, start);
     let last = t.recorder;
@@ -145,6 +172,7 @@ fn say_totals(t: Totals, a: Closing) {
     say::count(b"taken ", t.taken);
     say::count(b" refused ", t.refused);
     say::count(b" alike ", t.alike);
+    say::count(b" behind ", t.behind);
     say::closing(a);
 }
 

@@ -105,6 +105,7 @@ fn read_back(bytes: &[u8]) {
         start: 0,
         records: 4096,
         events: 1,
+        sends: false,
     };
     say::count(b" same ", agree(access::records(bytes, all)));
     say::line();

@@ -7,3 +7,4 @@ pub mod Leading
 pub mod SearchLaws
 pub mod Encoded
 pub mod Stored
+pub mod Fronts

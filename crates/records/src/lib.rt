@@ -24,9 +24,10 @@ pub const RECORD_BYTES: usize = 5;
 
 pub const TRAILER_BYTES: usize = 8;
 
-// An accepted trace: where record 1 starts in the bytes, how many records and how many event actions.
+// An accepted trace: where record 1 starts in the bytes, how many records and how many event actions, and whether a record is a send.
 pub struct Trace {
     pub start: usize,
     pub records: usize,
     pub events: usize,
+    pub sends: bool,
 }

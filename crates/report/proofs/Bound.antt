@@ -36,7 +36,7 @@ use Rattle.report.specs.Text.{pairLines, replyLines, programReply, lines
 use Rattle.report.proofs.Refusals.{Small, small-gives, small-demand, small-then, read-small}
 use Rattle.report.proofs.Whole.{prints-whole}
 
-refused-bound : (n p : ℕ) → n ≤ 24 → p ≤ 4097 → length (text (refusedLine n p ∷ [])) ≤ 50
+refused-bound : (n p : ℕ) → n ≤ 31 → p ≤ 4097 → length (text (refusedLine n p ∷ [])) ≤ 50
 unfolding text
 refused-bound n p h k = omega (arith, length-append (refusedLine n p) [], refused-at-most n p (omega arith) (omega arith))
 

@@ -1,21 +1,21 @@
--- Refusals have numbers up to 24 and places up to 4,097; the reader's. Assumes nothing.
+-- Refusals have numbers up to 31 and places up to 4,097; the reader's. Assumes nothing.
 use Prim.Native.Nat.{ℕ, zero, suc, _+_, _≤_}
 use mathlib.Core.Path.{_≡_, refl}
-use mathlib.Core.Bool.{Bool, true, false, cond, not}
+use mathlib.Core.Bool.{Bool, true, false, cond, not, _&&_}
 use mathlib.Core.List.{List, [], _∷_}
 use native.Mathlib.Omega.{arith}
 use lib.Dec.{eqb}
 use lib.ListN.{length}
 use Rattle.records.specs.declared.Record.{Record}
-use Rattle.records.specs.Records.{begun, ended}
+use Rattle.records.specs.Records.{isBegin, begun, ended}
 use Rattle.trace.specs.Place.{place, unknownKind}
-use Rattle.trace.specs.Rule.{situation, owner, wellFormed, misplaced, again, early, judge, rule}
+use Rattle.trace.specs.Rule.{situation, owner, wellFormed, misplaced, again, early, judge, behind, rule}
 use Rattle.trace.specs.Reply.{Reply, refused, gives, demand, orElse, then}
 use Rattle.trace.specs.Reading.{closing, walk, trailerReply, frameReply, recordsIn, readReply}
 use Rattle.trace.proofs.Accepted.{framed, records-length}
 
 unfoldable pub Small : {A : Type 0} → Reply A → Type 0
-Small (refused n p) = (n ≤ 24) × (p ≤ 4097)
+Small (refused n p) = (n ≤ 31) × (p ≤ 4097)
 Small (gives a) = Unit {0}
 
 module _ {A : Type 0} where
@@ -23,12 +23,12 @@ module _ {A : Type 0} where
   unfolding Small
   small-gives a = tt
 
-  pub small-demand : (t : Bool) (n p : ℕ) (y : Reply A) → n ≤ 24 → p ≤ 4097 → Small y → Small (demand t n p y)
+  pub small-demand : (t : Bool) (n p : ℕ) (y : Reply A) → n ≤ 31 → p ≤ 4097 → Small y → Small (demand t n p y)
   unfolding demand Small
   small-demand true n p y h k s = s
   small-demand false n p y h k s = (h, k)
 
-  small-else : (n p : ℕ) (y : Reply A) → n ≤ 24 → p ≤ 4097 → Small y → Small (orElse n p y)
+  small-else : (n p : ℕ) (y : Reply A) → n ≤ 31 → p ≤ 4097 → Small y → Small (orElse n p y)
   unfolding orElse Small
   small-else zero p y h k s = s
   small-else (suc n) p y h k s = (h, k)
@@ -38,21 +38,22 @@ unfolding then Small
 small-then (refused n p) f s g = s
 small-then (gives a) f s g = g a refl
 
-rule-small : (before : List Record) (r : Record) → rule before r ≤ 8
+rule-small : (before : List Record) (r : Record) → rule before r ≤ 31
 unfolding rule judge
 rule-small before r =
     let s = situation before in
     let e = owner before in
     go (eqb (place s (r .kind)) unknownKind) (not (wellFormed r)) (misplaced s e r)
-    (again r (begun (r .first) before) (begun (r .second) before)) (early r (ended (r .second) before))
+    (again r (begun (r .first) before) (begun (r .second) before)) (isBegin r && behind (r .first) before) (early r (ended (r .second) before))
   where
-    go : (x y z u v : Bool) → cond x 4 (cond y 5 (cond z 6 (cond u 7 (cond v 8 0)))) ≤ 8
-    go true y z u v = omega arith
-    go false true z u v = omega arith
-    go false false true u v = omega arith
-    go false false false true v = omega arith
-    go false false false false true = omega arith
-    go false false false false false = omega arith
+    go : (x y z u w v : Bool) → cond x 4 (cond y 5 (cond z 6 (cond u 7 (cond w 31 (cond v 8 0))))) ≤ 31
+    go true y z u w v = omega arith
+    go false true z u w v = omega arith
+    go false false true u w v = omega arith
+    go false false false true w v = omega arith
+    go false false false false true v = omega arith
+    go false false false false false true = omega arith
+    go false false false false false false = omega arith
 
 walk-small : (start m : ℕ) (rest before : List Record) → length before + length rest ≤ 4096 → Small (walk start m before rest)
 unfolding walk closing

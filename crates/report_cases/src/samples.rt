@@ -20,4 +20,7 @@ pub(crate) fn each() {
     sample(b"setup-joined.trace");
     sample(b"repeated-reads.trace");
     sample(b"two-observations.trace");
+    sample(b"radio-link.trace");
+    sample(b"two-radio-links.trace");
+    sample(b"radio-link-broken.trace");
 }

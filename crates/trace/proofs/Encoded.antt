@@ -17,27 +17,26 @@ use Rattle.records.specs.Bytes.{recordAt, recordsFrom, decode, part}
 use Rattle.records.specs.Records.{at, past, isBegin}
 use Rattle.records.specs.Records.{begins as begin-count}
 use Rattle.trace.specs.Place.{place}
-use Rattle.trace.specs.Rule.{situation, numbered, rule}
+use Rattle.trace.specs.Rule.{situation, numbered}
 use Rattle.trace.specs.Reply.{gives, demand, then}
 use Rattle.trace.specs.Reading.{walk, distance, trailerReply, frameReply, traceFrom, recordsIn, readReply, Accepts, Acceptable}
 use Rattle.records.specs.Encoding.{Bytes, low, high, encode, trailer, traceOf}
 use Rattle.records.proofs.Records.{past-length}
 use Rattle.records.proofs.Encoded.{Narrow, AllNarrow, encode-length, decode-encode, encode-decode, begins-most, low-high, low-of, high-of, four-bytes}
 use Rattle.trace.proofs.ReplyLaws.{passed, same-given}
-use Rattle.trace.proofs.Accepted.{part-length, decoded, accepts, accepted-of}
+use Rattle.trace.proofs.Accepted.{part-length, decoded, named, accepts, accepted-of}
 use Rattle.trace.proofs.Marked.{formed}
-use Rattle.trace.proofs.Blocks.{passing}
+use Rattle.trace.proofs.Blocks.{Passes, passes-at}
 use Rattle.records.proofs.Positions.{lt-or-ge}
-use Rattle.trace.proofs.PlaceRule.{Outside, begins, joins, Inside, ends, forks, reads, writes, outside, inside}
+use Rattle.trace.proofs.PlaceRule.{Outside, begins, joins, Inside, ends, forks, reads, writes, sends, outside, inside}
 
 in-range : (x : ℕ) → numbered x ≡ true → x ≤ 1024
 unfolding numbered
 in-range x h = leb-true x 1024 (and-eq-true-iff (leb 1 x) (leb x 1024) .0 h .1)
 
--- a record that passes its rule has fields that fit
-pub passes-narrow : (before : List Record) (r : Record) → rule before r ≡ 0 → Narrow r
-passes-narrow before r h =
-    let p = passing before r h in
+-- a record that passes 4 to 8 has fields that fit
+pub passes-narrow : (before : List Record) (r : Record) → Passes before r → Narrow r
+passes-narrow before r p =
     let f = formed r (p .well-formed) in
     let x = in-range (r .first) (f .0) in
     let y = second-range (ltb (r .kind) 3) (f .1) in
@@ -48,19 +47,20 @@ passes-narrow before r h =
     second-range true e = let z = eqb-true (r .second) 0 e in omega arith
     second-range false e = in-range (r .second) e
 
-    outer : Outside (r .kind) (place (situation before) (r .kind)) → r .kind ≤ 6
+    outer : Outside (r .kind) (place (situation before) (r .kind)) → r .kind ≤ 19
     outer (begins k n) = omega arith
     outer (joins k n) = omega arith
 
-    inner : Inside (r .kind) (place (situation before) (r .kind)) → r .kind ≤ 6
+    inner : Inside (r .kind) (place (situation before) (r .kind)) → r .kind ≤ 19
     inner (ends k n) = omega arith
     inner (forks k n) = omega arith
     inner (reads k n) = omega arith
     inner (writes k n) = omega arith
+    inner (sends l k n) = k
 
-    known-kind : (situation before < 2) ⊎ (2 ≤ situation before) → r .kind ≤ 6
-    known-kind (inl l) = let p = passing before r h in outer (outside (situation before) (r .kind) (p .known) (p .placed) l)
-    known-kind (inr l) = let p = passing before r h in inner (inside (situation before) (r .kind) (p .known) (p .placed) l)
+    known-kind : (situation before < 2) ⊎ (2 ≤ situation before) → r .kind ≤ 19
+    known-kind (inl l) = outer (outside (situation before) (r .kind) (p .known) (p .placed) l)
+    known-kind (inr l) = inner (inside (situation before) (r .kind) (p .known) (p .placed) l)
 
 -- records whose fields fit, at most 4,096 of them, and their trace after any bytes p
 module _ (tr : List Record) (few : length tr ≤ 4096) (p : List ℕ) where
@@ -96,7 +96,7 @@ module _ (tr : List Record) (few : length tr ≤ 4096) (p : List ℕ) where
       let t = length p + d in
       rw (trailer-at t 0 (omega arith), trailer-at (t + 1) 1 (omega arith), trailer-at (t + 2) 2 (omega arith), trailer-at (t + 2 + 1) 3 (omega arith)) (four-bytes d (omega arith))
 
-  frame-is : gives (traceFrom (length p) tr) ≡ frameReply b
+  frame-is : gives (named (traceFrom (length p) tr)) ≡ frameReply b
   unfolding frameReply trailerReply demand trailer
   frame-is =
       let t = length p + d in
@@ -128,15 +128,19 @@ module _ (tr : List Record) (few : length tr ≤ 4096) (p : List ℕ) where
         rw (drop-at p (traceOf tr) (length p) refl, take-at (encode tr) (trailer d m) (5 * length tr) (encode-length tr))
         (decode-encode tr narrow)
 
+    named-narrow : recordsIn b (named (traceFrom (length p) tr)) ≡ tr
+    unfolding recordsIn
+    named-narrow = records-narrow
+
     -- the reader's reply is what the walk over the records gives
     pub read-narrow : readReply b ≡ walk (length p) m [] tr
     unfolding readReply then
-    read-narrow = rw (← frame-is, records-narrow)
+    read-narrow = rw (← frame-is) (ap (walk (length p) m []) named-narrow)
 
 -- the reader accepts the trace of an acceptable sequence of records, and reads the records
 module _ {tr : List Record} (a : Acceptable tr) (p : List ℕ) where
   narrow : AllNarrow tr
-  narrow i h = passes-narrow (past tr i) (at tr i) (a .passes i h)
+  narrow i h = passes-narrow (past tr i) (at tr i) (passes-at a i h)
 
   pub records-encoded : recordsIn (p ++ traceOf tr) (traceFrom (length p) tr) ≡ tr
   records-encoded = records-narrow tr (a .few) p narrow
@@ -144,7 +148,7 @@ module _ {tr : List Record} (a : Acceptable tr) (p : List ℕ) where
   pub read-encoded : Accepts (p ++ traceOf tr) (traceFrom (length p) tr)
   read-encoded =
       let e = records-encoded in
-      accepted-of (p ++ traceOf tr) (traceFrom (length p) tr) (frame-is tr (a .few) p) (rw e a) (rw e)
+      accepted-of (p ++ traceOf tr) (traceFrom (length p) tr) (frame-is tr (a .few) p) (rw e a) (rw e) (rw e)
 
 -- what the trailer says
 record Closes (b : List ℕ) (s n m : ℕ) : Type 0 where
@@ -238,7 +242,7 @@ pub one-trace : (b : List ℕ) (t : Trace) → Bytes b → Accepts b t → drop 
 unfolding recordsIn
 one-trace b t h e =
     let a = accepts b t e in
-    let c = closes b t (a .named) in
+    let c = closes b (named t) (a .named-so) in
     let ends = c .ends in
     closed-part b (t .start) (t .records) (omega arith) h (t .events) (a .begun)
     (tail-trailer b h (t .start + 5 * t .records) (5 * t .records) (t .events) ends (c .mark) (c .edition) (c .back) (c .begun))

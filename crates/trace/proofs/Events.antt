@@ -15,7 +15,8 @@ use Rattle.records.specs.Records.{at, past, isBegin, has, begun, begins}
 use Rattle.trace.specs.Rule.{numbered}
 use Rattle.trace.specs.Reading.{Acceptable}
 use Rattle.trace.proofs.Marked.{formed}
-use Rattle.trace.proofs.Blocks.{passes-at, start-fresh}
+use Rattle.trace.proofs.Passed.{Passes, AllPass, start-fresh}
+use Rattle.trace.proofs.Blocks.{all-pass}
 
 abbrev one : Bool → ℕ
 one true = 1
@@ -76,15 +77,18 @@ unfolding tally begun has
 tally-none zero = refl
 tally-none (suc k) = rw (tally-none k)
 
-module _ {tr : List Record} (a : Acceptable tr) where
-  range : (i : ℕ) → i < length tr → (0 < at tr i .first) × (at tr i .first ≤ 1024)
-  unfolding numbered
-  range i h =
-      let x = at tr i .first in
-      let p = and-eq-true-iff (leb 1 x) (leb x 1024) .0 (formed (at tr i) (passes-at a i h .well-formed) .0) in
-      (leb-true 1 x (p .0), leb-true x 1024 (p .1))
+pub event-range : {before : List Record} {r : Record} → Passes before r → (0 < r .first) × (r .first ≤ 1024)
+unfolding numbered
+event-range {r = r} p =
+    let q = and-eq-true-iff (leb 1 (r .first)) (leb (r .first) 1024) .0 (formed r (p .well-formed) .0) in
+    (leb-true 1 (r .first) (q .0), leb-true (r .first) 1024 (q .1))
 
-  counted : (i : ℕ) → i ≤ length tr → begins (past tr i) ≡ tally 1024 (past tr i)
+-- the first n records pass 4 to 8
+module _ {tr : List Record} {n : ℕ} (a : AllPass tr n) where
+  pub range : (i : ℕ) → i < n → (0 < at tr i .first) × (at tr i .first ≤ 1024)
+  range i h = event-range (a .passes-at i h)
+
+  counted : (i : ℕ) → i ≤ n → begins (past tr i) ≡ tally 1024 (past tr i)
   unfolding begins past
   counted zero h = sym (tally-none 1024)
   counted (suc i) h = go (isBegin (at tr i)) refl (counted i (omega arith))
@@ -96,5 +100,17 @@ module _ {tr : List Record} (a : Acceptable tr) where
           simp (e, c) (sym (tally-more (at tr i) (past tr i) e (start-fresh a i h (inl k)) 1024 (q .0) (q .1)))
       go false e c = simp (e, c) (sym (tally-same (at tr i) (past tr i) e 1024))
 
+  pub few-begins : begins (past tr n) ≤ 1024
+  few-begins = rw (counted n (omega arith)) (tally-most 1024 (past tr n))
+
+  -- where another event may begin there are at most 1,023
+  pub room-for-one : (r : Record) → isBegin r ≡ true → begun (r .first) (past tr n) ≡ false → 0 < r .first → r .first ≤ 1024 → begins (past tr n) ≤ 1023
+  room-for-one r b fresh z h =
+      let c = counted n (omega arith) in
+      let m = tally-more r (past tr n) b fresh 1024 z h in
+      let k = tally-most 1024 (r ∷ past tr n) in
+      omega arith
+
+module _ {tr : List Record} (a : Acceptable tr) where
   pub few-events : begins (past tr (length tr)) ≤ 1024
-  few-events = rw (counted (length tr) (omega arith)) (tally-most 1024 (past tr (length tr)))
+  few-events = few-begins (all-pass a)

@@ -1,11 +1,12 @@
--- The rule for one record: refusals 4 to 6, and then 7 and 8.
+-- The rule for one record, 31 apart: refusals 4 to 6, and then 7 and 8.
 -- Assumes nothing.
 use Prim.Native.Nat.{ℕ}
 use mathlib.Core.Path.{_≡_, refl, _∙_}
-use mathlib.Core.Bool.{Bool, true, false, cond, not}
+use mathlib.Core.Bool.{Bool, true, false, cond, not, _&&_, and-false}
 use native.Mathlib.Omega.{arith}
 use lib.Dec.{eqb}
 use Rattle.records.specs.declared.Record.{Record}
+use Rattle.records.specs.Records.{isBegin}
 use Rattle.trace.specs.Place.{place}
 use Rattle.trace.specs.Rule.{wellFormed, misplaced, again, early, judge}
 use Rattle.trace.specs.Reply.{refused, gives, orElse}
@@ -16,6 +17,10 @@ placeFault s e r = cond (eqb (place s (r .kind)) 3) 4 (cond (not (wellFormed r))
 
 abbrev pub orderFault : Record → Bool → Bool → Bool → ℕ
 orderFault r a b c = cond (again r a b) 7 (cond (early r c) 8 0)
+
+-- without 31 the rule goes on from 7 to 8
+plain-order : (r : Record) (a b c : Bool) → orderFault r a b c ≡ cond (again r a b) 7 (cond (isBegin r && false) 31 (cond (early r c) 8 0))
+plain-order r a b c = simp (and-false (isBegin r))
 
 stays : (x y z : Bool) (t n : ℕ) → n ≡ cond x 4 (cond y 5 (cond z 6 0)) → (n ≡ 0 → ⊥) → n ≡ cond x 4 (cond y 5 (cond z 6 t))
 stays true y z t n e h = e
@@ -31,14 +36,14 @@ goes-on false false false t n e h = refl
 
 module _ (s o : ℕ) (r : Record) (a b c : Bool) {n : ℕ} (e : n ≡ placeFault s o r) where
   -- the first fault is the record's
-  pub by-place : (n ≡ 0 → ⊥) → n ≡ judge s o r a b c
+  pub by-place : (n ≡ 0 → ⊥) → n ≡ judge s o r a b c false
   unfolding judge
-  by-place h = stays (eqb (place s (r .kind)) 3) (not (wellFormed r)) (misplaced s o r) (orderFault r a b c) n e h
+  by-place h = stays (eqb (place s (r .kind)) 3) (not (wellFormed r)) (misplaced s o r) _ n e h
 
   -- where there is none it is the second
-  pub by-order : n ≡ 0 → {m : ℕ} → m ≡ orderFault r a b c → m ≡ judge s o r a b c
+  pub by-order : n ≡ 0 → {m : ℕ} → m ≡ orderFault r a b c → m ≡ judge s o r a b c false
   unfolding judge
-  by-order h q = q ∙ goes-on (eqb (place s (r .kind)) 3) (not (wellFormed r)) (misplaced s o r) (orderFault r a b c) n e h
+  by-order h q = q ∙ plain-order r a b c ∙ goes-on (eqb (place s (r .kind)) 3) (not (wellFormed r)) (misplaced s o r) _ n e h
 
 -- the answer of a fault, and of none
 pub at-fault : (n : ℕ) {j : ℕ} (op next : ℕ) → n ≡ j → (n ≡ 0 → ⊥) → refused n op ≡ orElse j op (gives next)

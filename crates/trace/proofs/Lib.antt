@@ -5,10 +5,16 @@ pub mod Upward
 pub mod Marked
 pub mod StatusLaws
 pub mod Faults
+pub mod PlaceRule
+pub mod Passed
+pub mod Behind
 pub mod Going
 pub mod Accepted
-pub mod PlaceRule
 pub mod Blocks
 pub mod Encoded
 pub mod Events
+pub mod Walks
+pub mod Whole
+pub mod Fronts
+pub mod Replies
 pub mod Examples

@@ -4,7 +4,7 @@ use Prim.Native.Nat.{ℕ, _/_, _%_}
 use mathlib.Core.Bool.{Bool}
 use lib.Dec.{T, eqb, eqb→eq}
 use lib.ListN.{getD}
-use Rattle.trace.specs.Place.{place, outsideEntries, insideEntries, places, EqualReplies}
+use Rattle.trace.specs.Place.{place, highEntries, outsideEntries, insideEntries, places, EqualReplies}
 use Rattle.trace.proofs.Table.{at, every}
 
 -- the rule at entry i
@@ -12,9 +12,9 @@ right : ℕ → ℕ → Bool
 right i x = eqb (place (i / 256) (i % 256)) x
 
 all : T (every right 0 places)
-unfolding right places outsideEntries insideEntries place
+unfolding right places outsideEntries insideEntries highEntries place
 all = tt
 
 pub equal-replies : EqualReplies
-unfolding right places outsideEntries insideEntries
+unfolding right places outsideEntries insideEntries highEntries
 equal-replies i h = eqb→eq _ _ (at right places all i h)

@@ -3,4 +3,5 @@ pub mod Place
 pub mod Rule
 pub mod Reading
 pub mod Paper
+pub mod Plain
 pub mod loops

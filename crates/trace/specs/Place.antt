@@ -24,21 +24,24 @@ abbrev pub outOfPlace : ℕ
 outOfPlace = 4
 
 -- "An event action is joins (perhaps none), begin, then forks, reads and writes, then end. Its joins stand directly before its begin."
--- Kinds 1 to 6 are begin, end, fork, join, read, write. A situation above 2 counts as 2.
+-- Kinds 1 to 6 are begin, end, fork, join, read, write. "Kinds 16 to 19 are sends on links 0 to 3: placed like a fork". A situation above 2 counts as 2.
 unfoldable pub place : ℕ → ℕ → ℕ
 place s k =
     cond (leb 1 k && leb k 6)
     (cond (ltb s 2)
     (cond (eqb k 1) inside (cond (eqb k 4) afterJoin outOfPlace))
     (cond (eqb k 2) between (cond (eqb k 3 || leb 5 k) inside outOfPlace)))
-    unknownKind
+    (cond (leb 16 k && leb k 19) (cond (ltb s 2) outOfPlace inside) unknownKind)
 
--- The 768 entries, situation by situation: kinds 0 to 6, and 249 more that are unknown.
+-- The 768 entries, situation by situation: kinds 0 to 6, 9 that are unknown, the four sends, and 236 more that are unknown.
+unfoldable pub highEntries : ℕ → List ℕ
+highEntries sent = replicate 9 unknownKind ++ (replicate 4 sent ++ replicate 236 unknownKind)
+
 unfoldable pub outsideEntries : List ℕ
-outsideEntries = unknownKind ∷ inside ∷ outOfPlace ∷ outOfPlace ∷ afterJoin ∷ outOfPlace ∷ outOfPlace ∷ replicate 249 unknownKind
+outsideEntries = unknownKind ∷ inside ∷ outOfPlace ∷ outOfPlace ∷ afterJoin ∷ outOfPlace ∷ outOfPlace ∷ highEntries outOfPlace
 
 unfoldable pub insideEntries : List ℕ
-insideEntries = unknownKind ∷ outOfPlace ∷ between ∷ inside ∷ outOfPlace ∷ inside ∷ inside ∷ replicate 249 unknownKind
+insideEntries = unknownKind ∷ outOfPlace ∷ between ∷ inside ∷ outOfPlace ∷ inside ∷ inside ∷ highEntries inside
 
 unfoldable pub places : List ℕ
 places = outsideEntries ++ (outsideEntries ++ insideEntries)

@@ -6,6 +6,7 @@ use records::RECORD_BYTES;
 use records::TRAILER_BYTES;
 use slices::bytes::two;
 ghost use mathlib.Core.Path.{_≡_};
+ghost use mathlib.Core.Bool.{false};
 ghost use Prim.Native.Nat.{_+_, _*_, _-_, _/_, _≤_};
 ghost use lib.ListN.{length};
 ghost use Rattle.slices.specs.Slices.{twoBytes};
@@ -25,7 +26,7 @@ fn distance_at(bytes: &[u8], at: usize) -> usize
 // The first of refusals 1 to 3 that applies to the trailer at, which names the distance d, or 0.
 fn fault(bytes: &[u8], at: usize, d: usize) -> u16
     requires { ⌜ at + trailerBytes ≤ length (now bytes) ⌝ }
-    ensures { λ n. ⌜ (orElse n 0 (gives (record { start = at - d; records = d / recordBytes; events = twoBytes (now (bytes .entry)) (at + 4) }))
+    ensures { λ n. ⌜ (orElse n 0 (gives (record { start = at - d; records = d / recordBytes; events = twoBytes (now (bytes .entry)) (at + 4); sends = false }))
         ≡ trailerReply (now (bytes .entry)) at d) × (n ≡ 0 → d ≤ at) ⌝ }
 {
     if bytes[at + 7] != 167 {
@@ -59,5 +60,5 @@ pub(crate) fn frame(bytes: &[u8]) -> Reading
     if number != 0 {
         return refuse(number, 0);
     }
-    accept(at - d, d / RECORD_BYTES, two(bytes, at + 4) as usize)
+    accept(at - d, d / RECORD_BYTES, two(bytes, at + 4) as usize, false)
 }

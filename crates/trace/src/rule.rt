@@ -1,4 +1,4 @@
-// The rules for one record, 4 to 8, given the situation, the open or joining event, and what has begun and ended before.
+// The rules for one record, 4 to 8 without 31, given the situation, the open or joining event, and what has begun and ended before.
 use crate::Checked;
 use crate::Refusal;
 use crate::place;
@@ -6,7 +6,7 @@ use records::EventId;
 use records::Operation;
 use records::Record;
 ghost use mathlib.Core.Path.{_≡_};
-ghost use mathlib.Core.Bool.{cond, not};
+ghost use mathlib.Core.Bool.{false, cond, not};
 ghost use lib.Dec.{eqb};
 ghost use Rattle.trace.specs.Place.{place};
 ghost use Rattle.trace.specs.Rule.{numbered, wellFormed, misplaced, again, early, judge};
@@ -100,7 +100,13 @@ fn is_again(r: Record, first_begun: bool, second_begun: bool) -> bool
     if kind == 4 {
         return first_begun;
     }
-    false
+    if kind < 16 {
+        return false;
+    }
+    if 19 < kind {
+        return false;
+    }
+    second_begun
 }
 
 fn is_early(r: Record, second_ended: bool) -> bool
@@ -124,7 +130,7 @@ fn fault(
     second_ended: bool,
 ) -> u16
     requires { ⌜ next ≡ place situation (r .kind) ⌝ }
-    ensures { λ n. ⌜ n ≡ judge situation (owner .0) r «first_begun» «second_begun» «second_ended» ⌝ }
+    ensures { λ n. ⌜ n ≡ judge situation (owner .0) r «first_begun» «second_begun» «second_ended» false ⌝ }
 {
     let misplaced = place_fault(next, situation, owner, r);
     if misplaced != 0 {
@@ -133,7 +139,7 @@ fn fault(
     order_fault(r, first_begun, second_begun, second_ended)
 }
 
-// The check of record number op, with the same three facts.
+// The check of record number op, with the same three facts; 31, for a begin that passes, is not tested.
 pub fn check(
     situation: u8,
     owner: EventId,
@@ -144,7 +150,7 @@ pub fn check(
     second_ended: bool,
 ) -> Checked
     ensures { λ c. ⌜ checkedPaper c
-        ≡ orElse (judge situation (owner .0) r «first_begun» «second_begun» «second_ended») (op .0) (gives (place situation (r .kind))) ⌝ }
+        ≡ orElse (judge situation (owner .0) r «first_begun» «second_begun» «second_ended» false) (op .0) (gives (place situation (r .kind))) ⌝ }
 {
     let next = place::next(situation, r.kind);
     let number = fault(

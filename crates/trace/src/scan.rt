@@ -1,5 +1,6 @@
 // Every record checked in turn, and then the end of the trace.
 use crate::Reading;
+use crate::Scanned;
 use crate::accept;
 use crate::place;
 use crate::refuse;
@@ -11,24 +12,31 @@ use records::access::count;
 use records::access::record_at;
 use slices::zeros::bytes_1025;
 ghost use mathlib.Core.Path.{_≡_};
-ghost use mathlib.Core.Bool.{true, cond};
-ghost use mathlib.Core.List.{[]};
+ghost use mathlib.Core.Bool.{true, cond, _&&_, _||_};
 ghost use Prim.Native.Nat.{_+_, _≤_};
-ghost use lib.Dec.{eqb};
+ghost use lib.Dec.{leb, eqb};
 ghost use lib.ListN.{length};
 ghost use Rattle.records.specs.Bytes.{decode};
 ghost use Rattle.trace.specs.Rule.{again, early};
 ghost use Rattle.trace.specs.loops.Inner.{Inner, Accesses};
 ghost use Rattle.trace.specs.loops.Status.{hasBegun, hasEnded, noted};
 ghost use Rattle.trace.specs.Reply.{gives, demand};
-ghost use Rattle.trace.specs.Reading.{walk};
+ghost use Rattle.records.specs.Kinds.{isSend};
+ghost use Rattle.trace.specs.Plain.{Scans};
 ghost use Rattle.trace.specs.Paper.{paper};
 
-// The trace ends after that many records, `found` of them begins, in that situation.
-fn finish(records: usize, start: usize, events: usize, now_in: u8, found: usize) -> Reading
+// The trace ends after that many records, `found` of them begins, in that situation; a send is among them or not.
+fn finish(
+    records: usize,
+    start: usize,
+    events: usize,
+    now_in: u8,
+    found: usize,
+    sends: bool,
+) -> Reading
     requires { ⌜ records ≤ 4096 ⌝ }
     ensures { λ r. ⌜ paper r ≡ demand (eqb «now_in» 0) 9 records
-        (demand (eqb found events) 10 0 (gives (record { start = start; records = records; events = found }))) ⌝ }
+        (demand (eqb found events) 10 0 (gives (record { start = start; records = records; events = found; sends = sends }))) ⌝ }
 {
     if now_in != 0 {
         return refuse(crate::STOPS_INSIDE, records);
@@ -36,7 +44,7 @@ fn finish(records: usize, start: usize, events: usize, now_in: u8, found: usize)
     if found != events {
         return refuse(crate::BEGIN_COUNT, 0);
     }
-    accept(start, records, found)
+    accept(start, records, found, sends)
 }
 
 // The number of the first of refusals 7 and 8 that applies to record r, or 0, by what has begun and ended before. A begin or an end that passes is
@@ -72,10 +80,10 @@ fn is_inner_access(owner: u16, r: Record) -> bool
     if r.kind < 5 {
         return false;
     }
-    if r.first != owner {
+    if 6 < r.kind {
         return false;
     }
-    if place::next(2, r.kind) != 2 {
+    if r.first != owner {
         return false;
     }
     rule::is_numbered(r.second)
@@ -110,32 +118,63 @@ fn one_more(kind: u8, found: usize) -> usize
     found
 }
 
+// Whether a send was met, after a record of that kind.
+fn or_send(kind: u8, sends: bool) -> bool
+    ensures { λ r. ⌜ r ≡ (leb 16 kind && leb kind 19 || sends) ⌝ }
+{
+    if kind < 16 {
+        return sends;
+    }
+    if 19 < kind {
+        return sends;
+    }
+    true
+}
+
+fn stop(reading: Reading, start: usize, passed: usize, sends: bool) -> Scanned
+    ensures { λ s. ⌜ s ≡ record { reading = reading; start = start; passed = passed; sends = sends } ⌝ }
+{
+    Scanned {
+        reading: reading,
+        start: start,
+        passed: passed,
+        sends: sends,
+    }
+}
+
 // The records of a trace that start there, with the number of begins that the trailer names.
-pub(crate) fn scan(recs: &[u8], start: usize, events: usize) -> Reading
+pub(crate) fn scan(recs: &[u8], start: usize, events: usize) -> Scanned
     requires { ⌜ length (decode (now recs)) ≤ 4096 ⌝ }
-    ensures { λ r. ⌜ paper r ≡ walk start events [] (decode (now (recs .entry))) ⌝ }
+    ensures { λ s. ⌜ Scans (decode (now (recs .entry))) start events s ⌝ }
 {
     let records = count(recs);
     let mut status = bytes_1025();
     let mut now_in: u8 = 0;
     let mut owner: u16 = 0;
     let mut found = 0;
+    let mut sends = false;
     let mut i = 0;
     while i < records {
         let r = record_at(recs, i);
         let next = place::next(now_in, r.kind);
         let misplaced = rule::place_fault(next, now_in, EventId(owner), r);
         if misplaced != 0 {
-            return refuse(misplaced, i + 1);
+            return stop(refuse(misplaced, i + 1), start, i, sends);
         }
         let number = admit(&mut status, r);
         if number != 0 {
-            return refuse(number, i + 1);
+            return stop(refuse(number, i + 1), start, i, sends);
         }
         found = one_more(r.kind, found);
+        sends = or_send(r.kind, sends);
         now_in = next;
         owner = r.first;
         i = pass_accesses(recs, now_in, owner, i + 1);
     }
-    finish(records, start, events, now_in, found)
+    stop(
+        finish(records, start, events, now_in, found, sends),
+        start,
+        records,
+        sends,
+    )
 }

@@ -1,4 +1,4 @@
-// Identifiers 0, 1, 1,024 and 1,025 in the first and in the second of each of the six kinds.
+// Identifiers 0, 1, 1,024 and 1,025 in the first and in the second of each of the six kinds and the four kinds of sends.
 use crate::draft::close_and_read;
 use crate::draft::put_record;
 use crate::expect::agrees;
@@ -103,11 +103,27 @@ fn case(kind: u8, second: bool, choice: usize) -> Reading {
     close_and_read(bytes, n, s.events)
 }
 
-// Case i of 48.
+// The kinds one after the other.
+fn kind_of(k: usize) -> u8 {
+    match k {
+        0 => 1,
+        1 => 2,
+        2 => 3,
+        3 => 4,
+        4 => 5,
+        5 => 6,
+        6 => 16,
+        7 => 17,
+        8 => 18,
+        _ => 19,
+    }
+}
+
+// Case i of 80.
 pub(crate) fn agrees_at(i: usize) -> usize
     ensures { λ n. ⌜ n ≤ 1 ⌝ }
 {
-    let kind = (i / 8 % 6 + 1) as u8;
+    let kind = kind_of(i / 8);
     let second = i / 4 % 2 == 1;
     let choice = i % 4;
     let s = shape_of(kind);

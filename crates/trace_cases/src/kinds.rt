@@ -5,12 +5,12 @@ use crate::expect::agrees;
 use trace::Reading;
 ghost use Prim.Native.Nat.{_≤_};
 
-// The refusal that document 01's words give, 0 for none: "An event action is joins (perhaps none), begin, then forks, reads and writes, then end." Unless
-// the record is an end the trace then stops inside an event action or after a join.
+// The refusal that the documents' words give, 0 for none: "An event action is joins (perhaps none), begin, then forks, reads and writes, then end." "Kinds
+// 16 to 19 are sends on links 0 to 3: placed like a fork". Unless the record is an end the trace then stops inside an event action or after a join.
 fn expected(situation: usize, kind: u8) -> u16 {
     let inside = situation == 2;
     match kind {
-        0 | 7..=255 => 4,
+        0 | 7..=15 | 20..=255 => 4,
         1 | 4 => { if inside { 6 } else { 9 } }
         2 => { if inside { 0 } else { 6 } }
         _ => { if inside { 9 } else { 6 } }
@@ -31,7 +31,7 @@ fn case(situation: usize, kind: u8) -> Reading {
     }
     let second = match kind {
         1 | 2 => 0,
-        3 => 3,
+        3 | 16..=19 => 3,
         _ => 1,
     };
     n = put_record(bytes, n, kind, 2, second);

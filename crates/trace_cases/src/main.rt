@@ -1,10 +1,11 @@
-// The reader on the cases of document 01 that are run, not proved: boundaries, every kind byte in every situation, and each refusal with its place.
+// The reader on cases that are run, not proved: boundaries, every kind byte in every situation, each refusal with its place, and links.
 mod bounds;
 mod draft;
 mod expect;
 mod identifiers;
 mod kinds;
 mod refusals;
+mod sends;
 mod show;
 mod tally;
 
@@ -17,5 +18,8 @@ fn main() {
     refusals::each();
     refusals::order();
     refusals::before();
+    sends::alone();
+    sends::order();
+    sends::senders();
     bounds::longest();
 }

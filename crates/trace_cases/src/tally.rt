@@ -37,7 +37,7 @@ fn tally(group: u8, cases: usize) {
 
 pub(crate) fn identifiers() {
     word(b"identifiers");
-    tally(0, 48);
+    tally(0, 80);
 }
 
 pub(crate) fn kinds() {

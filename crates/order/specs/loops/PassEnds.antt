@@ -1,19 +1,16 @@
--- What the pass asks for and what it gives. Assumes nothing.
+-- What the pass, over the records or from the table, asks for and what it gives. Assumes nothing.
 use Prim.Native.Nat.{ℕ, _*_, _≤_, _<_}
 use mathlib.Core.Path.{_≡_}
 use mathlib.Core.Logic.{_≢_}
-use mathlib.Core.Bool.{false}
 use mathlib.Core.List.{List, _++_}
 use lib.ListN.{length, drop}
 use Rattle.records.specs.declared.Record.{Record}
-use Rattle.records.specs.Kinds.{hasSend}
 use Rattle.trace.specs.Reading.{Acceptable}
 use Rattle.ranks.specs.Ranks.{ranksOf}
 use Rattle.order.specs.Fill.{eventsIn, beginPosition, rowPastWidth, chainsUsed, chainTable, traceClocks, noChains}
 
 pub record Ready (tr : List Record) (w : ℕ) (ranks clocks sizes chosen : List ℕ) : Type 0 where
   pub acceptable : Acceptable tr
-  pub no-sends : hasSend tr ≡ false
   pub ranks-are : ranks ≡ ranksOf tr
   pub narrow : w ≤ 1024
   pub room : eventsIn tr * w ≤ length clocks

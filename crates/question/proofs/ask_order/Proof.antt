@@ -1,6 +1,6 @@
 -- `question::ask_order` meets its contract.
 -- Assumes nothing.
-use Rattle.order.proofs.EntryLaws.{refused-reading, records-are, read-acceptable, read-events}
+use Rattle.order.proofs.EntryLaws.{refused-reading, records-are, read-acceptable, read-events, read-sends}
 use Rattle.trace.specs.Reply.{then}
 use Rattle.question.specs.Question.{orderReply}
 use Rattle.trace.specs.Paper.{paper}
@@ -37,7 +37,9 @@ ask-requires c κs =
     let start = at-read .before .before .before in
     let t = c .before .before .reading .given .0 .0 in
     let e = sym (ap paper (c .before .before .reading .given .1)) ∙ at-read .read .ensures in
-    (read-acceptable (now (start .args .bytes)) t e _ (c .records .ensures), read-events (now (start .args .bytes)) t e _ (c .records .ensures))
+    let b = now (start .args .bytes) in
+    let w = c .records .ensures in
+    (read-acceptable b t e _ w, read-events b t e _ w, read-sends b t e _ w)
 
 returns-2 : tie.Need-returns-2
 unfolding orderReply then

@@ -8,7 +8,6 @@ use lib.Dec.{leb, eqb}
 use lib.ListN.{length, getD, set}
 use Rattle.records.specs.declared.Record.{Record}
 use Rattle.records.specs.Records.{at}
-use Rattle.records.specs.Kinds.{hasSend}
 use Rattle.trace.specs.Reading.{Acceptable}
 use Rattle.order.specs.Chains as chains
 use Rattle.question.specs.loops.Marking.{marked, marksIn}
@@ -67,10 +66,9 @@ pub record AreMembers (s : Members) (lasts : List ℕ) (chains first second : �
   pub first-is : first ≡ s .first
   pub second-is : second ≡ s .second
 
--- what the pass over the records asks for and gives
+-- what a pass, over the records or from the table, asks for and gives
 pub record ReadyChains (tr : List Record) (w : ℕ) (ranks : List ℕ) : Type 0 where
   pub acceptable : Acceptable tr
-  pub no-sends : hasSend tr ≡ false
   pub ranks-are : ranks ≡ ranksOf tr
   pub narrow : w ≤ 1024
 

@@ -2,18 +2,20 @@
 use Prim.Native.Nat.{ℕ, zero, suc, _+_, _*_, _-_, _≤_, _<_, max}
 use mathlib.Core.Path.{_≡_}
 use mathlib.Core.Logic.{_≢_}
-use mathlib.Core.Bool.{Bool, cond}
+use mathlib.Core.Bool.{Bool, true, false, cond}
 use mathlib.Core.List.{List, _++_}
 use lib.Dec.{eqb}
 use lib.ListN.{length, getD, drop}
 use Rattle.records.specs.declared.Record.{Record}
 use Rattle.records.specs.Records.{at}
+use Rattle.records.specs.Kinds.{hasSend}
 use Rattle.order.specs.Fill.{eventsIn}
 use Rattle.order.specs.loops.Walk.{walkFrom}
 use Rattle.races.specs.Lists.{entryNumbers, pairsOf, markOf, numbers}
 use Rattle.races.specs.loops.ListPass.{raws}
 use Rattle.races.specs.loops.Marking.{first, second, Remarked}
 use Rattle.races.specs.loops.FilledClocks.{RowsIn}
+use Rattle.races.specs.loops.Leading.{leadIn, MayLead}
 use Rattle.clocks.specs.Rows.{compareIn, rowsIf, mergeRow}
 
 -- The list has the entries of the short list, or of the list of all races, their marks still 0.
@@ -62,39 +64,52 @@ module _ (tr : List Record) (ranks : List ℕ) (width chains u : ℕ) (list : Li
   raiseDown k zero clocks = clocks
   raiseDown k (suc d) clocks = let raised = raiseBy (k + d) clocks in rowsIf (eqb (getD list (entryNumbers * (k + d) + 3) 0) 3) (raiseDown k d raised) raised
 
--- Where raising stands: at the begin of that row, with the chains taken by it and those before; and the clocks.
+-- Where raising stands: at that row, with the chains taken by it and those before; and the clocks. Without a send, position is that of the row's begin.
 pub record Place : Type 0 where
   pub row : ℕ
   pub position : ℕ
   pub chains : ℕ
   pub clocks : List ℕ
 
-module _ (tr : List Record) (ranks chosen : List ℕ) (width : ℕ) where
-  -- on to the next row: rows are merged along the links up to its begin
-  unfoldable pub onward : Place → Place
-  onward s =
-      let r = walkFrom tr ranks width (s .chains) (s .position + 1) (s .clocks) in
-      record { row = s .row + 1; position = r .position; chains = max (s .chains) (getD chosen (s .row + 1) 0 + 1); clocks = r .clocks }
-
-  -- that many rows on
-  unfoldable pub goes : ℕ → Place → Place
-  goes zero s = s
-  goes (suc k) s = goes k (onward s)
-
--- what going on to row u asks for and gives
-pub record MayGo (tr : List Record) (chosen : List ℕ) (row position u : ℕ) : Type 0 where
-  pub ahead : row ≤ u
-  pub known : u < length chosen
-  pub low : u < 65536
-  pub inside : position ≤ length tr
-
 abbrev pub placeAt : ℕ → ℕ → ℕ → List ℕ → Place
 placeAt row position chains clocks = record { row = row; position = position; chains = chains; clocks = clocks }
 
-pub record Went
-    (tr : List Record) (ranks chosen : List ℕ) (width row position chains : ℕ) (clocks : List ℕ)
-    (u row′ position′ chains′ : ℕ) (clocks′ : List ℕ) : Type 0 where
-  pub goes-on : goes tr ranks chosen width (u - row) (placeAt row position chains clocks) ≡ placeAt row′ position′ chains′ clocks′
+module _ (chosen : List ℕ) (width : ℕ) where
+  -- the chains taken up to the next row
+  abbrev moreChains : Place → ℕ
+  moreChains s = max (s .chains) (getD chosen (s .row + 1) 0 + 1)
+
+  -- on to the next row, by the records: rows are merged along the links up to its begin
+  unfoldable pub byRecords : List Record → List ℕ → Place → Place
+  byRecords tr ranks s =
+      let r = walkFrom tr ranks width (s .chains) (s .position + 1) (s .clocks) in
+      placeAt (s .row + 1) (r .position) (moreChains s) (r .clocks)
+
+  -- on to the next row, by the clocks alone
+  unfoldable pub byClocks : Place → Place
+  byClocks s = placeAt (s .row + 1) (s .position) (moreChains s) (leadIn chosen width (s .chains) (s .row + 1) (s .clocks))
+
+  -- records don't say all direct links of a trace with a send
+  abbrev pub onwardBy : Bool → List Record → List ℕ → Place → Place
+  onwardBy true tr ranks = byClocks
+  onwardBy false tr ranks = byRecords tr ranks
+
+abbrev pub onward : List Record → List ℕ → List ℕ → ℕ → Place → Place
+onward tr ranks chosen width = onwardBy chosen width (hasSend tr) tr ranks
+
+-- that many rows on
+unfoldable pub goes : (Place → Place) → ℕ → Place → Place
+goes on zero s = s
+goes on (suc k) s = goes on k (on s)
+
+-- what going on to row u asks for and gives
+pub record MayGo (tr : List Record) (chosen : List ℕ) (width : ℕ) (clocks : List ℕ) (row position u : ℕ) : Type 0 where
+  pub ahead : row ≤ u
+  pub rows : MayLead chosen width clocks u
+  pub inside : position ≤ length tr
+
+pub record Went (on : Place → Place) (row position chains : ℕ) (clocks : List ℕ) (u row′ position′ chains′ : ℕ) (clocks′ : List ℕ) : Type 0 where
+  pub goes-on : goes on (u - row) (placeAt row position chains clocks) ≡ placeAt row′ position′ chains′ clocks′
 
 -- all entries are marked, and what is past the rows is as before
 pub record MarksAll (tr : List Record) (width : ℕ) (clocks clocks′ list list′ : List ℕ) (count : ℕ) : Type 0 where

@@ -1,7 +1,6 @@
 -- `order::rows::fill_rows` meets its contract.
 -- Assumes nothing.
 use Rattle.order.proofs.FillEnds.{ready, ends-short, ends-whole}
-use Rattle.order.proofs.Accepted.{no-sends}
 use Rattle.slices.proofs.Cleared.{zeros-length, cleared-whole}
 use Rattle.order.proofs.TableLaws.{events-few}
 use Rattle.records.specs.Bytes.{decode}
@@ -15,7 +14,7 @@ use Rattle.order.proofs.rows.fill_rows.Statement.{statement}
 use Rattle.order.proofs.rows.fill_rows.Tie as tie
 
 cast-rows : tie.Need-cast-rows
-cast-rows c = omega (arith, c .before .before .before .pre .1, events-few (c .before .before .before .pre .0))
+cast-rows c = let start = c .before .before .before .before in omega (arith, start .pre .1, events-few (start .pre .0))
 
 fill-ranks-requires : tie.Need-fill-ranks-requires
 fill-ranks-requires c κs = search needs
@@ -23,15 +22,20 @@ fill-ranks-requires c κs = search needs
 numbers-1024-requires : tie.Need-numbers-1024-requires
 numbers-1024-requires c κs = search needs
 
-slice-aggregate-pass : tie.Need-slice-aggregate-pass
-slice-aggregate-pass c = search needs
+slice-aggregate-pass-rows : tie.Need-slice-aggregate-pass-rows
+slice-aggregate-pass-rows c = search needs
 
-pass-requires : tie.Need-pass-requires
-pass-requires c κs =
+pass-rows-requires : tie.Need-pass-rows-requires
+pass-rows-requires c κs =
     let at-numbers- = c .before .before .before .before .before in
     let at-fill-ranks = at-numbers- .before in
-    let a = c .before .before .before .before .before .before .before .before .before .before .before in
-    ready _ (a .pre .0) _ _ (a .pre .1) (now (a .args .clocks)) (a .pre .2) (no-sends (a .pre .0)) _ _ _ (at-fill-ranks .fill-ranks .ensures) (at-numbers- .numbers-1024 .ensures) (a .pre .3)
+    let a = at-fill-ranks .before .before .before .before .before .before in (
+      ready _ (a .pre .0) _ _ (a .pre .1) (now (a .args .clocks)) (a .pre .2) _ _ _ (at-fill-ranks .fill-ranks .ensures) (at-numbers- .numbers-1024 .ensures)
+          (a .pre .3),
+      a .pre .1,
+      a .pre .4,
+      a .pre .5,
+    )
 
 count-requires : tie.Need-count-requires
 count-requires c κs = search needs
@@ -42,17 +46,17 @@ clear-rows-requires c κs = search needs
 clear-requires : tie.Need-clear-requires
 clear-requires c κs =
     let at-pass = c .before .before .before .before .before .before .before .before .before .before .before .before in
-    let start = at-pass .before .before .before .before .before .before .before .before .before .before .before .before in
-    omega (arith, at-pass .pass .kept .1 .1 .1 .1 .1 .0, ap length (start .pre .3), zeros-length 1024)
+    let start = at-pass .before .before .before .before .before .before .before .before .before .before .before .before .before in
+    omega (arith, at-pass .pass-rows .kept .1 .1 .1 .1 .1 .1 .1 .1 .0, ap length (start .pre .3), zeros-length 1024)
 
-add-t29 : tie.Need-add-t29
-add-t29 c = search needs
+add-t31 : tie.Need-add-t31
+add-t31 c = search needs
 
-cast-t30 : tie.Need-cast-t30
-cast-t30 c =
+cast-t32 : tie.Need-cast-t32
+cast-t32 c =
     let at-if = c .before .before .before .before .before .before .before .before in
     let at-count = at-if .before in
-    let start = at-count .before .before .before .before .before .before .before .before .before .before .before .before .before .before .before .before .before .before in
+    let start = at-count .before .before .before .before .before .before .before .before .before .before .before .before .before .before .before .before .before .before .before in
     omega (arith, start .pre .0 .few, at-count .count .ensures, at-if .if1 .taken)
 
 same-length : tie.Need-same-length
@@ -68,12 +72,13 @@ returns c =
     let at-count = at-if .before in
     let at-pass = at-count .before .before .before .before .before .before in
     let at-fill-ranks = at-pass .before .before .before .before .before .before .before in
-    let a = c .before .before .before .before .before .before .before .before .before .before .before .before .before .before .before .before .before .before .before .before .before .before .before .before .before .before .before in
-    let p = at-pass .pass in
+    let a = at-fill-ranks .before .before .before .before .before .before in
+    let p = at-pass .pass-rows in
     let h : p .result .position < length (decode (now (a .args .recs))) = omega (arith, at-count .count .ensures, at-if .if1 .taken) in
-    let o = cleared-whole (p .last .1 .1 .1 .1 .1 .0) (sym (p .kept .1 .1 .1 .1 .1 .0 ∙ (ap length (a .pre .3) ∙ zeros-length 1024))) (c .before .before .clear .ensures) in
-    ends-short _ (a .pre .0) _ _ (a .pre .1) (now (a .args .clocks)) (a .pre .2) _ _ _ _ (p .ensures) h _ _ _ (p .kept .1 .1 .0) (at-clear-rows .clear-rows .ensures) o
-    (at-fill-ranks .fill-ranks .ensures) _ refl
+    let kept = p .kept .1 .1 .1 .1 .1 .1 .1 .1 .0 ∙ (ap length (a .pre .3) ∙ zeros-length 1024) in
+    let o = cleared-whole (p .last .1 .1 .1 .1 .1 .1 .1 .1 .0) (sym kept) (c .before .before .clear .ensures) in
+    ends-short _ (a .pre .0) _ _ (a .pre .1) (now (a .args .clocks)) (a .pre .2) _ _ _ _ (p .ensures) h _ _ _ (p .kept .1 .1 .1 .1 .1 .0)
+    (at-clear-rows .clear-rows .ensures) o (at-fill-ranks .fill-ranks .ensures) _ refl
 
 same-length-3 : tie.Need-same-length-3
 same-length-3 c = search needs
@@ -85,8 +90,8 @@ returns-2 : tie.Need-returns-2
 returns-2 c =
     let at-pass = c .before .before .before .before .before .before .before in
     let at-fill-ranks = at-pass .before .before .before .before .before .before .before in
-    let a = c .before .before .before .before .before .before .before .before .before .before .before .before .before .before .before .before .before .before .before in
-    let p = at-pass .pass in
+    let a = at-fill-ranks .before .before .before .before .before .before in
+    let p = at-pass .pass-rows in
     let h : length (decode (now (a .args .recs))) ≤ p .result .position = omega (arith, c .before .count .ensures, c .if1 .left) in
     ends-whole _ (a .pre .0) _ _ (a .pre .1) (now (a .args .clocks)) (a .pre .2) _ _ _ _ (p .ensures) h _ (at-fill-ranks .fill-ranks .ensures) _ refl
 
@@ -97,13 +102,13 @@ fill-rows-spec =
     cast-rows
     fill-ranks-requires
     numbers-1024-requires
-    slice-aggregate-pass
-    pass-requires
+    slice-aggregate-pass-rows
+    pass-rows-requires
     count-requires
     clear-rows-requires
     clear-requires
-    add-t29
-    cast-t30
+    add-t31
+    cast-t32
     same-length
     same-length-2
     returns

@@ -24,7 +24,7 @@ count-requires c κs = search needs
 loop-holds : tie.Need-loop-holds Inv-loop μ-loop
 loop-holds c =
     let start = c .before .before .before .before .before .before in
-    (going-start _ _ _ _ _ _ (start .pre), refl, refl, refl)
+    (going-start _ _ _ _ _ _ (start .pre .0) (start .pre .1), refl, refl, refl)
 
 clear-fresh-requires : tie.Need-clear-fresh-requires Inv-loop μ-loop
 clear-fresh-requires c κs =

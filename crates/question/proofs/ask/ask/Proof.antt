@@ -1,7 +1,6 @@
 -- `question::ask::ask` meets its contract.
 -- Assumes nothing.
 use Rattle.question.proofs.AskLaws.{rank-told, ask-none, ask-space, ask-short, ask-done}
-use Rattle.order.proofs.Accepted.{no-sends}
 use Rattle.order.proofs.SpaceLaws.{has-room}
 use Rattle.trace.specs.Reply.{gives}
 use Rattle.records.specs.Bytes.{decode}
@@ -80,34 +79,38 @@ sub-x c = search needs
 sub-y : tie.Need-sub-y
 sub-y c = search needs
 
-slice-aggregate-chain-pass : tie.Need-slice-aggregate-chain-pass
-slice-aggregate-chain-pass c = search needs
+slice-aggregate-pass-chains : tie.Need-slice-aggregate-pass-chains
+slice-aggregate-pass-chains c = search needs
 
-cast-chain-pass : tie.Need-cast-chain-pass
-cast-chain-pass c = search needs
+cast-pass-chains : tie.Need-cast-pass-chains
+cast-pass-chains c = search needs
 
-cast-chain-pass-2 : tie.Need-cast-chain-pass-2
-cast-chain-pass-2 c = search needs
+cast-pass-chains-2 : tie.Need-cast-pass-chains-2
+cast-pass-chains-2 c = search needs
 
-chain-pass-requires : tie.Need-chain-pass-requires
-chain-pass-requires c κs =
-    let h = c .before .before in
+pass-chains-requires : tie.Need-pass-chains-requires
+pass-chains-requires c κs =
+    let at-if = c .before in
+    let h = at-if .before in
     let r = h .before .before .before .before .before .before .before in
-    record {
-      acceptable = r .before .before .before .pre .0;
-      no-sends = no-sends (r .before .before .before .pre .0);
-      ranks-are = r .ranks .ensures;
-      narrow = has-room _ _ _ (sym (h .has-space .ensures) ∙ not-false (h .has-space .result) (c .before .if3 .left)) .narrow;
-    }
+    let start = r .before .before .before in (
+      record {
+        acceptable = start .pre .0;
+        ranks-are = r .ranks .ensures;
+        narrow = has-room _ _ _ (sym (h .has-space .ensures) ∙ not-false (h .has-space .result) (at-if .if3 .left)) .narrow;
+      },
+      start .pre .1,
+      start .pre .2,
+    )
 
 count-requires : tie.Need-count-requires
 count-requires c κs = search needs
 
-add-t27 : tie.Need-add-t27
-add-t27 c = search needs
+add-t28 : tie.Need-add-t28
+add-t28 c = search needs
 
-cast-t28 : tie.Need-cast-t28
-cast-t28 c = search needs
+cast-t29 : tie.Need-cast-t29
+cast-t29 c = search needs
 
 refused-requires-4 : tie.Need-refused-requires-4
 refused-requires-4 c κs = search needs
@@ -115,8 +118,8 @@ refused-requires-4 c κs = search needs
 returns-4 : tie.Need-returns-4
 returns-4 c =
     let at-count = c .before .before .before .before in
-    let at-chain-pass = at-count .before in
-    let at-if = at-chain-pass .before .before in
+    let at-pass = at-count .before in
+    let at-if = at-pass .before .before in
     let s = c .before .before .before .before .before .before .before .before .before .before .before in
     let q = s .before .before in
     let r = q .before .before in
@@ -124,8 +127,8 @@ returns-4 c =
     let e = rank-told (b .pre .0) (b .args .t .0) (r .ranks .ensures) (q .rank-of .ensures) in
     let f = rank-told (b .pre .0) (b .args .u .0) (r .ranks .ensures) (s .rank-of2 .ensures) in
     let h = c .before .before .before .before .before .before .before .before in
-    let less : at-chain-pass .chain-pass .result .position < length (decode (now (b .args .recs))) = omega (arith, at-count .count .ensures, c .before .before .if4 .taken) in
-    c .refused4 .ensures ∙ sym (ask-short (b .pre .0) (b .args .events) (b .args .width) (b .pre .1) (now (b .args .clocks)) (b .args .t .0) (b .args .u .0) _ _ e f (h .before .before .if1 .left) (h .before .if2 .left) (sym (h .has-space .ensures) ∙ not-false (h .has-space .result) (at-if .if3 .left)) _ _ _ (at-chain-pass .chain-pass .ensures) less)
+    let less : at-pass .pass-chains .result .position < length (decode (now (b .args .recs))) = omega (arith, at-count .count .ensures, c .before .before .if4 .taken) in
+    c .refused4 .ensures ∙ sym (ask-short (b .pre .0) (b .args .events) (b .args .width) (b .pre .1) (now (b .args .clocks)) (b .args .t .0) (b .args .u .0) _ _ e f (h .before .before .if1 .left) (h .before .if2 .left) (sym (h .has-space .ensures) ∙ not-false (h .has-space .result) (at-if .if3 .left)) _ _ _ (at-pass .pass-chains .ensures) less)
 
 cast-relate : tie.Need-cast-relate
 cast-relate c =
@@ -138,8 +141,8 @@ relate-requires c κs = search needs
 
 returns-5 : tie.Need-returns-5
 returns-5 c =
-    let at-chain-pass = c .before .before .before .before in
-    let at-if = at-chain-pass .before .before in
+    let at-pass = c .before .before .before .before in
+    let at-if = at-pass .before .before in
     let s = c .before .before .before .before .before .before .before .before .before .before in
     let q = s .before .before in
     let r = q .before .before in
@@ -147,8 +150,8 @@ returns-5 c =
     let e = rank-told (b .pre .0) (b .args .t .0) (r .ranks .ensures) (q .rank-of .ensures) in
     let f = rank-told (b .pre .0) (b .args .u .0) (r .ranks .ensures) (s .rank-of2 .ensures) in
     let h = c .before .before .before .before .before .before .before in
-    let more : length (decode (now (b .args .recs))) ≤ at-chain-pass .chain-pass .result .position = omega (arith, c .before .before .before .count .ensures, c .before .if4 .left) in
-    ap gives (c .relate .ensures) ∙ sym (ask-done (b .pre .0) (b .args .events) (b .args .width) (b .pre .1) (now (b .args .clocks)) (b .args .t .0) (b .args .u .0) _ _ e f (h .before .before .if1 .left) (h .before .if2 .left) (sym (h .has-space .ensures) ∙ not-false (h .has-space .result) (at-if .if3 .left)) _ _ _ (at-chain-pass .chain-pass .ensures) more)
+    let more : length (decode (now (b .args .recs))) ≤ at-pass .pass-chains .result .position = omega (arith, c .before .before .before .count .ensures, c .before .if4 .left) in
+    ap gives (c .relate .ensures) ∙ sym (ask-done (b .pre .0) (b .args .events) (b .args .width) (b .pre .1) (now (b .args .clocks)) (b .args .t .0) (b .args .u .0) _ _ e f (h .before .before .if1 .left) (h .before .if2 .left) (sym (h .has-space .ensures) ∙ not-false (h .has-space .result) (at-if .if3 .left)) _ _ _ (at-pass .pass-chains .ensures) more)
 
 pub ask-spec : {M : Type 1} → statement M
 ask-spec =
@@ -168,13 +171,13 @@ ask-spec =
     returns-3
     sub-x
     sub-y
-    slice-aggregate-chain-pass
-    cast-chain-pass
-    cast-chain-pass-2
-    chain-pass-requires
+    slice-aggregate-pass-chains
+    cast-pass-chains
+    cast-pass-chains-2
+    pass-chains-requires
     count-requires
-    add-t27
-    cast-t28
+    add-t28
+    cast-t29
     refused-requires-4
     returns-4
     cast-relate

@@ -30,7 +30,8 @@ numbers-1024-requires c κs = search needs
 loop-holds : tie.Need-loop-holds Inv-loop μ-loop
 loop-holds c =
     let start = c .before .before .before .before .before in
-    (going-start _ _ _ _ _ _ (ap length (c .numbers-1024 .ensures) ∙ zeros-length 1024) (start .pre), ap length (c .before .bytes-1024 .ensures) ∙ zeros-length 1024)
+    let size = ap length (c .numbers-1024 .ensures) ∙ zeros-length 1024 in
+    (going-start _ _ _ _ _ _ size (start .pre .0) (start .pre .1), ap length (c .before .bytes-1024 .ensures) ∙ zeros-length 1024)
 
 slice-aggregate-turn : tie.Need-slice-aggregate-turn Inv-loop μ-loop
 slice-aggregate-turn c = sym (c .before .before .loop .inv .1)
@@ -43,7 +44,7 @@ turn-requires c κs =
     let at-count = c .before .before .before .before .before .before in
     let start = at-count .before .before .before in
     let less : c .before .before .before .loop .i < length (decode (now (start .args .recs))) = omega (arith, at-count .count .ensures) in
-    (start .pre .narrow, c .before .before .before .loop .inv .1, going-room _ _ _ _ _ (c .before .before .before .loop .inv .0) less)
+    (start .pre .0 .narrow, c .before .before .before .loop .inv .1, going-room _ _ _ _ _ (c .before .before .before .loop .inv .0) less)
 
 returns : tie.Need-returns Inv-loop μ-loop
 returns c =

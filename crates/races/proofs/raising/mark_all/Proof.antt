@@ -13,10 +13,10 @@ use Rattle.races.proofs.raising.mark_all.Statement.{statement}
 use Rattle.races.proofs.raising.mark_all.Tie as tie
 
 abbrev Inv-loop : tie.InvT-loop
-Inv-loop recs ranks chosen width clocks₀ list₀ count s₀ k₀ clocks list s k = (f : FilledClocks (decode recs) ranks chosen width clocks₀) × (un : Unmarked (decode recs) list₀ count) × Marking f un k (s .row) (s .position) (s .chains) clocks list
+Inv-loop recs ranks chosen width clocks₀ list₀ count sends s₀ k₀ clocks list s k = (f : FilledClocks (decode recs) ranks chosen width clocks₀) × (un : Unmarked (decode recs) list₀ count) × Marking f un k (s .row) (s .position) (s .chains) clocks list
 
 abbrev μ-loop : tie.MeasureT-loop
-μ-loop recs ranks chosen width clocks₀ list₀ count s₀ k₀ clocks list s k = count - k
+μ-loop recs ranks chosen width clocks₀ list₀ count sends s₀ k₀ clocks list s k = count - k
 
 loop-holds : tie.Need-loop-holds Inv-loop μ-loop
 loop-holds c =
@@ -47,7 +47,9 @@ row-at-requires c κs = search needs
 go-on-requires : tie.Need-go-on-requires Inv-loop μ-loop
 go-on-requires c κs =
     let at-loop = c .before .before .before .before in
-    let loop = at-loop .loop in let loop-test = c .before .before .before .loop-test in let row-at = c .before .row-at in may-go (loop .inv .0) (loop .inv .1) (loop .inv .2) (loop-test .taken) _ (row-at .ensures)
+    let loop = at-loop .loop in let loop-test = c .before .before .before .loop-test in let row-at = c .before .row-at in
+    let start = at-loop .before .before .before .before .before .before in
+    (may-go (loop .inv .0) (loop .inv .1) (loop .inv .2) (loop-test .taken) _ (row-at .ensures), start .pre .2)
 
 mark-second-requires : tie.Need-mark-second-requires Inv-loop μ-loop
 mark-second-requires c κs =

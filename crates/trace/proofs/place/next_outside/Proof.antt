@@ -1,10 +1,9 @@
 -- `trace::place::next_outside` meets its contract.
 -- Assumes nothing.
 use mathlib.Core.Path.{refl, sym}
-use mathlib.Core.Logic.{inl, inr}
 use native.Mathlib.Omega.{arith}
 use Rattle.trace.specs.Place.{place}
-use Rattle.trace.proofs.PlaceRule.{place-none, outside-none}
+use Rattle.trace.proofs.PlaceRule.{zero, middle, high, place-none, send-outside, outside-none}
 use Rattle.trace.proofs.place.next_outside.Statement.{statement}
 use Rattle.trace.proofs.place.next_outside.Tie as tie
 
@@ -28,16 +27,16 @@ returns-4 c =
     sym (outside-none _ (omega arith) (omega arith) (n .0 .0 .1) (n .0 .1))
 
 returns-5 : tie.Need-returns-5
-returns-5 c = sym (place-none _ _ (inr (omega arith)))
+returns-5 c = sym (send-outside _ (omega arith) (omega arith) 0 (omega arith))
 
 returns-6 : tie.Need-returns-6
-returns-6 c = sym (place-none _ _ (inl (c .match .keys3)))
+returns-6 c = sym (place-none _ _ (zero (c .match .keys3)))
 
 returns-7 : tie.Need-returns-7
-returns-7 c = sym (place-none _ _ (inr (omega arith)))
+returns-7 c = sym (place-none _ _ (middle (omega arith) (omega arith)))
 
 returns-8 : tie.Need-returns-8
-returns-8 c = sym (place-none _ _ (inr (omega arith)))
+returns-8 c = sym (place-none _ _ (high (omega arith)))
 
 pub next-outside-spec : {M : Type 1} → statement M
 next-outside-spec =

@@ -13,9 +13,6 @@ returns c = λ z. absurd (false≢true z)
 returns-2 : tie.Need-returns-2
 returns-2 c = λ z. absurd (false≢true z)
 
-next-requires : tie.Need-next-requires
-next-requires c κs = search needs
-
 returns-3 : tie.Need-returns-3
 returns-3 c = λ z. absurd (false≢true z)
 
@@ -25,11 +22,11 @@ is-numbered-requires c κs = search needs
 returns-4 : tie.Need-returns-4
 returns-4 c = λ z. record {
   access = omega arith;
-  placed = sym (c .before .before .next .ensures) ∙ c .before .if3 .left;
-  own = c .before .before .before .if2 .left;
+  kind-low = omega arith;
+  own = c .before .if3 .left;
   cell = sym (c .is-numbered .ensures) ∙ z;
 }
 
 pub is-inner-access-spec : {M : Type 1} → statement M
 is-inner-access-spec =
-    tie.close (tie.spec returns returns-2 next-requires returns-3 is-numbered-requires returns-4)
+    tie.close (tie.spec returns returns-2 returns-3 is-numbered-requires returns-4)
