@@ -80,6 +80,9 @@ fn list_race(
     requires { ⌜ OwnIs (now chosen) width (now clocks) (own .row) (own .chain) (own .entry) ⌝ }
     ensures { λ r. ⌜ OneWrites writing (decode (now (recs .entry))) a b k (now (list .entry)) (now (list .exit)) r ⌝ }
 {
+    if 6 < access::kind_at(recs, a) {
+        return k;
+    }
     if !is_unordered(relation(chosen, width, clocks, row_at(recs, ranks, a), own)) {
         return k;
     }
