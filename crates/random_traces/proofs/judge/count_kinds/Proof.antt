@@ -1,19 +1,15 @@
--- `random_traces::judge::count_kind` meets its contract.
+-- `random_traces::judge::count_kinds` meets its contract.
 -- Assumes nothing.
 use borrow.Author.Needs.{needs}
 use Prim.Native.Nat.{_≤_, _-_}
-use Rattle.random_traces.proofs.judge.count_kind.Statement.{statement}
-use Rattle.random_traces.proofs.judge.count_kind.Tie as tie
-use Rattle.random_traces.proofs.paths.is_kind.Reads as is-kind-reads
-use Rattle.random_traces.proofs.slots.pick.Reads as pick-reads
-use Rattle.random_traces.proofs.slots.plus.Reads as plus-reads
-use Rattle.records.proofs.access.count.Reads as count-reads
+use Rattle.random_traces.proofs.judge.count_kinds.Statement.{statement}
+use Rattle.random_traces.proofs.judge.count_kinds.Tie as tie
 
 abbrev Inv-loop : tie.InvT-loop
-Inv-loop recs kind n count₀ i₀ count i = i₀ ≤ i
+Inv-loop recs low high n count₀ i₀ count i = i₀ ≤ i
 
 abbrev μ-loop : tie.MeasureT-loop
-μ-loop recs kind n count₀ i₀ count i = n - i
+μ-loop recs low high n count₀ i₀ count i = n - i
 
 count-requires : tie.Need-count-requires Inv-loop μ-loop
 count-requires c κs = search needs
@@ -21,8 +17,8 @@ count-requires c κs = search needs
 loop-holds : tie.Need-loop-holds Inv-loop μ-loop
 loop-holds c = search needs
 
-is-kind-requires : tie.Need-is-kind-requires Inv-loop μ-loop
-is-kind-requires c κs = search needs
+kind-at-requires : tie.Need-kind-at-requires Inv-loop μ-loop
+kind-at-requires c κs = search needs
 
 pick-requires : tie.Need-pick-requires Inv-loop μ-loop
 pick-requires c κs = search needs
@@ -42,15 +38,15 @@ loop-again c = search needs
 returns : tie.Need-returns Inv-loop μ-loop
 returns c = search needs
 
-pub count-kind-spec : {M : Type 1} → statement M
-count-kind-spec =
+pub count-kinds-spec : {M : Type 1} → statement M
+count-kinds-spec =
     tie.close
     (tie.spec
     Inv-loop
     μ-loop
     count-requires
     loop-holds
-    is-kind-requires
+    kind-at-requires
     pick-requires
     plus-requires
     add-i
