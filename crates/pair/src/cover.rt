@@ -77,15 +77,9 @@ fn find_first(
     let least = search::least_kind(kind);
     let mut c = search::next_access(recs, lo, d, x, least);
     while c < d {
-        if leads_on(
-            chosen,
-            width,
-            clocks,
-            access::kind_at(recs, c),
-            t,
-            row_at(recs, ranks, c),
-            u,
-        ) {
+        let kind = access::kind_at(recs, c);
+        let row = row_at(recs, ranks, c);
+        if leads_on(chosen, width, clocks, kind, t, row, u) {
             return c;
         }
         c = search::next_access(recs, c + 1, d, x, least);
