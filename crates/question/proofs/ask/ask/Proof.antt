@@ -38,7 +38,7 @@ returns c =
     let s = c .before .before in
     let q = s .before .before in
     let r = q .before .before in
-    let b = r .before .before .before in
+    let b = r .before .before .before .before in
     let e = rank-told (b .pre .0) (b .args .t .0) (r .ranks .ensures) (q .rank-of .ensures) in
     let f = rank-told (b .pre .0) (b .args .u .0) (r .ranks .ensures) (s .rank-of2 .ensures) in
     c .refused .ensures ∙ sym (ask-none _ _ _ _ _ _ (inl (sym e ∙ c .before .if1 .taken)))
@@ -51,7 +51,7 @@ returns-2 c =
     let s = c .before .before .before in
     let q = s .before .before in
     let r = q .before .before in
-    let b = r .before .before .before in
+    let b = r .before .before .before .before in
     let e = rank-told (b .pre .0) (b .args .t .0) (r .ranks .ensures) (q .rank-of .ensures) in
     let f = rank-told (b .pre .0) (b .args .u .0) (r .ranks .ensures) (s .rank-of2 .ensures) in
     c .refused2 .ensures ∙ sym (ask-none _ _ _ _ _ _ (inr (sym f ∙ c .before .if2 .taken)))
@@ -67,7 +67,7 @@ returns-3 c =
     let s = c .before .before .before .before .before in
     let q = s .before .before in
     let r = q .before .before in
-    let b = r .before .before .before in
+    let b = r .before .before .before .before in
     let e = rank-told (b .pre .0) (b .args .t .0) (r .ranks .ensures) (q .rank-of .ensures) in
     let f = rank-told (b .pre .0) (b .args .u .0) (r .ranks .ensures) (s .rank-of2 .ensures) in
     let h = c .before .before in
@@ -93,7 +93,7 @@ pass-chains-requires c κs =
     let at-if = c .before in
     let h = at-if .before in
     let r = h .before .before .before .before .before .before .before in
-    let start = r .before .before .before in (
+    let start = r .before .before .before .before in (
       record {
         acceptable = start .pre .0;
         ranks-are = r .ranks .ensures;
@@ -101,16 +101,17 @@ pass-chains-requires c κs =
       },
       start .pre .1,
       start .pre .2,
+      start .pre .3,
     )
 
 count-requires : tie.Need-count-requires
 count-requires c κs = search needs
 
-add-t28 : tie.Need-add-t28
-add-t28 c = search needs
+add-t29 : tie.Need-add-t29
+add-t29 c = search needs
 
-cast-t29 : tie.Need-cast-t29
-cast-t29 c = search needs
+cast-t30 : tie.Need-cast-t30
+cast-t30 c = search needs
 
 refused-requires-4 : tie.Need-refused-requires-4
 refused-requires-4 c κs = search needs
@@ -123,7 +124,7 @@ returns-4 c =
     let s = c .before .before .before .before .before .before .before .before .before .before .before in
     let q = s .before .before in
     let r = q .before .before in
-    let b = r .before .before .before in
+    let b = r .before .before .before .before in
     let e = rank-told (b .pre .0) (b .args .t .0) (r .ranks .ensures) (q .rank-of .ensures) in
     let f = rank-told (b .pre .0) (b .args .u .0) (r .ranks .ensures) (s .rank-of2 .ensures) in
     let h = c .before .before .before .before .before .before .before .before in
@@ -146,7 +147,7 @@ returns-5 c =
     let s = c .before .before .before .before .before .before .before .before .before .before in
     let q = s .before .before in
     let r = q .before .before in
-    let b = r .before .before .before in
+    let b = r .before .before .before .before in
     let e = rank-told (b .pre .0) (b .args .t .0) (r .ranks .ensures) (q .rank-of .ensures) in
     let f = rank-told (b .pre .0) (b .args .u .0) (r .ranks .ensures) (s .rank-of2 .ensures) in
     let h = c .before .before .before .before .before .before .before in
@@ -176,8 +177,8 @@ ask-spec =
     cast-pass-chains-2
     pass-chains-requires
     count-requires
-    add-t28
-    cast-t29
+    add-t29
+    cast-t30
     refused-requires-4
     returns-4
     cast-relate
