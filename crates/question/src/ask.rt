@@ -35,8 +35,8 @@ fn pass_chains(
     events: usize,
     sends: bool,
     ranks: &[u16],
-    x: usize,
-    y: usize,
+    x: u16,
+    y: u16,
     width: usize,
     table: &[u64],
 ) -> Passed
@@ -45,9 +45,9 @@ fn pass_chains(
     ensures { λ r. ⌜ PassesChains (decode (now (recs .entry))) x y width (r .position) (r .first) (r .second) ⌝ }
 {
     if sends {
-        return table_pass(recs, events, ranks, x, y, width, table);
+        return table_pass(recs, events, ranks, x as usize, y as usize, width, table);
     }
-    chain_pass(recs, ranks, x, y, width)
+    chain_pass(recs, ranks, x as usize, y as usize, width)
 }
 
 // Events t and u of an accepted trace, where a record is a send, as the table tells its order, or none is.
@@ -79,16 +79,7 @@ pub(crate) fn ask(
     }
     let x = first - 1;
     let y = second - 1;
-    let passed = pass_chains(
-        recs,
-        events,
-        sends,
-        &all,
-        x as usize,
-        y as usize,
-        width,
-        table,
-    );
+    let passed = pass_chains(recs, events, sends, &all, x, y, width, table);
     if passed.position < access::count(recs) {
         return refused(trace::CHAINS, Operation((passed.position + 1) as u16));
     }

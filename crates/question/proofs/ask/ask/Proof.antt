@@ -82,12 +82,6 @@ sub-y c = search needs
 slice-aggregate-pass-chains : tie.Need-slice-aggregate-pass-chains
 slice-aggregate-pass-chains c = search needs
 
-cast-pass-chains : tie.Need-cast-pass-chains
-cast-pass-chains c = search needs
-
-cast-pass-chains-2 : tie.Need-cast-pass-chains-2
-cast-pass-chains-2 c = search needs
-
 pass-chains-requires : tie.Need-pass-chains-requires
 pass-chains-requires c κs =
     let at-if = c .before in
@@ -107,11 +101,11 @@ pass-chains-requires c κs =
 count-requires : tie.Need-count-requires
 count-requires c κs = search needs
 
-add-t29 : tie.Need-add-t29
-add-t29 c = search needs
+add-t28 : tie.Need-add-t28
+add-t28 c = search needs
 
-cast-t30 : tie.Need-cast-t30
-cast-t30 c = search needs
+cast-t29 : tie.Need-cast-t29
+cast-t29 c = search needs
 
 refused-requires-4 : tie.Need-refused-requires-4
 refused-requires-4 c κs = search needs
@@ -173,12 +167,10 @@ ask-spec =
     sub-x
     sub-y
     slice-aggregate-pass-chains
-    cast-pass-chains
-    cast-pass-chains-2
     pass-chains-requires
     count-requires
-    add-t29
-    cast-t30
+    add-t28
+    cast-t29
     refused-requires-4
     returns-4
     cast-relate
