@@ -243,6 +243,13 @@ pub fn no_bits() -> [u64; 8704]
     [0; 8704]
 }
 
+// No table, for a trace without sends.
+pub fn no_words() -> [u64; 1]
+    ensures { λ r. ⌜ r ≡ zeros 1 ⌝ }
+{
+    [0; 1]
+}
+
 // The position of the first begin that 31 refuses, or the number of records, with a table of its own. Bytes past the last whole record count for nothing:
 // where there are any it asks itself again without them. A function that calls itself is not inlined, so the table stands in no caller's frame.
 pub fn first_blocked(recs: &[u8]) -> usize

@@ -6,6 +6,7 @@ pub mod merging;
 mod rows;
 
 use links::no_bits;
+use links::no_words;
 use records::Operation;
 use records::Trace;
 use records::access;
@@ -16,7 +17,6 @@ use trace::Reading;
 use trace::Refusal;
 ghost use mathlib.Core.Path.{_≡_};
 ghost use lib.ListN.{length};
-ghost use Rattle.slices.specs.Slices.{zeros};
 ghost use Rattle.trace.specs.Paper.{paper};
 ghost use Rattle.trace.specs.Reading.{readReply};
 ghost use Rattle.order.specs.Fill.{noChains};
@@ -200,13 +200,6 @@ pub fn prepare(
         ranks,
         &none,
     )
-}
-
-// No table.
-fn no_words() -> [u64; 1]
-    ensures { λ r. ⌜ r ≡ zeros 1 ⌝ }
-{
-    [0; 1]
 }
 
 // Fills the lent clocks with the clock rows of the trace. No trace has more event actions than 1,024.

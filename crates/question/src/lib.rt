@@ -5,6 +5,7 @@ mod from_table;
 
 use clocks::Relation;
 use links::no_bits;
+use links::no_words;
 use records::EventId;
 use records::access;
 use slices::zeros::numbers_1025;
@@ -12,7 +13,6 @@ use trace::Reading;
 use trace::Refusal;
 ghost use mathlib.Core.Path.{_≡_};
 ghost use Prim.Native.Nat.{_≤_};
-ghost use Rattle.slices.specs.Slices.{zeros};
 ghost use Rattle.trace.specs.Paper.{paper};
 ghost use Rattle.trace.specs.Reading.{readReply};
 ghost use Rattle.order.specs.loops.TablePass.{TellsLinks};
@@ -72,13 +72,6 @@ fn ask_linked(
     let mut table = no_bits();
     let reading = trace::read_linked(bytes, &mut ranks, &mut table);
     ask_read(bytes, reading, width, clocks, t, u, &table)
-}
-
-// No table.
-fn no_words() -> [u64; 1]
-    ensures { λ r. ⌜ r ≡ zeros 1 ⌝ }
-{
-    [0; 1]
 }
 
 // The order question: over clocks that filling left, which of the events' actions happens before the other; over any others, the comparison of their rows.

@@ -7,6 +7,7 @@ use crate::leading::lead_in;
 use crate::refilling::refill;
 use clocks::merge_row;
 use links::no_bits;
+use links::no_words;
 use order::merging::merge_links;
 use ranks::row_at;
 ghost use mathlib.Core.Path.{_≡_};
@@ -304,13 +305,6 @@ fn mark_linked(
         true,
         &mut table,
     );
-}
-
-// No table.
-fn no_words() -> [u64; 1]
-    ensures { λ r. ⌜ r ≡ zeros 1 ⌝ }
-{
-    [0; 1]
 }
 
 // Marks that many entries; the clocks are filled before and after.
