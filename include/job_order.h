@@ -5,6 +5,9 @@
  * - a pointer to one number is to a number of that type, and is not null;
  * - what a call may write (any pointer without const) overlaps nothing else that the same call is given.
  * Nothing is allocated and no state is kept between calls, so calls over different memory may run at the same time.
+ * Stack, everything included: reading 1.6 KB, filling 6.9, a list 9.2, the pair question 8.1, the order question 5.8, the compactor 5.6. Where a record
+ * is a send, a table of 70 KB comes on top: 75, 79, 80, 81, 78 and 79; in the recorder's step only where a link may put an event that is to begin behind
+ * another.
  *
  * The result of each call is 0, or the number of a refusal. Numbers that a call gives through pointers are written in every case. place is the number of the
  * record that a refusal concerns, 0 where it concerns none or nothing is refused; the others, a recorder's state apart, are 0 after a refusal. Memory that a

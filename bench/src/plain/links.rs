@@ -69,8 +69,11 @@ impl Table {
         self.row_at_begin(e).is_none()
     }
 
-    /// Takes a record that passes 4 to 8; false where 31 refuses it.
+    /// Takes a record that passes 4 to 8; false where 31 refuses it. Altered bytes of a recorder may name no event: such a record links nothing.
     pub fn take(&mut self, r: Record) -> bool {
+        if self.rows.len() <= r.first.max(r.second) as usize {
+            return true;
+        }
         match r.kind {
             BEGIN => {
                 let Some(row) = self.row_at_begin(r.first) else { return false };

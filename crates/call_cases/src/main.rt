@@ -1,5 +1,6 @@
 // The boundary cases of filling, the order question, the lists and the pair question, on trace T: widths, spaces just enough and one short, and
-// refusals in their order. Each line has the call, its width and spaces, and the answer.
+// refusals in their order. Then the same calls on traces with sends. Each line has the call, its width and spaces, and the answer.
+mod relay;
 mod show;
 
 use races::Listing;
@@ -85,21 +86,26 @@ struct Spaces {
     list: usize,
 }
 
-fn fill_in(clocks: &mut [u16], width: usize, space: usize) {
-    let t = T;
+fn fill_in(name: &[u8], t: &[u8], clocks: &mut [u16], width: usize, space: usize, shown: usize) {
     if space <= clocks.len() {
-        word(b"fill");
+        word(name);
         number(width);
         number(space);
-        show::filling(order::fill(&t, width, &mut clocks[..space]));
-        show::numbers(clocks, 7);
+        show::filling(order::fill(t, width, &mut clocks[..space]));
+        show::numbers(clocks, shown);
         word(b"\n");
     }
 }
 
 fn fill(width: usize, space: usize) {
+    let t = T;
     let mut clocks = [9u16; 3072];
-    fill_in(&mut clocks, width, space);
+    fill_in(b"fill", &t, &mut clocks, width, space, 7);
+}
+
+fn fill_linked(name: &[u8], t: &[u8], width: usize, space: usize) {
+    let mut clocks = [9u16; 16];
+    fill_in(name, t, &mut clocks, width, space, 11);
 }
 
 fn order_in(
@@ -159,20 +165,22 @@ fn order_forked(first: u16, second: u16) {
 }
 
 fn made(
+    t: &[u8],
     short: bool,
     width: usize,
     clocks: &mut [u16],
     work: &mut [u8],
     list: &mut [u16],
 ) -> Listing {
-    let t = T;
     if short {
-        return races::short_list(&t, width, clocks, work, list);
+        return races::short_list(t, width, clocks, work, list);
     }
-    races::all_races(&t, width, clocks, work, list)
+    races::all_races(t, width, clocks, work, list)
 }
 
 fn list_in(
+    name: &[u8],
+    t: &[u8],
     clocks: &mut [u16],
     work: &mut [u8],
     list: &mut [u16],
@@ -192,12 +200,13 @@ fn list_in(
     if list.len() < l {
         return;
     }
-    word(b"list");
+    word(name);
     number(width);
     number(c);
     number(w);
     number(l);
     show::listing(made(
+        t,
         short,
         width,
         &mut clocks[..c],
@@ -210,25 +219,37 @@ fn list_in(
     word(b"\n");
 }
 
-fn list(short: bool, width: usize, clocks: usize, work: usize, list: usize) {
+fn list_of(name: &[u8], t: &[u8], short: bool, width: usize, s: Spaces) {
     let mut c = [9u16; 64];
     let mut w = [9u8; 8];
     let mut l = [9u16; 32];
-    list_in(
-        &mut c,
-        &mut w,
-        &mut l,
-        short,
-        width,
-        Spaces {
-            clocks: clocks,
-            work: work,
-            list: list,
-        },
-    );
+    list_in(name, t, &mut c, &mut w, &mut l, short, width, s);
+}
+
+fn list(short: bool, width: usize, clocks: usize, work: usize, list: usize) {
+    let t = T;
+    let s = Spaces {
+        clocks: clocks,
+        work: work,
+        list: list,
+    };
+    list_of(b"list", &t, short, width, s);
+}
+
+// Both lists, with ten clocks.
+fn lists_linked(name: &[u8], t: &[u8], width: usize, events: usize, list: usize) {
+    let s = Spaces {
+        clocks: 10,
+        work: events,
+        list: list,
+    };
+    list_of(name, t, true, width, s);
+    list_of(name, t, false, width, s);
 }
 
 fn pair_in(
+    name: &[u8],
+    t: &[u8],
     clocks: &mut [u16],
     work: &mut [u8],
     list: &mut [u16],
@@ -237,7 +258,6 @@ fn pair_in(
     first: u16,
     second: u16,
 ) {
-    let t = T;
     let w = s.work;
     let l = s.list;
     if work.len() < w {
@@ -246,14 +266,14 @@ fn pair_in(
     if list.len() < l {
         return;
     }
-    word(b"pair");
+    word(name);
     number(width);
     number(w);
     number(l);
     number(first as usize);
     number(second as usize);
     show::pair(pair::ask_pair(
-        &t,
+        t,
         width,
         clocks,
         &mut work[..w],
@@ -267,11 +287,13 @@ fn pair_in(
     word(b"\n");
 }
 
-fn pair(width: usize, work: usize, list: usize, first: u16, second: u16) {
+fn pair_of(name: &[u8], t: &[u8], width: usize, work: usize, list: usize, first: u16, second: u16) {
     let mut c = [9u16; 64];
     let mut w = [9u8; 8];
     let mut l = [9u16; 32];
     pair_in(
+        name,
+        t,
         &mut c,
         &mut w,
         &mut l,
@@ -284,6 +306,11 @@ fn pair(width: usize, work: usize, list: usize, first: u16, second: u16) {
         first,
         second,
     );
+}
+
+fn pair(width: usize, work: usize, list: usize, first: u16, second: u16) {
+    let t = T;
+    pair_of(b"pair", &t, width, work, list, first, second);
 }
 
 fn fills() {
@@ -350,10 +377,83 @@ fn pairs() {
     pair(1, 3, 5, 10, 7);
 }
 
+// T with sends on one link for its forks, and record 10 a write: event 3 is behind event 2, and nothing races.
+fn one_link() {
+    let mut t = T;
+    t[5] = 16;
+    t[10] = 16;
+    t[45] = 6;
+    let clocks = [1u16, 2, 3];
+    fill_linked(b"fill, one link", &t, 1, 3);
+    order_in(b"order, one link", &t, &clocks, 1, 3, 2, 3);
+    order_in(b"order, one link", &t, &clocks, 1, 3, 3, 2);
+    lists_linked(b"list, one link", &t, 1, 3, 0);
+    pair_of(b"pair, one link", &t, 1, 3, 6, 7, 10);
+}
+
+// On two links they are T's two chains and races, the first of them between writes.
+fn two_links() {
+    let mut t = T;
+    t[5] = 16;
+    t[10] = 17;
+    t[45] = 6;
+    let clocks = [1u16, 0, 2, 0, 1, 1];
+    fill_linked(b"fill, two links", &t, 2, 6);
+    order_in(b"order, two links", &t, &clocks, 2, 6, 2, 3);
+    lists_linked(b"list, two links", &t, 2, 3, 10);
+    pair_of(b"pair, two links", &t, 2, 3, 6, 7, 10);
+    pair_of(b"pair, two links", &t, 2, 3, 6, 6, 11);
+}
+
+// Event 3 is sent to first, and 2 begins: 31 at record 5, ahead of what else a call refuses.
+fn out_of_order() {
+    let mut t = T;
+    t[5] = 16;
+    t[8] = 3;
+    t[10] = 16;
+    t[13] = 2;
+    let clocks = [1u16, 0, 2, 0, 1, 1];
+    fill_linked(b"fill, out of order", &t, 2, 6);
+    fill_linked(b"fill, out of order", &t, 0, 0);
+    order_in(b"order, out of order", &t, &clocks, 2, 6, 2, 3);
+    order_in(b"order, out of order", &t, &clocks, 0, 0, 4, 4);
+    lists_linked(b"list, out of order", &t, 2, 3, 10);
+    pair_of(b"pair, out of order", &t, 2, 3, 6, 7, 10);
+    pair_of(b"pair, out of order", &t, 0, 0, 0, 0, 0);
+}
+
+fn relayed() {
+    let t = relay::RELAY;
+    let clocks = [1u16, 0, 2, 0, 3, 0, 2, 1, 4, 1];
+    fill_linked(b"fill, relay", &t, 2, 10);
+    fill_linked(b"fill, relay", &t, 1, 5);
+    order_in(b"order, relay", &t, &clocks, 2, 10, 4, 5);
+    order_in(b"order, relay", &t, &clocks, 2, 10, 5, 4);
+    order_in(b"order, relay", &t, &clocks, 2, 10, 3, 4);
+    lists_linked(b"list, relay", &t, 2, 5, 0);
+    pair_of(b"pair, relay", &t, 2, 5, 10, 12, 15);
+}
+
+// Event 5 is sent to on another link.
+fn relayed_apart() {
+    let mut t = relay::RELAY;
+    t[40] = 18;
+    let clocks = [1u16, 0, 2, 0, 3, 0, 2, 1, 4, 0];
+    fill_linked(b"fill, relay apart", &t, 2, 10);
+    order_in(b"order, relay apart", &t, &clocks, 2, 10, 4, 5);
+    lists_linked(b"list, relay apart", &t, 2, 5, 5);
+    pair_of(b"pair, relay apart", &t, 2, 5, 10, 12, 15);
+}
+
 fn main() {
     fills();
     orders();
     orders_over_other_clocks();
     lists();
     pairs();
+    one_link();
+    two_links();
+    out_of_order();
+    relayed();
+    relayed_apart();
 }

@@ -145,11 +145,35 @@ fn longest() {
     word(b"\n");
 }
 
+// begin 1, send to event 2 on link 0, read, the same send again, the same read again, end 1, begin 2, send to event 3 on link 3, end 2: the second read
+// alone is dropped.
+fn sends() {
+    let mut bytes = [0u8; 64];
+    let a = put_record(&mut bytes, 0, 1, 1, 0);
+    let b = put_record(&mut bytes, a, 16, 1, 2);
+    let c = put_record(&mut bytes, b, 5, 1, 2);
+    let d = put_record(&mut bytes, c, 16, 1, 2);
+    let e = put_record(&mut bytes, d, 5, 1, 2);
+    let f = put_record(&mut bytes, e, 2, 1, 0);
+    let g = put_record(&mut bytes, f, 1, 2, 0);
+    let h = put_record(&mut bytes, g, 19, 2, 3);
+    let end = put_record(&mut bytes, h, 2, 2, 0);
+    let n = put_trailer(&mut bytes, end, 45, 2);
+    word(b"sends\n");
+    compact(&bytes, n, 48, 49);
+    compact(&bytes, n, 47, 2);
+    twice(&bytes, n, 48);
+    word(b"sends, event 2 behind one not yet begun\n");
+    put_record(&mut bytes, a, 16, 1, 3);
+    compact(&bytes, n, 64, 2);
+}
+
 fn main() {
     spaces();
     before_record_1();
     empty();
     two_event_actions();
+    sends();
     refused();
     longest();
 }

@@ -13,8 +13,6 @@ use lib.ListN.{length, getD, set, take, drop, length-map, length-drop, length-se
 use lib.Seq.{getD-set-same, getD-set-other, drop-drop, take-at, drop-at}
 use Rattle.records.specs.declared.Record.{Record}
 use Rattle.records.specs.Records.{at, past, eventOf}
-use Rattle.records.specs.Kinds.{baseKind}
-use Rattle.records.proofs.BaseKinds.{base-known, base-kind}
 use Rattle.slices.specs.Slices.{zeros}
 use Rattle.trace.specs.Rule.{numbered}
 use Rattle.trace.specs.Reading.{Acceptable}
@@ -171,19 +169,19 @@ module _ {tr : List Record} (acc : Acceptable tr) where
 
 module _ {tr : List Record} {i : ℕ} {read written : List ℕ} (s : Stamps tr i read written) (l : i < length tr) where
   -- record i is no access
-  pub keeps-other : baseKind (at tr i) < 5 → (true ≡ kept tr i) × Stamps tr (i + 1) read written
-  keeps-other h = (
+  pub keeps-other : at tr i .kind ≢ 5 → at tr i .kind ≢ 6 → (true ≡ kept tr i) × Stamps tr (i + 1) read written
+  keeps-other n m = (
     sym (passed (kept tr i) (not-no (dropped tr i) (λ d. let (j, r) = repeat-of tr i d in go (access-kind (at tr i) (r .access))))),
     record {
       acceptable = s .acceptable;
-      reads = stamped-other (s .acceptable) 5 i (λ e. go (inl e)) (s .reads);
-      writes = stamped-other (s .acceptable) 6 i (λ e. go (inr e)) (s .writes);
+      reads = stamped-other (s .acceptable) 5 i n (s .reads);
+      writes = stamped-other (s .acceptable) 6 i m (s .writes);
     },
   )
     where
       go : (at tr i .kind ≡ 5) ⊎ (at tr i .kind ≡ 6) → ⊥
-      go (inl e) = omega (arith, base-known (at tr i) (omega arith))
-      go (inr e) = omega (arith, base-known (at tr i) (omega arith))
+      go (inl e) = n e
+      go (inr e) = m e
 
   -- it is a read
   as-read : at tr i .kind ≡ 5
@@ -211,17 +209,13 @@ module _ {tr : List Record} {i : ℕ} {read written : List ℕ} (s : Stamps tr i
 
   -- by what stamping its cell gives
   module _ (cell event : ℕ) (cell-is : cell ≡ at tr i .second) (event-is : event ≡ at tr i .first) where
-    pub keeps-read : {r : Bool} {read′ : List ℕ} → baseKind (at tr i) ≡ 5 → (r ≡ not (eqb (getD read cell 0) event)) × (read′ ≡ set read cell event)
+    pub keeps-read : {r : Bool} {read′ : List ℕ} → at tr i .kind ≡ 5 → (r ≡ not (eqb (getD read cell 0) event)) × (read′ ≡ set read cell event)
         → (r ≡ kept tr i) × Stamps tr (i + 1) read′ written
-    keeps-read e (q, w) = let (b, _) = base-kind (at tr i) (omega arith) in let (k, n) = as-read (sym b ∙ e) in (q ∙ rw (cell-is, event-is) k, rw (w, cell-is, event-is) n)
+    keeps-read e (q, w) = let (k, n) = as-read e in (q ∙ rw (cell-is, event-is) k, rw (w, cell-is, event-is) n)
 
-    pub keeps-write : {r : Bool} {written′ : List ℕ} → baseKind (at tr i) ≡ 6 → (r ≡ not (eqb (getD written cell 0) event)) × (written′ ≡ set written cell event)
+    pub keeps-write : {r : Bool} {written′ : List ℕ} → at tr i .kind ≡ 6 → (r ≡ not (eqb (getD written cell 0) event)) × (written′ ≡ set written cell event)
         → (r ≡ kept tr i) × Stamps tr (i + 1) read written′
-    keeps-write e (q, w) = let (b, _) = base-kind (at tr i) (omega arith) in let (k, n) = as-write (sym b ∙ e) in (q ∙ rw (cell-is, event-is) k, rw (w, cell-is, event-is) n)
-
-  -- an access that is no read is a write
-  pub is-write : 5 ≤ baseKind (at tr i) → baseKind (at tr i) ≢ 5 → baseKind (at tr i) ≡ 6
-  is-write h n = let (b, k) = base-kind (at tr i) (omega arith) in omega (arith, n)
+    keeps-write e (q, w) = let (k, n) = as-write e in (q ∙ rw (cell-is, event-is) k, rw (w, cell-is, event-is) n)
 
 -- by the answer to whether a record is kept
 pub not-kept : {q : Bool} (r : Bool) → r ≡ q → not r ≡ true → T q → ⊥

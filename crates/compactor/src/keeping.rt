@@ -35,7 +35,7 @@ fn keeps(recs: &[u8], i: usize, read: &mut [u16], written: &mut [u16]) -> bool
     requires { ⌜ Stamps (decode (now recs)) i (now read) (now written) × (i < length (decode (now recs))) ⌝ }
     ensures { λ r. ⌜ (r ≡ kept (decode (now (recs .entry))) i) × Stamps (decode (now (recs .entry))) (i + 1) (now (read .exit)) (now (written .exit)) ⌝ }
 {
-    let kind = access::base_kind_at(recs, i);
+    let kind = access::kind_at(recs, i);
     if kind < 5 {
         return true;
     }
@@ -43,6 +43,9 @@ fn keeps(recs: &[u8], i: usize, read: &mut [u16], written: &mut [u16]) -> bool
     let e = access::event_at(recs, i);
     if kind == 5 {
         return stamp(read, c, e);
+    }
+    if 6 < kind {
+        return true;
     }
     stamp(written, c, e)
 }

@@ -23,3 +23,5 @@ pub mod Theorems
 pub mod Variants
 pub mod Indexed
 pub mod Embedded
+pub mod Marked
+pub mod MarkTests

@@ -14,7 +14,7 @@ use Rattle.coverage.specs.Cover.{Covers, Covered, Open, coversb}
 use Rattle.coverage.specs.Arrangement.{Last, Arrangement, Accesses, Accessible}
 use Rattle.coverage.specs.Leading.{Leads, leads, coveredb, kept, entries}
 use Rattle.coverage.specs.Neighbours.{Cells, conflicts, Neighbours, neighbour}
-use Rattle.coverage.specs.Lists.{allRaces, shortList, cellWrites, cellReads, cellEntries}
+use Rattle.coverage.specs.Lists.{allRaces, shortList, ShortBound}
 use Rattle.coverage.specs.Demand.{OpenExactly, OpenCells}
 use Rattle.coverage.specs.Retelling.{Shortest}
 use Rattle.coverage.proofs.Order
@@ -75,7 +75,7 @@ module _ (t : Setting) where
   short-ordered = Pairs.short-ordered t
 
   -- "With p writes (at least 1) and q reads there are at most p − 1 + 2q entries."
-  pub short-bound : (s : Cells) (c : ℕ) → 0 < length (cellWrites t s c) → length (cellEntries t s c) ≤ length (cellWrites t s c) - 1 + 2 * length (cellReads t s c)
+  pub short-bound : (s : Cells) → ShortBound t s
   short-bound = Bound.short-bound t
 
 module _ (t : Setting) (w : Laws t) where

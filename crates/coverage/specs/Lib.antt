@@ -9,4 +9,5 @@ pub mod Lists
 pub mod Demand
 pub mod Retelling
 pub mod Embedding
+pub mod Marks
 pub mod loops

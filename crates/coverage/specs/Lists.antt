@@ -1,8 +1,9 @@
 -- The two lists, as pairs (first, second). Assumes nothing.
-use Prim.Native.Nat.{ℕ}
+use Prim.Native.Nat.{ℕ, _+_, _-_, _*_, _≤_, _<_}
 use mathlib.Core.Bool.{_&&_}
 use mathlib.Core.List.{List}
 use lib.Dec.{eqb}
+use lib.ListN.{length}
 use Rattle.coverage.specs.Below.{upto, pairs}
 use Rattle.coverage.specs.Setting.{Setting}
 use Rattle.coverage.specs.Race.{raceb}
@@ -27,3 +28,7 @@ module _ (t : Setting) (s : Cells) (c : ℕ) where
 
   abbrev pub cellEntries : List (ℕ × ℕ)
   cellEntries = pairs (t .size) (λ a b. (neighbour s a b && raceb t a b) && eqb (s .cell b) c)
+
+-- "With p writes (at least 1) and q reads there are at most p − 1 + 2q entries."
+abbrev pub ShortBound : Setting → Cells → Type 0
+ShortBound t s = (c : ℕ) → 0 < length (cellWrites t s c) → length (cellEntries t s c) ≤ length (cellWrites t s c) - 1 + 2 * length (cellReads t s c)

@@ -29,7 +29,7 @@ use Rattle.precedence.proofs.Rows.{begins-later, begins-begun, begun-begins, be
 use Rattle.precedence.proofs.ScanLaws.{row-aside}
 use Rattle.precedence.proofs.Theorems.{refusal-decides}
 use Rattle.links.specs.Rule.{rankIn, Walked, walk}
-use Rattle.links.specs.Fill.{Filled, fillFrom}
+use Rattle.links.specs.Fill.{FilledTable, fillFrom}
 use Rattle.links.specs.Promise.{Lawful, Ranked, Decides, BeginDecides}
 use Rattle.links.specs.Begin as spec
 use Rattle.links.specs.Begin.{sendTo, lastSend, mayTurn, maySent, may, tableBlocked, beginBlocked}
@@ -270,7 +270,7 @@ module _ (tr : List Record) (lawful : (i : ℕ) → i < length tr → Lawful tr 
   abbrev f : ℕ → ℕ
   f = rankIn (ranksOf tr)
 
-  abbrev done : Filled
+  abbrev done : FilledTable
   done = fillFrom tr (rankIn (ranksOf tr)) 0 (length tr) (zeros 8704) (zeros 1025)
 
   by-rank : Ranked tr f n

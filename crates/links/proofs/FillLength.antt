@@ -14,7 +14,7 @@ use Rattle.bits.specs.Words.{withBit, orAt, orFrom, wordsIf}
 use Rattle.bits.specs.Table.{rowStart, inTable, place, bitOf, putBit, orRow}
 use Rattle.bits.proofs.WordLaws.{or-at-length}
 use Rattle.links.specs.Rule.{missing, behind, hits, turnWords, turnSets, turnStuck, Walked, walkedIf, walk}
-use Rattle.links.specs.Fill.{linked, beginRow, begun, stepWords, stepLast, stepStuck, Filled, filledIf, fillFrom, fillAll}
+use Rattle.links.specs.Fill.{linked, beginRow, begun, stepWords, stepLast, stepStuck, FilledTable, filledIf, fillFrom, fillAll}
 
 -- both of two lists of words have one length
 one-length : (b : Bool) (xs ys ws : List ℕ) → length xs ≡ length ws → length ys ≡ length ws → length (wordsIf b xs ys) ≡ length ws

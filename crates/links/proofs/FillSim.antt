@@ -456,7 +456,7 @@ module _ {tr : List Record} {f : ℕ → ℕ} {n : ℕ} (g : Ranked tr f n) wher
 
   module _ (lawful : (i : ℕ) → i < n → Lawful tr i) (small : n ≤ 65535) where
     -- what filling tells, and of a whole table that there is room for more
-    record Ends (done : spec.Filled) : Type 0 where
+    record Ends (done : spec.FilledTable) : Type 0 where
       decides : Decides tr f n done
       whole : done .stop ≡ n → Proper (done .words) × Spare (done .words)
 

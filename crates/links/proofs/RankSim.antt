@@ -21,7 +21,7 @@ use Rattle.precedence.specs.Sound.{Sound}
 use Rattle.precedence.proofs.Rows.{begins-later, begins-begun, begun-or-not}
 use Rattle.precedence.proofs.Theorems.{shorter, table-decides, refusal-decides}
 use Rattle.links.specs.Rule.{rankIn}
-use Rattle.links.specs.Fill.{Filled, fillAll}
+use Rattle.links.specs.Fill.{FilledTable, fillAll}
 use Rattle.links.specs.Promise.{Lawful, Ranked, Decides, DecidesOrder}
 use Rattle.links.proofs.WalkSim.{holds}
 use Rattle.links.proofs.FillSim.{fill-decides}
@@ -180,7 +180,7 @@ unfolding fillAll ranksOf
 all-decided tr lawful few small = fill-decides (ranked tr (length tr) lawful few) lawful small
 
 -- in the documents' words
-module _ {tr : List Record} {f : ℕ → ℕ} {n : ℕ} {done : Filled} (d : Decides tr f n done) where
+module _ {tr : List Record} {f : ℕ → ℕ} {n : ℕ} {done : FilledTable} (d : Decides tr f n done) where
   pub order-decided : DecidesOrder tr f n done
   order-decided = record {
     free-before = λ i l b k.

@@ -1,13 +1,15 @@
 -- The link rule, case by case. Assumes nothing.
-use Prim.Native.Nat.{ℕ, suc, _-_, _≤_, _<_}
-use mathlib.Core.Path.{_≡_, ap, _∙_}
+use Prim.Native.Nat.{ℕ, zero, suc, _+_, _-_, _≤_, _<_}
+use mathlib.Core.Path.{_≡_, refl, sym, ap, ap₂, _∙_}
 use mathlib.Core.Logic.{_≢_}
 use mathlib.Core.Bool.{Bool, true, false}
 use mathlib.Core.List.{List}
 use native.Mathlib.Omega.{arith}
+use native.Mathlib.Decide.{ℕ-discrete}
+use lib.ListN.{length, List·getD-eq-default}
 use borrow.Author.Tests.{lt-ltb, le-ltb, le-leb, lt-leb, eq-eqb, ne-eqb}
 use Rattle.records.specs.declared.Record.{Record}
-use Rattle.records.specs.Records.{at}
+use Rattle.records.specs.Records.{noRecord, at}
 use Rattle.bits.specs.Table.{bitOf, orRow, member, orSet}
 use Rattle.links.specs.Rule.{missing, behind, reach, sends, hits, turnWords, turnSets, turnStuck, Turned, walk}
 
@@ -118,3 +120,25 @@ module _ (tr : List Record) (ranks : ℕ → ℕ) (e u : ℕ) (ws sets : List �
   pub walk-end : (j : ℕ) → j ≤ 0 → record { words = ws; stuck = false } ≡ walk tr ranks e u j ws sets
   unfolding walk
   walk-end j h = let q : j ≡ 0 = omega arith in rw q
+
+  -- past the last record it does nothing
+  past-suc : (j : ℕ) → length tr ≤ j → walk tr ranks e u j ws sets ≡ walk tr ranks e u (suc j) ws sets
+  past-suc j h =
+      let k = ap (λ (r : Record). r .kind) (List·getD-eq-default tr noRecord h) in
+      let t = turn-none ranks e u (at tr j) ws sets (sends-low ranks e u (at tr j) ws sets (omega arith)) in
+      ap₂ (λ (a b : List ℕ). walk tr ranks e u j a b) (t .words-are) (t .sets-are) ∙ walk-suc j (sym (t .stuck-is))
+
+  walk-past : (n d : ℕ) → length tr ≤ n → walk tr ranks e u n ws sets ≡ walk tr ranks e u (d + n) ws sets
+  walk-past n zero h = let q : 0 + n ≡ n = omega arith in rw q refl
+  walk-past n (suc d) h = let q : suc d + n ≡ suc (d + n) = omega arith in rw q (walk-past n d h ∙ past-suc (d + n) (omega arith))
+
+  -- so it may start at the last record
+  pub walk-within : (j from : ℕ) → j ≤ from → (j ≢ from → j ≡ length tr) → walk tr ranks e u j ws sets ≡ walk tr ranks e u from ws sets
+  walk-within j from l n = go (ℕ-discrete j from)
+    where
+      go : Dec (j ≡ from) → walk tr ranks e u j ws sets ≡ walk tr ranks e u from ws sets
+      go (yes q) = ap (λ (i : ℕ). walk tr ranks e u i ws sets) q
+      go (no d) =
+          let k = n d in
+          let q : from - j + j ≡ from = omega arith in
+          walk-past j (from - j) (omega arith) ∙ ap (λ (i : ℕ). walk tr ranks e u i ws sets) q

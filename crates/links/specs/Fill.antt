@@ -47,25 +47,25 @@ pub record Stepped (tr : List Record) (ranks : ℕ → ℕ) (i : ℕ) (ws last :
   pub last-is : last′ ≡ stepLast tr ranks i ws last
 
 -- where filling stopped, and the table
-pub record Filled : Type 0 where
+pub record FilledTable : Type 0 where
   pub stop : ℕ
   pub words : List ℕ
 
 -- a call answers so and leaves that table
-abbrev pub Stops : Filled → ℕ → List ℕ → Type 0
+abbrev pub Stops : FilledTable → ℕ → List ℕ → Type 0
 Stops f stop ws = (stop ≡ f .stop) × (ws ≡ f .words)
 
-abbrev pub filledIf : Bool → Filled → Filled → Filled
+abbrev pub filledIf : Bool → FilledTable → FilledTable → FilledTable
 filledIf true a b = a
 filledIf false a b = b
 
 -- the k records from position i on
-unfoldable pub fillFrom : List Record → (ℕ → ℕ) → ℕ → ℕ → List ℕ → List ℕ → Filled
+unfoldable pub fillFrom : List Record → (ℕ → ℕ) → ℕ → ℕ → List ℕ → List ℕ → FilledTable
 fillFrom tr ranks i zero ws last = record { stop = i; words = ws }
 fillFrom tr ranks i (suc k) ws last =
     filledIf (stepStuck tr ranks i ws last) (record { stop = i; words = stepWords tr ranks i ws last })
     (fillFrom tr ranks (suc i) k (stepWords tr ranks i ws last) (stepLast tr ranks i ws last))
 
 -- all records, by their own ranks, from a table without bits
-unfoldable pub fillAll : List Record → Filled
+unfoldable pub fillAll : List Record → FilledTable
 fillAll tr = fillFrom tr (rankIn (ranksOf tr)) 0 (length tr) (zeros 8704) (zeros 1025)

@@ -13,7 +13,7 @@ use Rattle.records.specs.Kinds.{starts}
 use Rattle.precedence.specs.Before.{Begins, Before, BlockedFor, Blocked}
 use Rattle.precedence.specs.Table.{table, blockedFor, blocked}
 use Rattle.precedence.specs.Sound.{Sound}
-use Rattle.links.specs.Fill.{Filled}
+use Rattle.links.specs.Fill.{FilledTable}
 
 -- What the check of record i finds by 4 to 8, 31 apart.
 pub record Lawful (tr : List Record) (i : ℕ) : Type 0 where
@@ -33,7 +33,7 @@ pub record Ranked (tr : List Record) (f : ℕ → ℕ) (n : ℕ) : Type 0 where
   pub rises : (x y : ℕ) (b : Begins tr n x) (c : Begins tr n y) → b .position < c .position → f x < f y
 
 -- Filling stops at the first begin that 31 refuses; where there is none, its bits are happens-before.
-pub record Decides (tr : List Record) (f : ℕ → ℕ) (n : ℕ) (done : Filled) : Type 0 where
+pub record Decides (tr : List Record) (f : ℕ → ℕ) (n : ℕ) (done : FilledTable) : Type 0 where
   pub inside : done .stop ≤ n
   pub sound : Sound tr (done .stop)
   pub refuses : done .stop < n → T (isBegin (at tr (done .stop))) × (blocked tr (done .stop) ≡ true)
@@ -41,7 +41,7 @@ pub record Decides (tr : List Record) (f : ℕ → ℕ) (n : ℕ) (done : Filled
 
 -- The same in the documents' words: "Refusal 31, following 7 on a begin and placed there, is for an event that a link puts behind another target not
 -- yet begun." and "t happens before u".
-pub record DecidesOrder (tr : List Record) (f : ℕ → ℕ) (n : ℕ) (done : Filled) : Type 0 where
+pub record DecidesOrder (tr : List Record) (f : ℕ → ℕ) (n : ℕ) (done : FilledTable) : Type 0 where
   pub free-before : (i : ℕ) → i < done .stop → T (isBegin (at tr i)) → Blocked tr i → ⊥
   pub refused-there : done .stop < n → T (isBegin (at tr (done .stop))) × Blocked tr (done .stop)
   pub happens-before : done .stop ≡ n → (t u : ℕ) → Begins tr n t → Begins tr n u → T (bitOf (done .words) (f t - 1) (f u - 1)) ↔ Before tr n t u

@@ -14,7 +14,8 @@ use records::access;
 use slices::numbers;
 use slices::zeros::numbers_1025;
 ghost use mathlib.Core.Path.{_≡_};
-ghost use Prim.Native.Nat.{_<_};
+ghost use mathlib.Core.Logic.{_≢_};
+ghost use Prim.Native.Nat.{_≤_, _<_};
 ghost use lib.ListN.{length};
 ghost use Rattle.slices.specs.Slices.{zeros};
 ghost use Rattle.records.specs.Bytes.{decode};
@@ -86,7 +87,18 @@ fn link_turn(
     put_behind(table, rank_of(ranks, target), u)
 }
 
-// The walk down from position j.
+// The position `from`, or the number of records where that is less.
+fn within(recs: &[u8], from: usize) -> usize
+    ensures { λ r. ⌜ (r ≤ from) × (r ≢ from → r ≡ length (decode (now (recs .entry)))) ⌝ }
+{
+    let n = access::count(recs);
+    if n < from {
+        return n;
+    }
+    from
+}
+
+// The walk down from position `from`. Begun within the records, no turn needs a test that its record is there.
 fn link_walk(
     recs: &[u8],
     ranks: &[u16],
@@ -99,7 +111,7 @@ fn link_walk(
     ensures { λ r. ⌜ Leaves (walk (decode (now (recs .entry))) (rankIn (now (ranks .entry))) (e .0) u from
         (now (table .entry)) (now (sets .entry))) r (now (table .exit)) ⌝ }
 {
-    let mut j = from;
+    let mut j = within(recs, from);
     while 0 < j {
         j -= 1;
         if link_turn(recs, ranks, j, e, u, table, sets) {
@@ -229,6 +241,13 @@ pub fn no_bits() -> [u64; 8704]
     ensures { λ r. ⌜ r ≡ zeros 8704 ⌝ }
 {
     [0; 8704]
+}
+
+// No table, for a trace without sends.
+pub fn no_words() -> [u64; 1]
+    ensures { λ r. ⌜ r ≡ zeros 1 ⌝ }
+{
+    [0; 1]
 }
 
 // The position of the first begin that 31 refuses, or the number of records, with a table of its own. Bytes past the last whole record count for nothing:

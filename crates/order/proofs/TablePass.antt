@@ -60,12 +60,6 @@ module _ {tr : List Record} (a : Acceptable tr) where
   unfolding eventsIn
   table-tells e = record { forward = forward-links a; tests = λ p u h k. ap (λ (ws : List ℕ). bitOf ws p u) e ∙ tells-rows p u h k }
 
--- what filling by ranks at hand, from a table without bits, leaves
-pub filled-words : (tr : List Record) (ranks table₀ words : List ℕ) (stop : ℕ) → ranks ≡ ranksOf tr → table₀ ≡ zeros 8704
-    → Stops (fillFrom tr (rankIn ranks) 0 (length tr) table₀ (zeros 1025)) stop words → words ≡ fillAll tr .words
-unfolding fillAll
-filled-words tr ranks table₀ words stop e z s = s .1 ∙ rw (e, z) refl
-
 -- where a pass from the table came to
 module _ (tr : List Record) (w rows position : ℕ) (e : rows ≡ rowPastWidth tr w) (p : position ≡ beginPosition tr rows) where
   pub position-whole : rowPastWidth tr w ≡ eventsIn tr → position ≡ length tr

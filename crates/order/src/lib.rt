@@ -6,6 +6,7 @@ pub mod merging;
 mod rows;
 
 use links::no_bits;
+use links::no_words;
 use records::Operation;
 use records::Trace;
 use records::access;
@@ -16,7 +17,6 @@ use trace::Reading;
 use trace::Refusal;
 ghost use mathlib.Core.Path.{_≡_};
 ghost use lib.ListN.{length};
-ghost use Rattle.slices.specs.Slices.{zeros};
 ghost use Rattle.trace.specs.Paper.{paper};
 ghost use Rattle.trace.specs.Reading.{readReply};
 ghost use Rattle.order.specs.Fill.{noChains};
@@ -165,43 +165,34 @@ fn prepare_linked(
     )
 }
 
-// Reads the trace once and fills the lent clocks, for a call that asks about the records from the lowest to the highest and has a work space of `room`
+// Reads the trace once and fills the lent clocks, for a call that asks about the records from `low` to `high` and has a work space of `room`
 // bytes: 11 comes before 21, and 22 between 21 and 23. Gives the chain of each row in `chosen`, and the ranks of all events in `ranks` where the call
 // passes 22.
 pub fn prepare(
     bytes: &[u8],
-    lowest: Operation,
-    highest: Operation,
+    low: Operation,
+    high: Operation,
     width: usize,
     room: usize,
     clocks: &mut [u16],
     chosen: &mut [u16; 1024],
     ranks: &mut [u16; 1025],
 ) -> Prepared
-    ensures { λ r. ⌜ Prepares (now (bytes .entry)) (readWithin (now (bytes .entry)) (lowest .0) (highest .0) width (length (now (clocks .entry))) room)
+    ensures { λ r. ⌜ Prepares (now (bytes .entry)) (readWithin (now (bytes .entry)) (low .0) (high .0) width (length (now (clocks .entry))) room)
         width (now (clocks .entry)) (now (clocks .exit)) (now (chosen .exit)) (now (ranks .entry)) (now (ranks .exit)) (r .answer) (r .trace) ⌝ }
 {
     clear(chosen, 1024);
     let first = trace::read_plain(bytes);
     if first.sends {
-        return prepare_linked(
-            bytes,
-            lowest.0,
-            highest.0,
-            width,
-            room,
-            clocks,
-            chosen,
-            ranks,
-        );
+        return prepare_linked(bytes, low.0, high.0, width, room, clocks, chosen, ranks);
     }
     let reading = first.reading;
     let none = no_words();
     fill_within(
         bytes,
         reading,
-        lowest.0,
-        highest.0,
+        low.0,
+        high.0,
         width,
         room,
         clocks,
@@ -209,13 +200,6 @@ pub fn prepare(
         ranks,
         &none,
     )
-}
-
-// No table.
-fn no_words() -> [u64; 1]
-    ensures { λ r. ⌜ r ≡ zeros 1 ⌝ }
-{
-    [0; 1]
 }
 
 // Fills the lent clocks with the clock rows of the trace. No trace has more event actions than 1,024.

@@ -15,15 +15,17 @@ use slices::zeros::numbers_1024;
 use trace::Refusal;
 ghost use mathlib.Core.Path.{_≡_};
 ghost use mathlib.Core.Bool.{true, false};
-ghost use Prim.Native.Nat.{_*_, _-_, _≤_, _<_, min};
+ghost use Prim.Native.Nat.{_+_, _*_, _-_, _≤_, _<_, min};
 ghost use lib.Dec.{T, eqb};
 ghost use lib.ListN.{length, getD};
 ghost use Rattle.records.specs.Bytes.{decode};
 ghost use Rattle.records.specs.Kinds.{hasSend};
 ghost use Rattle.links.specs.Fill.{fillAll};
+ghost use Rattle.trace.specs.Reply.{Reply};
 ghost use Rattle.trace.specs.Reading.{Acceptable};
 ghost use Rattle.clocks.specs.Rows.{spaceFor, rowsIf, clearRow};
 ghost use Rattle.order.specs.Fill.{eventsIn, noChains};
+ghost use Rattle.order.specs.Paper.{fillPaper};
 ghost use Rattle.order.specs.Prepare.{noTrace};
 ghost use Rattle.order.specs.loops.FillsTrace.{FillsTrace};
 ghost use Rattle.order.specs.loops.PassEnds.{Ready, Passes};
@@ -166,6 +168,17 @@ pub(crate) fn unfilled(why: Refusal) -> Prepared
     }
 }
 
+// Refused at the begin at that position, whose chain has no place in the width.
+fn past_width(position: usize) -> Filling
+    requires { ⌜ position < 65535 ⌝ }
+    ensures { λ r. ⌜ fillPaper r ≡ Reply.refused 23 (position + 1) ⌝ }
+{
+    Filling::Refused(Refusal {
+        number: trace::CHAINS,
+        place: Operation((position + 1) as u16),
+    })
+}
+
 // The rows of an accepted trace that has the space for them, the chain of each row, all 0 after 23, and the ranks of all events; where a record is a
 // send, from the table.
 pub(crate) fn fill_rows(
@@ -202,10 +215,7 @@ pub(crate) fn fill_rows(
     if position < access::count(recs) {
         clear_rows(clocks, width, rows);
         clear(chosen, 1024);
-        return Filling::Refused(Refusal {
-            number: trace::CHAINS,
-            place: Operation((position + 1) as u16),
-        });
+        return past_width(position);
     }
     Filling::Filled(passed.chains)
 }

@@ -6,6 +6,7 @@ use mathlib.Core.Bool.{Bool, true, false, not, _&&_}
 use mathlib.Core.List.{List, [], _∷_, _++_, append-assoc}
 use native.Mathlib.Omega.{arith}
 use native.Mathlib.Decide.{ℕ-discrete}
+use borrow.Author.Tests.{le-leb, lt-leb}
 use lib.Dec.{T}
 use lib.ListN.{length, getD, set, length-append, length-map}
 use Rattle.records.specs.declared.Record.{Record}
@@ -36,7 +37,7 @@ use Rattle.pair.proofs.RecordRows.{starts-parted, rank-rises, rank-some
 use Rattle.pair.proofs.RowMarks.{marks-tell}
 use Rattle.trace.proofs.Events.{few-events}
 use Rattle.races.proofs.FilledLaws.{rank-is, chosen-length, before-told, unordered-told}
-use Rattle.races.proofs.CandidateLaws.{racing, past-quiet, kind-access, access-base, kind-no-access}
+use Rattle.races.proofs.CandidateLaws.{racing, past-quiet, other-quiet, kind-access, access-base, kind-no-access}
 use Rattle.races.proofs.ListLaws.{may-race, may-found}
 use Rattle.pair.proofs.PairEntries.{no-entries, entries-room, put-more}
 
@@ -146,8 +147,8 @@ module _ {tr : List Record} {ranks chosen : List ℕ} {width : ℕ} {clocks : Li
     pub along-end : d ≤ c → FirstFrom tr ranks work lo t d c
     along-end l b y m h q = first-none b y c l (λ z k i _ r. n .none y z h q k (omega arith) r)
 
-    -- the test of c, of row s
-    module _ (l : c < d) {s : ℕ} (es : s ≡ getD ranks (eventOf (at tr c)) 0 - 1) where
+    -- the test of c, of that kind and row s
+    module _ (l : c < d) {kind s : ℕ} (ek : kind ≡ at tr c .kind) (es : s ≡ getD ranks (eventOf (at tr c)) 0 - 1) where
       inside-c : c < length tr
       inside-c = omega arith
 
@@ -159,20 +160,31 @@ module _ {tr : List Record} {ranks chosen : List ℕ} {width : ℕ} {clocks : Li
           let m = few-events acc in
           (f .narrow, omega (arith, k, m), omega (arith, row-c, row-low acc c inside-c, m), omega (arith, row-of-d u (n .row-is), row-low acc d inside, m), chosen-length f)
 
-      told : (y : ℕ) → y < length tr → rowOf tr y ≡ t → racesFrom tr y c d ≡ goesOn chosen width clocks t s u
+      told-send : (y : ℕ) → 6 < kind → racesFrom tr y c d ≡ goesOn chosen width clocks kind t s u
       unfolding racesFrom goesOn
-      told y h q = ap₂ _&&_
-          (may-race tr acc c d l inside (kind-access (at tr d) (n .access)) (may-found tr c d (n .cell-is) (n .least-is) (n .may l)) ∙ sym (unordered-told f c d s u inside-c inside row-c (row-of-d u (n .row-is)) l))
-          (sym (before-told f y c t s h inside-c (sym q) row-c))
+      told-send y h = rw (other-quiet tr c d (omega arith), lt-leb kind 6 h) refl
 
-      pub along-found : goesOn chosen width clocks t s u ≡ true → FirstFrom tr ranks work lo t d c
+      told-access : (y : ℕ) → y < length tr → rowOf tr y ≡ t → kind ≤ 6 → racesFrom tr y c d ≡ goesOn chosen width clocks kind t s u
+      unfolding racesFrom goesOn
+      told-access y h q k = rw (le-leb kind 6 k) (ap₂ _&&_
+          (may-race tr acc c d l inside (kind-access (at tr d) (n .access)) (omega arith) (may-found tr c d (n .cell-is) (n .least-is) (n .may l)) ∙ sym (unordered-told f c d s u inside-c inside row-c (row-of-d u (n .row-is)) l))
+          (sym (before-told f y c t s h inside-c (sym q) row-c)))
+
+      told : (y : ℕ) → y < length tr → rowOf tr y ≡ t → racesFrom tr y c d ≡ goesOn chosen width clocks kind t s u
+      told y h q = go (lt-or-ge 6 kind)
+        where
+          go : (6 < kind) ⊎ (kind ≤ 6) → racesFrom tr y c d ≡ goesOn chosen width clocks kind t s u
+          go (inl k) = told-send y k
+          go (inr k) = told-access y h q k
+
+      pub along-found : goesOn chosen width clocks kind t s u ≡ true → FirstFrom tr ranks work lo t d c
       along-found v b y m h q = record { found = λ k. (leading (leads (settingOf tr) b (eventOf (at tr d))) (marked work u (n .row-is) b m), subst T (sym (told y h q ∙ v)) tt); none = λ k. absurd (omega arith) }
         where
           leading : (v : Bool) → getD work u 0 ≡ mark v → T v
           leading true z = tt
           leading false z = absurd (n .marked-is z)
 
-      pub along-next : {r : ℕ} → goesOn chosen width clocks t s u ≡ false → NextAccess tr least x (c + 1) d r → Along work u x least r
+      pub along-next : {r : ℕ} → goesOn chosen width clocks kind t s u ≡ false → NextAccess tr least x (c + 1) d r → Along work u x least r
       along-next {r} off p = record { cell-is = n .cell-is; least-is = n .least-is; access = n .access; row-is = n .row-is; marked-is = n .marked-is; high = p .high; may = p .found; none = λ y z h q m k w. go y z h q m k w (lt-or-ge z c) (lt-or-ge c z) }
         where
           go : (y z : ℕ) → y < length tr → rowOf tr y ≡ t → lo ≤ z → z < r → T (racesFrom tr y z d) → (z < c) ⊎ (c ≤ z) → (c < z) ⊎ (z ≤ c) → ⊥

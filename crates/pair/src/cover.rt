@@ -26,11 +26,22 @@ pub(crate) struct Step {
     pub second: usize,
 }
 
-// Is row c unordered with row d, and does row t happen before it?
-fn leads_on(chosen: &[u16], width: usize, clocks: &[u16], t: usize, c: usize, d: usize) -> bool
+// Is a record of that kind no send, its row c unordered with row d, and does row t happen before it?
+fn leads_on(
+    chosen: &[u16],
+    width: usize,
+    clocks: &[u16],
+    kind: u8,
+    t: usize,
+    c: usize,
+    d: usize,
+) -> bool
     requires { ⌜ (width ≤ 1024) × (t < 1024) × (c < 1024) × (d < 1024) × (length (now chosen) ≡ 1024) ⌝ }
-    ensures { λ r. ⌜ r ≡ goesOn (now (chosen .entry)) width (now (clocks .entry)) t c d ⌝ }
+    ensures { λ r. ⌜ r ≡ goesOn (now (chosen .entry)) width (now (clocks .entry)) kind t c d ⌝ }
 {
+    if 6 < kind {
+        return false;
+    }
     if !is_unordered(racing::relate_rows(chosen, width, clocks, c, d)) {
         return false;
     }
@@ -66,7 +77,9 @@ fn find_first(
     let least = search::least_kind(kind);
     let mut c = search::next_access(recs, lo, d, x, least);
     while c < d {
-        if leads_on(chosen, width, clocks, t, row_at(recs, ranks, c), u) {
+        let kind = access::kind_at(recs, c);
+        let row = row_at(recs, ranks, c);
+        if leads_on(chosen, width, clocks, kind, t, row, u) {
             return c;
         }
         c = search::next_access(recs, c + 1, d, x, least);

@@ -4,6 +4,7 @@ mod kept;
 mod racing;
 
 use order::Filling;
+use order::Prepared;
 use ranks::row_at;
 use records::Operation;
 use records::access;
@@ -20,11 +21,12 @@ ghost use Rattle.records.specs.Bytes.{decode};
 ghost use Rattle.ranks.specs.Ranks.{ranksOf};
 ghost use Rattle.trace.specs.Reply.{Reply};
 ghost use Rattle.order.specs.Fill.{chainsUsed};
+ghost use Rattle.order.specs.Paper.{Prepares};
 ghost use Rattle.coverage.specs.Race.{raceb};
 ghost use Rattle.coverage.specs.Leading.{entries};
 ghost use Rattle.races.specs.Traces.{settingOf};
 ghost use Rattle.races.specs.loops.FilledClocks.{FilledClocks, rows, Clear};
-ghost use Rattle.pair.specs.Pair.{entryNumbers, pairPaper, withEntries, keptEntries, PairPromise};
+ghost use Rattle.pair.specs.Pair.{entryNumbers, pairPaper, withEntries, keptEntries, pairReady, PairPromise};
 ghost use Rattle.pair.specs.loops.Answers.{AnswersFilled};
 ghost use Rattle.pair.specs.loops.PairSearch.{PutsEnd};
 ghost use Rattle.pair.specs.loops.Leading.{Marks};
@@ -148,6 +150,25 @@ fn ask_filled(
     PairAnswer::Open(count)
 }
 
+// Reads the trace and fills the clocks, for a question about records a and b.
+fn prepare_pair(
+    bytes: &[u8],
+    a: Operation,
+    b: Operation,
+    width: usize,
+    room: usize,
+    clocks: &mut [u16],
+    chosen: &mut [u16; 1024],
+    ranks: &mut [u16; 1025],
+) -> Prepared
+    ensures { λ r. ⌜ Prepares (now (bytes .entry)) (pairReady (now (bytes .entry)) width (length (now (clocks .entry))) room (a .0) (b .0)) width
+        (now (clocks .entry)) (now (clocks .exit)) (now (chosen .exit)) (now (ranks .entry)) (now (ranks .exit)) (r .answer) (r .trace) ⌝ }
+{
+    let lowest = Operation(smaller(a.0, b.0));
+    let highest = Operation(larger(a.0, b.0));
+    order::prepare(bytes, lowest, highest, width, room, clocks, chosen, ranks)
+}
+
 // The pair question: clocks are filled on the way, and entries are two numbers each in the list space.
 pub fn ask_pair(
     bytes: &[u8],
@@ -163,18 +184,8 @@ pub fn ask_pair(
 {
     let mut chosen = numbers_1024();
     let mut ranks = numbers_1025();
-    let lowest = smaller(a.0, b.0);
-    let highest = larger(a.0, b.0);
-    let prepared = order::prepare(
-        bytes,
-        Operation(lowest),
-        Operation(highest),
-        width,
-        work.len(),
-        clocks,
-        &mut chosen,
-        &mut ranks,
-    );
+    let room = work.len();
+    let prepared = prepare_pair(bytes, a, b, width, room, clocks, &mut chosen, &mut ranks);
     let t = prepared.trace;
     let events = t.events;
     clear(work, events);

@@ -1,4 +1,4 @@
-// Both lists as pair structs, on trace T and two more: the entries by value, and spaces just enough and one short.
+// Both lists as pair structs, on trace T, two more and T with sends: the entries by value, and spaces just enough and one short.
 // Each line has the trace, the list, its width and number space, the answer, the four pairs, and the first ten numbers.
 mod four;
 
@@ -366,9 +366,35 @@ fn on_v() {
     roomy(b"V all", &v, false, 2);
 }
 
+// T with sends for its forks and record 10 a write.
+fn on_links() {
+    let mut t = T;
+    t[5] = 16;
+    t[10] = 16;
+    t[45] = 6;
+    roomy(b"one link short", &t, true, 1);
+    roomy(b"one link all", &t, false, 1);
+    t[10] = 17;
+    roomy(b"two links short", &t, true, 2);
+    roomy(b"two links all", &t, false, 2);
+}
+
+// Event 3 is sent to first, and 2 begins.
+fn out_of_order() {
+    let mut t = T;
+    t[5] = 16;
+    t[8] = 3;
+    t[10] = 16;
+    t[13] = 2;
+    roomy(b"out of order short", &t, true, 2);
+    roomy(b"out of order all", &t, false, 0);
+}
+
 fn main() {
     on_t();
     on_u();
     on_v();
+    on_links();
+    out_of_order();
     roomy(b"none all", &[], false, 2);
 }

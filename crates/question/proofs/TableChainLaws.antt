@@ -117,7 +117,3 @@ module _ (tr : List Record) (w events : ℕ) (ranks : List ℕ) (r : ReadyChains
             (g .first-is q, g .second-is q, position-whole tr w rows position (g .rows-are) p e);
         short = position-short tr w rows position (g .rows-are) p;
       }
-
--- for the two rows the other way round
-pub passes-back : (tr : List Record) (x y w position fst snd : ℕ) → PassesChains tr y x w position fst snd → PassesChains tr x y w position snd fst
-passes-back tr x y w position fst snd p = record { whole = λ e. let (a, b, c) = p .whole e in (b, a, c); short = p .short }

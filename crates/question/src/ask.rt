@@ -10,8 +10,10 @@ use records::Operation;
 use records::access;
 use trace::Refusal;
 ghost use mathlib.Core.Path.{_≡_};
+ghost use lib.Dec.{T};
 ghost use Rattle.records.specs.Bytes.{decode};
 ghost use Rattle.records.specs.Kinds.{hasSend};
+ghost use Rattle.links.specs.Fill.{fillAll};
 ghost use Rattle.trace.specs.Reading.{Acceptable};
 ghost use Rattle.order.specs.Fill.{eventsIn};
 ghost use Rattle.trace.specs.Reply.{Reply};
@@ -27,35 +29,28 @@ fn refused(number: u16, place: Operation) -> Answer
     })
 }
 
-// The chains of rows x and y: by links that deliver in order from the table, where a record is a send; else over the records. The pass from the table is
-// called at two places, for the earlier row first, so that it is compiled with a frame of its own: that holds the table.
+// The chains of rows x and y: by links that deliver in order from the table, where a record is a send; else over the records.
 fn pass_chains(
     recs: &[u8],
     events: usize,
     sends: bool,
     ranks: &[u16],
-    x: usize,
-    y: usize,
+    x: u16,
+    y: u16,
     width: usize,
+    table: &[u64],
 ) -> Passed
-    requires { ⌜ ReadyChains (decode (now recs)) width (now ranks) × (events ≡ eventsIn (decode (now recs))) × (sends ≡ hasSend (decode (now recs))) ⌝ }
+    requires { ⌜ ReadyChains (decode (now recs)) width (now ranks) × (events ≡ eventsIn (decode (now recs))) × (sends ≡ hasSend (decode (now recs))) ×
+        (T sends → now table ≡ fillAll (decode (now recs)) .words) ⌝ }
     ensures { λ r. ⌜ PassesChains (decode (now (recs .entry))) x y width (r .position) (r .first) (r .second) ⌝ }
 {
     if sends {
-        if x <= y {
-            return table_pass(recs, events, ranks, x, y, width);
-        }
-        let back = table_pass(recs, events, ranks, y, x, width);
-        return Passed {
-            position: back.position,
-            first: back.second,
-            second: back.first,
-        };
+        return table_pass(recs, events, ranks, x as usize, y as usize, width, table);
     }
-    chain_pass(recs, ranks, x, y, width)
+    chain_pass(recs, ranks, x as usize, y as usize, width)
 }
 
-// Events t and u of an accepted trace, where a record is a send or none is.
+// Events t and u of an accepted trace, where a record is a send, as the table tells its order, or none is.
 pub(crate) fn ask(
     recs: &[u8],
     events: usize,
@@ -64,8 +59,10 @@ pub(crate) fn ask(
     clocks: &[u16],
     t: EventId,
     u: EventId,
+    table: &[u64],
 ) -> Answer
-    requires { ⌜ Acceptable (decode (now recs)) × (events ≡ eventsIn (decode (now recs))) × (sends ≡ hasSend (decode (now recs))) ⌝ }
+    requires { ⌜ Acceptable (decode (now recs)) × (events ≡ eventsIn (decode (now recs))) × (sends ≡ hasSend (decode (now recs))) ×
+        (T sends → now table ≡ fillAll (decode (now recs)) .words) ⌝ }
     ensures { λ r. ⌜ orderPaper r ≡ orderTrace (decode (now (recs .entry))) events width (now (clocks .entry)) (t .0) (u .0) ⌝ }
 {
     let all = ranks::ranks(recs);
@@ -82,7 +79,7 @@ pub(crate) fn ask(
     }
     let x = first - 1;
     let y = second - 1;
-    let passed = pass_chains(recs, events, sends, &all, x as usize, y as usize, width);
+    let passed = pass_chains(recs, events, sends, &all, x, y, width, table);
     if passed.position < access::count(recs) {
         return refused(trace::CHAINS, Operation((passed.position + 1) as u16));
     }

@@ -3,7 +3,6 @@ use crate::chains::Passed;
 use crate::chains::Taken;
 use crate::chains::enter_chain;
 use bits::get;
-use links::no_bits;
 use order::from_table::begin_of;
 use slices::zeros::numbers_1024;
 ghost use mathlib.Core.Path.{_≡_};
@@ -11,6 +10,7 @@ ghost use Prim.Native.Nat.{_≤_, _<_};
 ghost use lib.ListN.{length};
 ghost use Rattle.records.specs.Bytes.{decode};
 ghost use Rattle.bits.specs.Table.{bitOf};
+ghost use Rattle.links.specs.Fill.{fillAll};
 ghost use Rattle.order.specs.Links.{Links};
 ghost use Rattle.order.specs.Fill.{eventsIn};
 ghost use Rattle.order.specs.loops.FromTable.{Tells};
@@ -90,7 +90,7 @@ fn enter_rows(table: &[u64], events: usize, x: usize, y: usize, width: usize) ->
     }
 }
 
-// The chains of rows x and y, from a table of its own.
+// The chains of rows x and y.
 pub(crate) fn table_pass(
     recs: &[u8],
     events: usize,
@@ -98,13 +98,13 @@ pub(crate) fn table_pass(
     x: usize,
     y: usize,
     width: usize,
+    table: &[u64],
 ) -> Passed
-    requires { ⌜ ReadyChains (decode (now recs)) width (now ranks) × (events ≡ eventsIn (decode (now recs))) ⌝ }
+    requires { ⌜ ReadyChains (decode (now recs)) width (now ranks) × (events ≡ eventsIn (decode (now recs))) ×
+        (now table ≡ fillAll (decode (now recs)) .words) ⌝ }
     ensures { λ r. ⌜ PassesChains (decode (now (recs .entry))) x y width (r .position) (r .first) (r .second) ⌝ }
 {
-    let mut table = no_bits();
-    links::fill(recs, ranks, &mut table);
-    let entered = enter_rows(&table, events, x, y, width);
+    let entered = enter_rows(table, events, x, y, width);
     Passed {
         position: begin_of(recs, entered.rows),
         first: entered.first,

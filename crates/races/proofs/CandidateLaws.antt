@@ -341,8 +341,8 @@ pub race-may : (tr : List Record) (a b : ℕ) (least : ℕ) → least ≡ leastK
 unfolding mayRace leastKind
 race-may tr a b least f t =
     let r = racing tr a b t in
-    and (eqb (cell tr a) (cell tr b)) (leb least (baseKind (at tr a))) (eq→eqb (cell tr a) (cell tr b) (r .same))
-    (rw (access-base (at tr a) (r .first), f) (go (eqb (at tr b .kind) 5) refl (either (isRead (at tr a)) (isWrite (at tr a)) (r .first)) (r .one)))
+    and (eqb (cell tr a) (cell tr b)) (leb least (at tr a .kind)) (eq→eqb (cell tr a) (cell tr b) (r .same))
+    (rw f (go (eqb (at tr b .kind) 5) refl (either (isRead (at tr a)) (isWrite (at tr a)) (r .first)) (r .one)))
   where
     k : ℕ
     k = at tr a .kind
@@ -355,6 +355,14 @@ race-may tr a b least f t =
     go true e h (inr u) = let z = eqb→eq (at tr b .kind) 5 (subst T (sym e) tt) in absurd (rw z at u)
     go false e (inl u) w = high 5 (omega (arith, eqb→eq k 5 u))
     go false e (inr u) w = high 5 (omega (arith, eqb→eq k 6 u))
+
+-- a record of a kind above 6 may be found, and races with none
+pub other-quiet : (tr : List Record) (a b : ℕ) → 6 < at tr a .kind → raceb (settingOf tr) a b ≡ false
+other-quiet tr a b l = failed (raceb (settingOf tr) a b) (λ t. go (access-kind (at tr a) (racing tr a b t .first)))
+  where
+    go : (at tr a .kind ≡ 5) ⊎ (at tr a .kind ≡ 6) → ⊥
+    go (inl e) = omega arith
+    go (inr e) = omega arith
 
 -- so no record that is passed races with b
 pub past-quiet : (tr : List Record) {i r least c : ℕ} (b : ℕ) → c ≡ cell tr b → least ≡ leastKind (at tr b .kind) → Past tr least c i r → (x : ℕ) → i ≤ x → x < r → T (raceb (settingOf tr) x b) → ⊥

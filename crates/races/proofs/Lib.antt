@@ -27,3 +27,5 @@ pub mod PlaceLaws
 pub mod GoLaws
 pub mod MarkAllLaws
 pub mod RefillLaws
+pub mod KeepLaws
+pub mod RestoreLaws

@@ -11,6 +11,7 @@ use borrow.Author.Tests.{le-leb, lt-leb}
 use lib.ListN.{length, drop}
 use lib.Seq.{sets, sets-eq, drop-at}
 use Rattle.records.specs.declared.Record.{Record}
+use Rattle.records.specs.Kinds.{hasSend}
 use Rattle.records.specs.declared.Trace.{Trace}
 use Rattle.records.specs.Bytes.{decode, part}
 use Rattle.slices.specs.Slices.{cleared}
@@ -25,7 +26,6 @@ use Rattle.order.proofs.EntryLaws.{records-are, read-sends}
 use Rattle.order.proofs.LentLaws.{stays}
 use Rattle.order.proofs.LentLaws.{filled as made}
 use Rattle.order.proofs.FilledTrace.{events-of}
-use Rattle.order.proofs.SpaceLaws.{has-room}
 use Rattle.order.proofs.PrepareLaws.{none-asked, prepared}
 use Rattle.races.specs.declared.Listing.{Listing}
 use Rattle.races.specs.declared.Summary.{Summary}
@@ -34,7 +34,6 @@ use Rattle.races.specs.Paper.{listPaper, Lists}
 use Rattle.races.specs.loops.ListsFilled.{ListsFilled}
 use Rattle.races.specs.loops.ListPass.{pairsBelow, raws, WritesAll, Ample, Counts, ListsAll}
 use Rattle.races.specs.loops.Raising.{Unmarked, MarksList}
-use Rattle.races.specs.loops.Refilling.{Source}
 use Rattle.races.proofs.EntryStores.{raws-length}
 use Rattle.races.specs.loops.FilledClocks.{FilledClocks}
 use Rattle.races.specs.Traces.{cellsOf, settingOf}
@@ -198,7 +197,7 @@ module _ (b : List ℕ) (short : Bool) (w : ℕ) (cs cs′ work work′ chosen l
       pub filled : FilledClocks (decode recs) ranks′ chosen w cs′
       pub events-are : t .events ≡ eventsIn (decode recs)
       pub chains-used : chains ≡ chainsUsed (decode recs)
-      pub source : Source b (decode recs) w (t .sends)
+      pub sends-are : t .sends ≡ hasSend (decode recs)
       pub done : (cs″ list′ : List ℕ) (r : Listing) → ListsFilled short (decode recs) (t .events) cs′ cs″ list list′ r → Lists short b w cs cs″ work work′ list list′ r
 
     read : Accepts b t
@@ -214,13 +213,7 @@ module _ (b : List ℕ) (short : Bool) (w : ℕ) (cs cs′ work work′ chosen l
           filled = rw d (filled-whole work (readReply b) p chains z read);
           events-are = rw d (events-of b t read);
           chains-used = rw d (g .chains-are);
-          source = record {
-            trace = t;
-            accepted = read;
-            records-are = d;
-            some = has-room w (t .events) (length cs) (fitting work (readReply b) p chains z .has-space) .some;
-            sends-are = read-sends b t read recs y;
-          };
+          sends-are = read-sends b t read recs y;
           done = λ cs″ list′ r u.
               let v = subst (λ (x : List Record). ListsFilled short x (t .events) cs′ cs″ list list′ r) d u in
               lists-by cs″ list′ r (listFilled short (recordsIn b t) (t .events) (length list)) (made b _ w _ t (g .ready-is) (g .enough)) (v .answer) (v .clocks-after) (rw (records-read b t read) (v .list-after));

@@ -27,8 +27,8 @@ use Rattle.races.specs.Traces.{isAccess, cellsOf, settingOf}
 use Rattle.races.specs.loops.Clashes.{conflict}
 use Rattle.races.specs.Lists.{pairsOf}
 use Rattle.races.specs.loops.Candidates.{cell, accesses, writes, Upto, lastWrite, firstsFrom, firstsTo}
-use Rattle.records.specs.Kinds.{baseKind}
 use Rattle.records.specs.Search.{leastKind, mayRace}
+use Rattle.records.proofs.BaseKinds.{base-known}
 use Rattle.races.specs.loops.ListPass.{fromOf, firsts, withSecond, pairsBelow, Ranges, Second, OneRoom}
 use Rattle.order.specs.Fill.{eventsIn}
 use Rattle.races.specs.loops.FilledClocks.{RowsIn, BothIn}
@@ -38,7 +38,7 @@ use Rattle.order.specs.Rank.{rank}
 use Rattle.order.specs.HappensBefore.{happensBefore}
 use Rattle.races.proofs.Instance.{laws, access-kind}
 use Rattle.races.proofs.FilledLaws.{same-event, other-event, rank-is, row-inside, rows-in, rows-both, unordered-told}
-use Rattle.races.proofs.CandidateLaws.{start, racing, race-accesses, last-high, last-after, from-start-is, kind-access, access-base}
+use Rattle.races.proofs.CandidateLaws.{start, racing, race-accesses, last-high, last-after, from-start-is, kind-access}
 
 module _ (tr : List Record) where
   abbrev race : ℕ → ℕ → Bool
@@ -197,22 +197,22 @@ module _ (tr : List Record) where
           firsts-are = ap (λ x. firsts tr x b b) (sym (p ∙ from-start-is tr short (cell tr b) b));
         }
 
-  may-conflict : (a b : ℕ) → T (isAccess (at tr b)) → T (mayRace tr (leastKind (at tr b .kind)) (cell tr b) a) → conflict (at tr a) (at tr b) ≡ true
+  may-conflict : (a b : ℕ) → T (isAccess (at tr b)) → at tr a .kind ≤ 6 → T (mayRace tr (leastKind (at tr b .kind)) (cell tr b) a) → conflict (at tr a) (at tr b) ≡ true
   unfolding mayRace leastKind conflict
-  may-conflict a b y m = passed (conflict (at tr a) (at tr b)) (and (isAccess (at tr a) && isAccess (at tr b)) _ (and (isAccess (at tr a)) (isAccess (at tr b)) x y) (and (eqb (cell tr a) (cell tr b)) _ (p .0) (go (access-kind (at tr b) y) low)))
+  may-conflict a b y h m = passed (conflict (at tr a) (at tr b)) (and (isAccess (at tr a) && isAccess (at tr b)) _ (and (isAccess (at tr a)) (isAccess (at tr b)) x y) (and (eqb (cell tr a) (cell tr b)) _ (p .0) (go (access-kind (at tr b) y) low)))
     where
-      p : T (eqb (cell tr a) (cell tr b)) × T (leb (cond (eqb (at tr b .kind) 5) 6 5) (baseKind (at tr a)))
-      p = both (eqb (cell tr a) (cell tr b)) (leb (cond (eqb (at tr b .kind) 5) 6 5) (baseKind (at tr a))) m
+      p : T (eqb (cell tr a) (cell tr b)) × T (leb (cond (eqb (at tr b .kind) 5) 6 5) (at tr a .kind))
+      p = both (eqb (cell tr a) (cell tr b)) (leb (cond (eqb (at tr b .kind) 5) 6 5) (at tr a .kind)) m
 
-      five : (q : Bool) → cond q 6 5 ≤ baseKind (at tr a) → 5 ≤ baseKind (at tr a)
+      five : (q : Bool) → cond q 6 5 ≤ at tr a .kind → 5 ≤ at tr a .kind
       five true k = omega arith
       five false k = k
 
-      x : T (isAccess (at tr a))
-      x = kind-access (at tr a) (five (eqb (at tr b .kind) 5) (leb→le _ (baseKind (at tr a)) (p .1)))
-
       low : cond (eqb (at tr b .kind) 5) 6 5 ≤ at tr a .kind
-      low = rw (← access-base (at tr a) x) (leb→le _ (baseKind (at tr a)) (p .1))
+      low = leb→le _ (at tr a .kind) (p .1)
+
+      x : T (isAccess (at tr a))
+      x = kind-access (at tr a) (omega (arith, base-known (at tr a) h, five (eqb (at tr b .kind) 5) low))
 
       go : (at tr b .kind ≡ 5) ⊎ (at tr b .kind ≡ 6) → cond (eqb (at tr b .kind) 5) 6 5 ≤ at tr a .kind → T (isWrite (at tr a) || isWrite (at tr b))
       go (inl e) k = or-left (isWrite (at tr a)) (isWrite (at tr b)) (six (access-kind (at tr a) x))
@@ -222,12 +222,12 @@ module _ (tr : List Record) where
           six (inr d) = eq→eqb (at tr a .kind) 6 d
       go (inr e) k = or-right (isWrite (at tr a)) (isWrite (at tr b)) (eq→eqb (at tr b .kind) 6 e)
 
-  -- what may race with an access b and stands before it races exactly where its event action does not happen before that of b
-  pub may-race : Acceptable tr → (a b : ℕ) → a < b → b < length tr → T (isAccess (at tr b)) → T (mayRace tr (leastKind (at tr b .kind)) (cell tr b) a) → race a b ≡ not (happensBefore tr (eventOf (at tr a)) (eventOf (at tr b)))
-  may-race acc a b l h y m = go (ℕ-discrete (eventOf (at tr a)) (eventOf (at tr b)))
+  -- what may race with an access b and stands before it, no send, races exactly where its event action does not happen before that of b
+  pub may-race : Acceptable tr → (a b : ℕ) → a < b → b < length tr → T (isAccess (at tr b)) → at tr a .kind ≤ 6 → T (mayRace tr (leastKind (at tr b .kind)) (cell tr b) a) → race a b ≡ not (happensBefore tr (eventOf (at tr a)) (eventOf (at tr b)))
+  may-race acc a b l h y s m = go (ℕ-discrete (eventOf (at tr a)) (eventOf (at tr b)))
     where
       c : conflict (at tr a) (at tr b) ≡ true
-      c = may-conflict a b y m
+      c = may-conflict a b y s m
 
       go : Dec (eventOf (at tr a) ≡ eventOf (at tr b)) → race a b ≡ not (happensBefore tr (eventOf (at tr a)) (eventOf (at tr b)))
       go (yes e) = same-event tr a b l h c e ∙ sym (ap not (passed (happensBefore tr (eventOf (at tr a)) (eventOf (at tr b))) (subst (λ (x : ℕ). T (happensBefore tr (eventOf (at tr a)) x)) e (laws acc .le-refl (eventOf (at tr a))))))
@@ -303,9 +303,9 @@ module _ {writing : Bool} {tr : List Record} {ranks chosen : List ℕ} {width : 
   pub race-rows : BothIn chosen width clocks t u
   race-rows = rows-both (r .second .filled) a b t u first-inside (r .second .inside) row-is (r .second .row)
 
-  pub race-told : (v : Bool) → v ≡ saysUnordered (relateIn clocks width t (getD chosen t 0) u (getD chosen u 0)) → raceb (settingOf tr) a b ≡ v
-  race-told v q =
-      may-race tr (r .second .filled .acceptable) a b (r .earlier) (r .second .inside) (r .second .access) (r .may)
+  pub race-told : at tr a .kind ≤ 6 → (v : Bool) → v ≡ saysUnordered (relateIn clocks width t (getD chosen t 0) u (getD chosen u 0)) → raceb (settingOf tr) a b ≡ v
+  race-told h v q =
+      may-race tr (r .second .filled .acceptable) a b (r .earlier) (r .second .inside) (r .second .access) h (r .may)
       ∙ sym (q ∙ unordered-told (r .second .filled) a b t u first-inside (r .second .inside) row-is (r .second .row) (r .earlier))
 
 -- what was found on the way to b may race with it

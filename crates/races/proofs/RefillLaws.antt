@@ -1,29 +1,25 @@
 -- Filling the clock rows once more, begin by begin.
 -- Assumes nothing.
 use Prim.Native.Nat.{ℕ, suc, _+_, _*_, _-_, _≤_, _<_, max}
-use mathlib.Core.Path.{_≡_, refl, sym, ap, ap₂, _∙_}
+use mathlib.Core.Path.{_≡_, refl, sym, ap, _∙_}
 use mathlib.Core.Logic.{_⊎_, inl, inr}
-use mathlib.Core.Bool.{Bool, true, false}
+use mathlib.Core.Bool.{false}
 use mathlib.Core.List.{List, _++_}
 use native.Mathlib.Omega.{arith}
 use native.Mathlib.Numerals.{add-one}
-use borrow.Author.Tests.{eq-eqb, le-leb}
 use lib.Dec.{eqb}
 use lib.ListN.{length, getD, drop, replicate, length-append, length-replicate}
 use lib.Seq.{drop-at}
 use Rattle.records.specs.declared.Record.{Record}
 use Rattle.records.specs.Kinds.{hasSend}
-use Rattle.trace.specs.Reading.{Acceptable, recordsIn, readReply}
+use Rattle.trace.specs.Reading.{Acceptable}
 use Rattle.ranks.specs.declared.Ordering.the-variants.{Begin}
-use Rattle.clocks.specs.Rows.{spaceFor, clearRows}
+use Rattle.clocks.specs.Rows.{clearRows}
 use Rattle.clocks.proofs.RowLaws.{clear-rows-fit, clear-rows-length}
 use Rattle.order.specs.Links.{leq}
 use Rattle.order.specs.Chains.{bit, used}
 use Rattle.order.specs.Clocks.{chainOf, entry, largest, table, flat, clocksOf}
-use Rattle.order.specs.declared.Filling.{Filling}
-use Rattle.order.specs.Fill.{eventsIn, rowPastWidth, chainTable, traceClocks}
-use Rattle.order.specs.Lent.{noWork, fillReady}
-use Rattle.order.specs.Paper.{Fills}
+use Rattle.order.specs.Fill.{eventsIn, chainTable, traceClocks}
 use Rattle.order.specs.loops.Standing.{begins}
 use Rattle.order.specs.loops.RecordLinks.{orderingAt}
 use Rattle.order.specs.HappensBefore.{traceLinks}
@@ -38,11 +34,9 @@ use Rattle.order.proofs.ScheduleLaws.{begins-zero, begins-suc, begins-mono}
 use Rattle.order.proofs.RecordOrder.{records-make, ops-ordered, first-begins}
 use Rattle.order.proofs.TraceOrder.{forward-links}
 use Rattle.order.proofs.TableLaws.{events-few}
-use Rattle.order.proofs.LentLaws.{fitted}
-use Rattle.order.proofs.FilledTrace.{events-of, clocks-whole}
 use Rattle.order.proofs.WalkLaws.{Along, along-start, along-begin, along-merged, Arrives}
 use Rattle.races.specs.loops.FilledClocks.{FilledClocks}
-use Rattle.races.specs.loops.Refilling.{Refillable, Source}
+use Rattle.races.specs.loops.Refilling.{Refillable}
 use Rattle.races.proofs.PlaceLaws.{events-in, events-are, chain-place}
 use Rattle.races.proofs.TraceWalk.{trace-walk}
 
@@ -197,20 +191,3 @@ module _ {tr : List Record} {ranks chosen : List ℕ} {w : ℕ} {clocks : List �
 
   pub again-filled : (clocks₁ : List ℕ) → drop (eventsIn tr * w) clocks₁ ≡ drop (eventsIn tr * w) clocks → (clocks₂ : List ℕ) → clocks₂ ≡ traceClocks tr w ++ drop (eventsIn tr * w) clocks₁ → clocks₂ ≡ clocks
   again-filled clocks₁ d clocks₂ e = e ∙ ap (λ (xs : List ℕ). traceClocks tr w ++ xs) (d ∙ ap (drop (eventsIn tr * w)) (f .clocks-are) ∙ drop-at (traceClocks tr w) (f .rest) (eventsIn tr * w) rows-length) ∙ sym (f .clocks-are)
-
-  -- or from the bytes
-  pub filled-again : {b : List ℕ} {sends : Bool} → Source b tr w sends → (clocks₁ : List ℕ) → length clocks₁ ≡ length clocks → drop (eventsIn tr * w) clocks₁ ≡ drop (eventsIn tr * w) clocks → (clocks₂ : List ℕ) {r : Filling} → Fills b w clocks₁ clocks₂ r → clocks₂ ≡ clocks
-  unfolding fillReady spaceFor
-  filled-again {b} s clocks₁ l d clocks₂ h =
-      again-filled clocks₁ d clocks₂
-      (h .clocks-after ∙ clocks-whole b (fitted (readReply b) w (length clocks₁) noWork (s .trace) (record { found-is = s .accepted; has-space = space; has-work = refl })) w clocks₁ enough
-      ∙ ap₂ (λ (x : List Record) (y : ℕ). traceClocks x w ++ drop (y * w) clocks₁) (sym (s .records-are)) events)
-    where
-      events : s .trace .events ≡ eventsIn tr
-      events = events-of b (s .trace) (s .accepted) ∙ ap eventsIn (sym (s .records-are))
-
-      space : spaceFor w (s .trace .events) (length clocks₁) ≡ true
-      space = rw (events, le-leb 1 w (s .some), le-leb w 1024 (f .narrow), le-leb (eventsIn tr * w) (length clocks₁) (omega (arith, ap length (f .clocks-are), length-append (traceClocks tr w) (f .rest), rows-length))) refl
-
-      enough : eqb (rowPastWidth (recordsIn b (s .trace)) w) (s .trace .events) ≡ true
-      enough = eq-eqb _ _ (ap (λ (x : List Record). rowPastWidth x w) (sym (s .records-are)) ∙ f .enough ∙ sym events)

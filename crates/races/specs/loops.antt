@@ -6,5 +6,6 @@ pub mod Marking
 pub mod Leading
 pub mod Raising
 pub mod Refilling
+pub mod Keeping
 pub mod ListsFilled
 pub mod Clashes

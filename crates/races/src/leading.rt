@@ -7,22 +7,21 @@ use slices::zeros::numbers_1024;
 ghost use mathlib.Core.Path.{_≡_};
 ghost use Prim.Native.Nat.{_+_, _*_, _≤_, _<_};
 ghost use lib.ListN.{length, getD};
+ghost use Rattle.slices.specs.Slices.{zeros};
 ghost use Rattle.races.specs.loops.FilledClocks.{RowsIn};
 ghost use Rattle.races.specs.loops.Leading.{keptTo, leadsIn, leadFrom, leadDown, raiseTo, leadIn, MayLead};
 
-// The entries of row t.
-fn entries_of(clocks: &[u16], width: usize, t: usize) -> [u16; 1024]
-    requires { ⌜ (t * width + width ≤ length (now clocks)) × (width ≤ 1024) ⌝ }
-    ensures { λ r. ⌜ r ≡ keptTo width t (now (clocks .entry)) width ⌝ }
+// The entries of row t are kept apart.
+fn keep_entries(clocks: &[u16], width: usize, t: usize, kept: &mut [u16])
+    requires { ⌜ (t * width + width ≤ length (now clocks)) × (width ≤ 1024) × (now kept ≡ zeros 1024) ⌝ }
+    ensures { λ r. ⌜ now (kept .exit) ≡ keptTo width t (now (clocks .entry)) width ⌝ }
 {
     let a = t * width;
-    let mut kept = numbers_1024();
     let mut c = 0usize;
     while c < width {
         kept[c] = clocks[a + c];
         c += 1;
     }
-    kept
 }
 
 // Whether row p happens before row t, by the entries kept, and does not lead to a row that was merged.
@@ -90,7 +89,8 @@ pub(crate) fn lead_in(chosen: &[u16], width: usize, chains: usize, clocks: &mut 
 {
     let place = t * width + (chosen[t] as usize);
     let own = clocks[place];
-    let kept = entries_of(clocks, width, t);
+    let mut kept = numbers_1024();
+    keep_entries(clocks, width, t, &mut kept);
     clear_row(clocks, width, t as u16);
     lead_down(chosen, width, chains, clocks, &kept, t);
     raise_to(clocks, place, own);

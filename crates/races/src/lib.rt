@@ -1,5 +1,6 @@
 // The races of a trace: the list of all of them, and the short list.
 mod candidates;
+mod keeping;
 mod leading;
 mod lists;
 mod racing;

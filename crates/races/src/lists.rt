@@ -26,7 +26,7 @@ ghost use lib.ListN.{length};
 ghost use lib.Seq.{sets};
 ghost use Rattle.records.specs.Bytes.{decode};
 ghost use Rattle.records.specs.Records.{at};
-ghost use Rattle.races.specs.loops.Refilling.{Source};
+ghost use Rattle.records.specs.Kinds.{hasSend};
 ghost use Rattle.order.specs.Fill.{eventsIn, chainsUsed};
 ghost use Rattle.trace.specs.Reply.{Reply};
 ghost use Rattle.races.specs.Lists.{entryNumbers, shapeOf};
@@ -80,6 +80,9 @@ fn list_race(
     requires { ⌜ OwnIs (now chosen) width (now clocks) (own .row) (own .chain) (own .entry) ⌝ }
     ensures { λ r. ⌜ OneWrites writing (decode (now (recs .entry))) a b k (now (list .entry)) (now (list .exit)) r ⌝ }
 {
+    if 6 < access::kind_at(recs, a) {
+        return k;
+    }
     if !is_unordered(relation(chosen, width, clocks, row_at(recs, ranks, a), own)) {
         return k;
     }
@@ -242,7 +245,6 @@ fn count_all(
 
 // Writes all entries and marks them; their number. The clocks are as before.
 fn write_all(
-    bytes: &[u8],
     recs: &[u8],
     ranks: &[u16],
     chosen: &[u16],
@@ -254,13 +256,12 @@ fn write_all(
     sends: bool,
 ) -> usize
     requires { ⌜ FilledClocks (decode (now recs)) (now ranks) (now chosen) width (now clocks) × (events ≡ eventsIn (decode (now recs))) ×
-        Source (now bytes) (decode (now recs)) width sends ⌝ }
+        (sends ≡ hasSend (decode (now recs))) ⌝ }
     requires { ⌜ entryNumbers * length (pairsBelow (decode (now recs)) short (length (decode (now recs)))) ≤ length (now list) ⌝ }
     ensures { λ r. ⌜ ListsAll (decode (now (recs .entry))) short (now (list .entry)) (now (list .exit)) r × (now (clocks .exit) ≡ now (clocks .entry)) ⌝ }
 {
     let found = list_all(recs, ranks, chosen, width, clocks, list, short, true);
     raising::mark_list(
-        bytes,
         recs,
         ranks,
         chosen,
@@ -296,7 +297,6 @@ fn listed(events: usize, records: usize, chains: usize, count: usize) -> Listing
 
 // The list of a trace whose clocks are filled.
 fn list_filled(
-    bytes: &[u8],
     recs: &[u8],
     events: usize,
     width: usize,
@@ -309,7 +309,7 @@ fn list_filled(
     sends: bool,
 ) -> Listing
     requires { ⌜ FilledClocks (decode (now recs)) (now ranks) (now chosen) width (now clocks) × (events ≡ eventsIn (decode (now recs))) ×
-        (chains ≡ chainsUsed (decode (now recs))) × Source (now bytes) (decode (now recs)) width sends ⌝ }
+        (chains ≡ chainsUsed (decode (now recs))) × (sends ≡ hasSend (decode (now recs))) ⌝ }
     ensures { λ r. ⌜ ListsFilled short (decode (now (recs .entry))) events (now (clocks .entry)) (now (clocks .exit)) (now (list .entry))
         (now (list .exit)) r ⌝ }
 {
@@ -322,7 +322,6 @@ fn list_filled(
         return listed(events, records, chains, 0);
     }
     let found = write_all(
-        bytes,
         recs,
         ranks,
         chosen,
@@ -369,7 +368,6 @@ pub(crate) fn list_races(
     };
     let recs = access::records(bytes, t);
     list_filled(
-        bytes,
         recs,
         events,
         width,

@@ -1,29 +1,34 @@
 // The marks of a list's entries by the rows of the combined order, happens-before and the races of the list: made in place in the lent clocks, event
 // action by event action.
 use crate::ENTRY_NUMBERS;
+use crate::keeping::keep_rows;
+use crate::keeping::restore_rows;
 use crate::leading::lead_in;
 use crate::refilling::refill;
 use clocks::merge_row;
-use order::fill;
+use links::no_bits;
+use links::no_words;
 use order::merging::merge_links;
 use ranks::row_at;
 ghost use mathlib.Core.Path.{_≡_};
+ghost use mathlib.Core.Bool.{true};
 ghost use Prim.Native.Nat.{ℕ, _+_, _*_, _-_, _≤_, _<_, max};
+ghost use lib.Dec.{T};
 ghost use lib.ListN.{length, getD};
+ghost use Rattle.slices.specs.Slices.{zeros};
 ghost use Rattle.records.specs.Bytes.{decode};
 ghost use Rattle.records.specs.Kinds.{hasSend};
 ghost use Rattle.clocks.specs.Rows.{compareIn};
 ghost use Rattle.order.specs.Fill.{eventsIn};
 ghost use Rattle.races.specs.loops.FilledClocks.{FilledClocks, RowsIn};
 ghost use Rattle.races.specs.Lists.{entryNumbers};
-ghost use Rattle.races.specs.loops.Refilling.{Source};
 ghost use Rattle.races.specs.loops.Marking.{first};
 ghost use Rattle.races.specs.loops.Raising.{Unmarked, MarksList, markIn, Markable, MarksSecond, raiseBy, raiseDown, MarksAll};
 ghost use Rattle.races.specs.loops.Raising.{byRecords, byClocks, onward, MayGo, Went};
 ghost use Rattle.races.specs.loops.Leading.{MayLead};
 
 // Whether row t's own entry, at its chain, is at most row u's, as the rows stand, raised: whether t leads to u.
-fn comes_before(chosen: &[u16], width: usize, clocks: &[u16], t: usize, u: usize) -> bool
+pub(crate) fn comes_before(chosen: &[u16], width: usize, clocks: &[u16], t: usize, u: usize) -> bool
     requires { ⌜ RowsIn (now chosen) width (now clocks) t u ⌝ }
     ensures { λ r. ⌜ r ≡ compareIn (now (clocks .entry)) width (getD (now (chosen .entry)) t 0) t u ⌝ }
 {
@@ -239,9 +244,71 @@ fn mark_all(
     }
 }
 
-// Marks that many entries; the clocks are filled before and after. Records don't say all links of a trace with a send: it is filled anew from its bytes.
+// Marks that many entries; the clocks are filled before and after. Records don't say all links of a trace with a send: what happens before what is kept
+// in the table, which has no bits before, and the rows are made from it again.
+fn mark_within(
+    recs: &[u8],
+    ranks: &[u16],
+    chosen: &[u16],
+    events: usize,
+    width: usize,
+    clocks: &mut [u16],
+    list: &mut [u16],
+    count: usize,
+    sends: bool,
+    table: &mut [u64],
+)
+    requires { ⌜ FilledClocks (decode (now recs)) (now ranks) (now chosen) width (now clocks) × Unmarked (decode (now recs)) (now list) count ×
+        (events ≡ eventsIn (decode (now recs))) × (sends ≡ hasSend (decode (now recs))) × (T sends → now table ≡ zeros 8704) ⌝ }
+    ensures { λ r. ⌜ MarksList (decode (now (recs .entry))) (now (clocks .entry)) (now (clocks .exit)) (now (list .entry)) (now (list .exit)) count ⌝ }
+{
+    if sends {
+        keep_rows(chosen, events, width, clocks, table);
+        mark_all(recs, ranks, chosen, width, clocks, list, count, true);
+        restore_rows(table, chosen, events, width, clocks);
+        return;
+    }
+    mark_all(recs, ranks, chosen, width, clocks, list, count, false);
+    refill(recs, ranks, chosen, events, width, clocks);
+}
+
+// The same for a trace with sends, with a table of its own. No trace has more event actions than the table has rows, so it never asks itself again; but a
+// function that does is not inlined, and the table stands in no frame of a call for a trace without sends.
+fn mark_linked(
+    recs: &[u8],
+    ranks: &[u16],
+    chosen: &[u16],
+    events: usize,
+    width: usize,
+    clocks: &mut [u16],
+    list: &mut [u16],
+    count: usize,
+)
+    requires { ⌜ FilledClocks (decode (now recs)) (now ranks) (now chosen) width (now clocks) × Unmarked (decode (now recs)) (now list) count ×
+        (events ≡ eventsIn (decode (now recs))) × (hasSend (decode (now recs)) ≡ true) ⌝ }
+    ensures { λ r. ⌜ MarksList (decode (now (recs .entry))) (now (clocks .entry)) (now (clocks .exit)) (now (list .entry)) (now (list .exit)) count ⌝ }
+{
+    if 1024 < events {
+        mark_linked(recs, ranks, chosen, 1024, width, clocks, list, count);
+        return;
+    }
+    let mut table = no_bits();
+    mark_within(
+        recs,
+        ranks,
+        chosen,
+        events,
+        width,
+        clocks,
+        list,
+        count,
+        true,
+        &mut table,
+    );
+}
+
+// Marks that many entries; the clocks are filled before and after.
 pub(crate) fn mark_list(
-    bytes: &[u8],
     recs: &[u8],
     ranks: &[u16],
     chosen: &[u16],
@@ -253,16 +320,27 @@ pub(crate) fn mark_list(
     sends: bool,
 )
     requires { ⌜ FilledClocks (decode (now recs)) (now ranks) (now chosen) width (now clocks) × Unmarked (decode (now recs)) (now list) count ×
-        (events ≡ eventsIn (decode (now recs))) × Source (now bytes) (decode (now recs)) width sends ⌝ }
+        (events ≡ eventsIn (decode (now recs))) × (sends ≡ hasSend (decode (now recs))) ⌝ }
     ensures { λ r. ⌜ MarksList (decode (now (recs .entry))) (now (clocks .entry)) (now (clocks .exit)) (now (list .entry)) (now (list .exit)) count ⌝ }
 {
     if count == 0 {
         return;
     }
-    mark_all(recs, ranks, chosen, width, clocks, list, count, sends);
     if sends {
-        fill(bytes, width, clocks);
+        mark_linked(recs, ranks, chosen, events, width, clocks, list, count);
         return;
     }
-    refill(recs, ranks, chosen, events, width, clocks);
+    let mut none = no_words();
+    mark_within(
+        recs,
+        ranks,
+        chosen,
+        events,
+        width,
+        clocks,
+        list,
+        count,
+        false,
+        &mut none,
+    );
 }

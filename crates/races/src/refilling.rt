@@ -13,7 +13,7 @@ ghost use Rattle.order.specs.loops.Pass.{tick};
 ghost use Rattle.races.specs.loops.Refilling.{Refillable};
 
 // One more at entry c of row u.
-fn add_to_row(clocks: &mut [u16], width: usize, u: usize, c: usize)
+pub(crate) fn add_to_row(clocks: &mut [u16], width: usize, u: usize, c: usize)
     requires { ⌜ (u * width + width ≤ length (now clocks)) × (c < width) × (getD (now clocks) (u * width + c) 0 < 65535) ⌝ }
     ensures { λ r. ⌜ now (clocks .exit) ≡ tick width u c (now (clocks .entry)) ⌝ }
 {

@@ -151,7 +151,7 @@ fn list_space() -> [u16; 25700] {
     [9; 25700]
 }
 
-fn at_most(n: usize, most: usize) -> usize
+pub(crate) fn at_most(n: usize, most: usize) -> usize
     ensures { λ r. ⌜ r ≤ most ⌝ }
 {
     if n <= most {

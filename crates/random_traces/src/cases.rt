@@ -10,6 +10,7 @@ use crate::definitions::race_second;
 use crate::draft;
 use crate::draft::Draft;
 use crate::expectations;
+use crate::frames;
 use crate::judge;
 use crate::known;
 use crate::known::Known;
@@ -104,8 +105,11 @@ fn note_sizes(k: Known, before: Counts) -> Counts {
 }
 
 fn note_links(recs: &[u8], before: Counts) -> Counts {
-    let joins = tally::add(before, tally::JOINS, judge::count_kind(recs, 4));
-    tally::add(joins, tally::FORKS, judge::count_kind(recs, 3))
+    let joins = tally::add(before, tally::JOINS, judge::count_kinds(recs, 4, 4));
+    let forks = tally::add(joins, tally::FORKS, judge::count_kinds(recs, 3, 3));
+    let sends = judge::count_kinds(recs, 16, 19);
+    let several = tally::add(forks, tally::SEVERAL_SENDS, pick(1 < sends, 1, 0));
+    tally::add(several, tally::SENDS, sends)
 }
 
 fn compare_known(bytes: &[u8], recs: &[u8], table: &[usize], k: Known, before: Counts) -> Counts {
@@ -150,33 +154,43 @@ fn compare_refused(bytes: &[u8], number: usize, place: usize, before: Counts) ->
     tally
 }
 
+// The order question and the compactor too.
+fn compare_others(bytes: &[u8], number: usize, place: usize, before: Counts) -> Counts {
+    let order = order_cases::is_refused(bytes, number, place);
+    let slim = slim_cases::is_refused(bytes, 2048, number, place);
+    let tally = tally::note(before, tally::REFUSED_TRACE, order);
+    tally::note(tally, tally::REFUSED_TRACE, slim)
+}
+
 fn note_refusal(bytes: &[u8], f: Refusal, before: Counts) -> Counts {
     let number = wide(f.number);
     let place = wide(f.place.0);
     let tally = tally::add(before, plus(tally::REFUSED, number), 1);
-    compare_refused(
-        bytes,
-        number,
-        place,
-        compare_judged(bytes, number, place, tally),
-    )
+    let judged = compare_judged(bytes, number, place, tally);
+    let refused = compare_refused(bytes, number, place, judged);
+    compare_others(bytes, number, place, refused)
 }
 
-// A whole trace is accepted, with as many event actions as were put together and records from start to end.
+// A whole trace that is accepted has as many event actions as were put together and records from start to end.
 fn is_as_drafted(t: Trace, d: Draft) -> bool {
     let records = damage::between(d.start, d.end) / 5;
     (t.start == d.start) & (t.events == d.events) & (t.records == records)
 }
 
-fn check(bytes: &[u8], d: Draft, whole: bool, before: Counts) -> Counts {
-    let tally = tally::add(before, pick(whole, tally::TRACES, tally::DAMAGED), 1);
+// A trace that counts in that total. One that is whole is refused by 31 alone, where its sends may go to any target.
+fn check(bytes: &[u8], d: Draft, total: usize, before: Counts) -> Counts {
+    let tally = tally::add(before, total, 1);
+    let whole = total != tally::DAMAGED;
     match trace::read(bytes) {
         Reading::Accepted(t) => {
             let read = tally::note(tally, tally::READING, !whole | is_as_drafted(t, d));
             let counted = tally::add(read, tally::STILL_ACCEPTED, pick(whole, 0, 1));
             compare_trace(bytes, t, counted)
         }
-        Reading::Refused(f) => note_refusal(bytes, f, tally::note(tally, tally::READING, !whole)),
+        Reading::Refused(f) => {
+            let may = !whole | (d.free & (f.number == 31));
+            note_refusal(bytes, f, tally::note(tally, tally::READING, may))
+        }
     }
 }
 
@@ -187,12 +201,22 @@ pub(crate) fn first_bytes(bytes: &[u8], n: usize) -> &[u8] {
     bytes
 }
 
-// Trace x of the 2,000 that are whole, or one of them damaged in a way that chance chooses.
+// Trace x of the 3,500 that are whole, or one of them damaged in a way that chance chooses.
 pub(crate) fn compare(x: usize, before: Counts) -> Counts {
-    let whole = x < 2000;
+    let whole = x < 3500;
     let mut space = trace_space();
     let bytes: &mut [u8] = &mut space;
-    let d = draft::put_trace(bytes, x % 2000);
+    let d = draft::put_trace(bytes, x % 3500);
     let n = damage::put_end(bytes, d, whole, x);
-    check(first_bytes(bytes, n), d, whole, before)
+    let total = pick(whole, tally::TRACES, tally::DAMAGED);
+    check(first_bytes(bytes, n), d, total, before)
+}
+
+// Trace x of a frame.
+pub(crate) fn compare_frame(text: &[u8], events: usize, x: usize, before: Counts) -> Counts {
+    let mut space = trace_space();
+    let bytes: &mut [u8] = &mut space;
+    let d = frames::put_frame(bytes, text, events, x);
+    let n = damage::put_end(bytes, d, true, x);
+    check(first_bytes(bytes, n), d, tally::FRAMES, before)
 }

@@ -47,6 +47,15 @@ fn place(d: Draft, seed: usize, way: usize) -> usize {
     }
 }
 
+// A byte put there is below this; a kind may be that of a send.
+fn most_of(way: usize) -> usize {
+    match way {
+        3 => 256,
+        8 => 24,
+        _ => 8,
+    }
+}
+
 // The ways: 0 cuts the bytes short, 1 leaves the last records out, 2 repeats a record over the next, 7 over any, 9 changes nothing; the others put a byte.
 fn choose(d: Draft, seed: usize, way: usize) -> Change {
     let end = pick(way == 1, some_record(d, seed, 30), d.end);
@@ -57,7 +66,7 @@ fn choose(d: Draft, seed: usize, way: usize) -> Change {
         p: p,
         q: pick(way == 2, plus(p, 5), q),
         at: place(d, seed, way),
-        byte: byte(roll(seed, d.end, 32, pick(way == 3, 256, 8))),
+        byte: byte(roll(seed, d.end, 32, most_of(way))),
         length: pick(way == 0, roll(seed, d.end, 38, plus(end, 8)), plus(end, 8)),
     }
 }

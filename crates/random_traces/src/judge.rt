@@ -3,6 +3,7 @@ use crate::paths::event_of;
 use crate::paths::is_kind;
 use crate::paths::is_send;
 use crate::paths::target_of;
+use crate::sends::is_blocked;
 use crate::slots::get_byte;
 use crate::slots::less;
 use crate::slots::pick;
@@ -78,11 +79,12 @@ fn waits(recs: &[u8], i: usize) -> bool {
     is_kind(recs, i, 4) & (i <= find(recs, i, 2, target_of(recs, i)))
 }
 
-// The refusal of record i, where none before it is refused; 0 for none. No trace here has two sends, so that none is put behind another (31).
+// The refusal of record i, where none before it is refused; 0 for none.
 fn refusal_at(recs: &[u8], i: usize) -> usize {
     let kind = access::kind_at(recs, i);
     let ended = pick(waits(recs, i), 8, 0);
-    let begun = pick(has_begun(recs, i), 7, ended);
+    let behind = pick(is_blocked(recs, i), 31, ended);
+    let begun = pick(has_begun(recs, i), 7, behind);
     let place = pick(has_place(recs, i), begun, 6);
     let numbers = pick(has_numbers(recs, i), place, 5);
     let known = ((0 < kind) & (kind < 7)) | is_send(recs, i);
@@ -101,13 +103,14 @@ fn first_refused(recs: &[u8], n: usize) -> usize {
     n
 }
 
-// How many records are of the kind.
-pub(crate) fn count_kind(recs: &[u8], kind: u8) -> usize {
+// How many records are of the kinds from low to high.
+pub(crate) fn count_kinds(recs: &[u8], low: u8, high: u8) -> usize {
     let n = access::count(recs);
     let mut count = 0;
     let mut i = 0;
     while i < n {
-        count = plus(count, pick(is_kind(recs, i, kind), 1, 0));
+        let kind = access::kind_at(recs, i);
+        count = plus(count, pick((low <= kind) & (kind <= high), 1, 0));
         i += 1;
     }
     count
@@ -116,7 +119,7 @@ pub(crate) fn count_kind(recs: &[u8], kind: u8) -> usize {
 // Where every record has passed: "the trace stops inside an event action or after a join", "begins differ from the trailer's number".
 fn judge_end(recs: &[u8], n: usize, begins: usize) -> Verdict {
     let ends = (n == 0) | is_kind(recs, less(n), 2);
-    let number = pick(count_kind(recs, 1) == begins, 0, 10);
+    let number = pick(count_kinds(recs, 1, 1) == begins, 0, 10);
     found(pick(ends, number, 9), pick(ends, 0, n))
 }
 

@@ -20,7 +20,7 @@ pub(crate) struct Known {
 }
 
 // The event actions and the paths; how many event actions.
-fn find_order(recs: &[u8], table: &mut [usize]) -> usize {
+pub(crate) fn find_order(recs: &[u8], table: &mut [usize]) -> usize {
     let events = paths::find_begins(recs, table);
     paths::find_paths(recs, table);
     events

@@ -2,6 +2,7 @@
 use crate::calls::clock_space;
 use crate::known::Known;
 use crate::paths;
+use crate::slots::less;
 use crate::slots::narrow;
 use crate::slots::pick;
 use crate::slots::plus;
@@ -87,10 +88,38 @@ fn compare_questions(
     tally
 }
 
+// The first event action with itself, by a width of 0 and by a chain too few.
+fn compare_refusals(
+    bytes: &[u8],
+    table: &[usize],
+    k: Known,
+    clocks: &[u16],
+    before: Counts,
+) -> Counts {
+    let x = event(table, k, 1);
+    let none = code(question::ask_order(bytes, 0, clocks, x, x));
+    let few = code(question::ask_order(bytes, less(k.chains), clocks, x, x));
+    let narrower = pick(k.chains == 1, 21, plus(23, k.begin));
+    let tally = tally::note(before, tally::ORDER, none == pick(k.events == 0, 11, 21));
+    tally::note(
+        tally,
+        tally::ORDER,
+        few == pick(k.events == 0, 11, narrower),
+    )
+}
+
+// A trace that is refused.
+pub(crate) fn is_refused(bytes: &[u8], number: usize, place: usize) -> bool {
+    let clocks = [0u16; 1];
+    let answer = question::ask_order(bytes, 1, &clocks, EventId(1), EventId(1));
+    code(answer) == plus(number, place)
+}
+
 // Everything that the order question answers about one trace, over clocks that filling left.
 pub(crate) fn compare(bytes: &[u8], table: &[usize], k: Known, before: Counts) -> Counts {
     let mut space = clock_space();
     let clocks: &mut [u16] = &mut space;
     order::fill(bytes, k.width, clocks);
-    compare_questions(bytes, table, k, clocks, before)
+    let refused = compare_refusals(bytes, table, k, clocks, before);
+    compare_questions(bytes, table, k, clocks, refused)
 }

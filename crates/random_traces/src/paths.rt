@@ -1,12 +1,15 @@
 // Event actions and the paths between them, by plain search. An event action is known by its rank, from 1 in order of begin, a record by its
 // position, from 0. What is found of a trace stands in one table: the numbers of the event actions and the sets of those that happen before each, the
 // chains as sets of their members, the ranks by event number, the records and marks of the races, and which of them are in the short list.
+use crate::sends::find_ahead;
+use crate::slots::NOWHERE;
 use crate::slots::bit;
 use crate::slots::get;
 use crate::slots::is_in;
 use crate::slots::pick;
 use crate::slots::plus;
 use crate::slots::put;
+use crate::slots::remainder;
 use crate::slots::wide;
 use records::access;
 
@@ -59,7 +62,7 @@ pub(crate) fn number_of(table: &[usize], t: usize) -> usize {
 }
 
 // The rank of an event, 0 where it has no begin.
-fn rank(table: &[usize], event: usize) -> usize {
+pub(crate) fn rank(table: &[usize], event: usize) -> usize {
     get(table, plus(RANK, event))
 }
 
@@ -116,18 +119,33 @@ fn later(recs: &[u8], table: &[usize], i: usize) -> usize {
     pick(is_kind(recs, i, 4), action_of(recs, table, i), started)
 }
 
-// Those that happen before the later one, with those before the earlier one.
+// Those that happen before the later one, with those before the earlier one and those that a link puts ahead of it.
 fn joined(recs: &[u8], table: &[usize], i: usize) -> usize {
-    before(table, earlier(recs, table, i)) | before(table, later(recs, table, i))
+    let two = before(table, earlier(recs, table, i)) | before(table, later(recs, table, i));
+    two | find_ahead(recs, table, i)
 }
 
-// "t = u or a path of forks (from starter to started) and joins (from waited-for to waiting) leads from t to u": 32 rounds over all records.
+// Enters what record i says of order; does it say anything new?
+fn is_new(recs: &[u8], table: &mut [usize], i: usize) -> bool {
+    let u = later(recs, table, i);
+    let set = joined(recs, table, i);
+    let old = before(table, u);
+    put(table, pick(u == 0, NOWHERE, plus(BEFORE, u)), set);
+    (u != 0) & (set != old)
+}
+
+// "t = u or a path of forks (from starter to started) and joins (from waited-for to waiting) leads from t to u", and the link rule: "The order is the least
+// one with these rules." All records in turn, again and again, until each says nothing new; a turn through all of them adds a pair.
 pub(crate) fn find_paths(recs: &[u8], table: &mut [usize]) {
+    let n = access::count(recs);
+    let mut old = 0;
     let mut x = 0;
-    while x < 16384 {
-        let set = joined(recs, table, x % 512);
-        let u = later(recs, table, x % 512);
-        put(table, plus(BEFORE, u), set);
+    while x < 1000000 {
+        if n <= old {
+            return;
+        }
+        let new = is_new(recs, table, remainder(x, n));
+        old = pick(new, 0, plus(old, 1));
         x += 1;
     }
 }

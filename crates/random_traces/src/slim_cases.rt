@@ -1,4 +1,5 @@
 // The compactor on one accepted trace: what it keeps, and the order and the open races of the slim trace, by plain search.
+use crate::calls::at_most;
 use crate::cases::first_bytes;
 use crate::damage;
 use crate::draft;
@@ -7,7 +8,9 @@ use crate::known::Known;
 use crate::paths;
 use crate::slim;
 use crate::slim::Side;
+use crate::slots::less;
 use crate::slots::plus;
+use crate::slots::wide;
 use crate::tally;
 use crate::tally::Counts;
 use compactor::Compacting;
@@ -16,6 +19,21 @@ use trace::Reading;
 
 fn space() -> [u8; 2048] {
     [0; 2048]
+}
+
+// With that much space, is the trace refused so, and the space unchanged?
+pub(crate) fn is_refused(bytes: &[u8], length: usize, number: usize, place: usize) -> bool {
+    let mut made = space();
+    let out: &mut [u8] = &mut made;
+    let n = at_most(length, 2048);
+    let r = compactor::compact(bytes, &mut out[..n]);
+    match r {
+        Compacting::Compacted(_) => false,
+        Compacting::Refused(f) => {
+            let same = (wide(f.number) == number) & (wide(f.place.0) == place);
+            same & slim::same_bytes(out, &space(), 2048)
+        }
+    }
 }
 
 // Does compacting the slim trace drop nothing and give the same bytes?
@@ -136,14 +154,10 @@ pub(crate) fn compare(
     let r = compactor::compact(bytes, out);
     match r {
         Compacting::Compacted(s) => {
-            compare_slim(
-                recs,
-                table,
-                k,
-                first_bytes(out, s.length),
-                s.dropped,
-                before,
-            )
+            let short = is_refused(bytes, less(s.length), 24, 0);
+            let noted = tally::note(before, tally::LIST_SPACE, short);
+            let made = first_bytes(out, s.length);
+            compare_slim(recs, table, k, made, s.dropped, noted)
         }
         Compacting::Refused(_) => tally::note(before, tally::SLIM, false),
     }

@@ -56,6 +56,13 @@ pub(crate) fn plus(a: usize, b: usize) -> usize {
     std::num::wrapping_add_usize(a, b)
 }
 
+pub(crate) fn remainder(x: usize, n: usize) -> usize {
+    if n == 0 {
+        return 0;
+    }
+    x % n
+}
+
 pub(crate) fn less(n: usize) -> usize {
     if 0 < n {
         return n - 1;

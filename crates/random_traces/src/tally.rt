@@ -4,7 +4,7 @@ use crate::slots::pick;
 use crate::slots::plus;
 
 pub(crate) struct Counts {
-    pub at: [usize; 64],
+    pub at: [usize; 72],
 }
 
 // Groups.
@@ -50,7 +50,7 @@ pub(crate) const DAMAGED: usize = 31;
 
 pub(crate) const STILL_ACCEPTED: usize = 32;
 
-// Refusal n of a damaged trace, 1 to 10, is counted at REFUSED + n.
+// Refusal n, 1 to 10 of a damaged trace, is counted at REFUSED + n.
 pub(crate) const REFUSED: usize = 32;
 
 pub(crate) const EVENTS: usize = 43;
@@ -75,12 +75,19 @@ pub(crate) const LONGEST: usize = 52;
 
 pub(crate) const DROPPED: usize = 62;
 
+// At 63 stands refusal 31, of any trace.
+pub(crate) const FRAMES: usize = 64;
+
+pub(crate) const SEVERAL_SENDS: usize = 65;
+
+pub(crate) const SENDS: usize = 66;
+
 pub(crate) fn nothing() -> Counts {
-    Counts { at: [0; 64] }
+    Counts { at: [0; 72] }
 }
 
 fn count(tally: Counts, k: usize) -> usize {
-    if k < 64 {
+    if k < 72 {
         return tally.at[k];
     }
     0
@@ -88,7 +95,7 @@ fn count(tally: Counts, k: usize) -> usize {
 
 fn put(tally: Counts, k: usize, n: usize) -> Counts {
     let mut next = tally;
-    if k < 64 {
+    if k < 72 {
         next.at[k] = n;
     }
     next
@@ -159,6 +166,11 @@ pub(crate) fn show(tally: Counts) {
     show_text(
         tally,
         54,
-        b"slim traces # #\nslim trace records # #\nslim trace order # #\nslim trace open races # #\nrecords dropped #\n",
+        b"slim traces # #\nslim trace records # #\nslim trace order # #\nslim trace open races # #\nrecords dropped #\nrefused by 31 #\n",
+    );
+    show_text(
+        tally,
+        FRAMES,
+        b"traces of two frames #\naccepted, with several sends #\nsends #\n",
     );
 }

@@ -7,16 +7,15 @@ use lib.Dec.{T, leb, eqb}
 use lib.ListN.{length}
 use Rattle.records.specs.declared.Record.{Record}
 use Rattle.records.specs.Records.{at}
-use Rattle.records.specs.Kinds.{baseKind}
 
 -- the least kind of record that races with an access of that kind: with a read only a write does
 unfoldable pub leastKind : ℕ → ℕ
 leastKind kind = cond (eqb kind 5) 6 5
 
 module _ (tr : List Record) where
-  -- may record i race with an access of cell c, where only an access of that kind or a higher one does?
+  -- may record i race with an access of cell c, by its kind's number, where only a record of that kind or a higher one does? A send may by its number
   unfoldable pub mayRace : ℕ → ℕ → ℕ → Bool
-  mayRace least c i = eqb (at tr i .second) c && leb least (baseKind (at tr i))
+  mayRace least c i = eqb (at tr i .second) c && leb least (at tr i .kind)
 
   -- none of the records from i on, before r, may race with an access of cell c
   pub record Past (least c i r : ℕ) : Type 0 where

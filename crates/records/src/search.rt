@@ -17,14 +17,15 @@ pub fn least_kind(kind: u8) -> u8
     5
 }
 
-// May record i race with an access of cell c, where only an access of that kind or a higher one does?
+// May record i race with an access of cell c, by its kind's number, where only a record of that kind or a higher one does? Kinds above 6 are for the
+// caller to tell apart.
 fn may_race(recs: &[u8], least: u8, c: Var, i: usize) -> bool
     ensures { λ r. ⌜ r ≡ mayRace (decode (now (recs .entry))) least (c .0) i ⌝ }
 {
     if access::cell_at(recs, i).0 != c.0 {
         return false;
     }
-    least <= access::base_kind_at(recs, i)
+    least <= access::kind_at(recs, i)
 }
 
 // How many of the four records from i on stand before the first that may race with an access of cell c.

@@ -1,8 +1,8 @@
 -- Refusal 31 beside 4 to 8: it applies to a begin that passes those, and what stands before the begin decides it.
 -- Assumes nothing.
 use Prim.Native.Nat.{ℕ, zero, suc, _+_, _<_}
-use mathlib.Core.Path.{_≡_, refl, sym, ap, _∙_}
-use mathlib.Core.Bool.{Bool, true, false, cond, not, _&&_, and-false}
+use mathlib.Core.Path.{_≡_, refl, sym, ap, _∙_, subst}
+use mathlib.Core.Bool.{Bool, true, false, cond, not, _&&_, and-false, and-eq-true-iff}
 use mathlib.Core.List.{List, [], _∷_, _++_}
 use mathlib.Core.Logic.{_≢_, _⊎_, inl, inr}
 use native.Mathlib.Omega.{arith}
@@ -51,6 +51,15 @@ just-31 false false true w e h = absurd (omega arith)
 just-31 false false false true e h = absurd (omega arith)
 just-31 false false false false e h = refl
 
+only-31 : (x y z w v e : Bool) → (v ≡ true → e ≡ false) → faults x y z w v e ≡ 31 → (faults x y z w false e ≡ 0) × (v ≡ true)
+only-31 true y z w v e d h = absurd (omega arith)
+only-31 false true z w v e d h = absurd (omega arith)
+only-31 false false true w v e d h = absurd (omega arith)
+only-31 false false false true v e d h = absurd (omega arith)
+only-31 false false false false true e d h = let q = d refl in (rw q refl, refl)
+only-31 false false false false false true d h = absurd (omega arith)
+only-31 false false false false false false d h = absurd (omega arith)
+
 -- a begin waits for nothing
 begin-waits : (r : Record) (c h : Bool) → (isBegin r && h) ≡ true → early r c ≡ false
 unfolding early
@@ -85,6 +94,12 @@ module _ (s o : ℕ) (r : Record) (a b c h : Bool) where
   pub judge-31 : judge s o r a b c false ≡ 0 → (isBegin r && h) ≡ true → judge s o r a b c h ≡ 31
   unfolding judge
   judge-31 e k = simp k (just-31 x (not (wellFormed r)) (misplaced s o r) (again r a b) (early r c) (sym plain-is ∙ e))
+
+  pub judge-only-31 : judge s o r a b c h ≡ 31 → (judge s o r a b c false ≡ 0) × ((isBegin r && h) ≡ true)
+  unfolding judge
+  judge-only-31 e =
+      let p = only-31 x (not (wellFormed r)) (misplaced s o r) (again r a b) (isBegin r && h) (early r c) (begin-waits r c h) e in
+      (plain-is ∙ p .0, p .1)
 
 -- two answers to 31 that agree on a begin that passes 4 to 8
 pub judge-alike : (s o : ℕ) (r : Record) (a b c h k : Bool) → (judge s o r a b c false ≡ 0 → isBegin r ≡ true → h ≡ k) → judge s o r a b c h ≡ judge s o r a b c k
@@ -169,3 +184,11 @@ module _ (tr : List Record) where
     unfolding rule plainRule
     rule-31 e b k =
         judge-31 (situation before) (owner before) r _ _ _ (behind (r .first) before) e (rw (passed (isBegin r) b) (behind-is i (r .first) ∙ k))
+
+    -- and 31 says so
+    pub rule-only-31 : rule before r ≡ 31 → (plainRule before r ≡ 0) × T (isBegin r) × (blocked tr i ≡ true)
+    unfolding rule plainRule
+    rule-only-31 e =
+        let p = judge-only-31 (situation before) (owner before) r (begun (r .first) before) (begun (r .second) before) (ended (r .second) before) (behind (r .first) before) e in
+        let q = and-eq-true-iff (isBegin r) (behind (r .first) before) .0 (p .1) in
+        (p .0, subst T (sym (q .0)) tt, sym (behind-is i (r .first)) ∙ q .1)

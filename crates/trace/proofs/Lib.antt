@@ -15,6 +15,7 @@ pub mod Encoded
 pub mod Events
 pub mod Walks
 pub mod Whole
+pub mod RefusesBehind
 pub mod Fronts
 pub mod Replies
 pub mod Examples

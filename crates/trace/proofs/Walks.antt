@@ -54,7 +54,7 @@ unsent-free tr n e i h b =
 
 module _ (tr : List Record) (start m : ℕ) where
   -- one turn
-  walk-at : (i : ℕ) → i < length tr
+  pub walk-at : (i : ℕ) → i < length tr
       → walk start m (past tr i) (drop i tr) ≡ orElse (rule (past tr i) (at tr i)) (i + 1) (walk start m (past tr (suc i)) (drop (suc i) tr))
   unfolding walk past
   walk-at i h = rw (drop-cons tr i noRecord h, past-length tr i)
@@ -65,7 +65,7 @@ module _ (tr : List Record) (start m : ℕ) where
   plain-at i h = rw (drop-cons tr i noRecord h, past-length tr i)
 
   -- past the records that pass
-  walk-to : (n : ℕ) → n ≤ length tr → ((i : ℕ) → i < n → rule (past tr i) (at tr i) ≡ 0) → walk start m [] tr ≡ walk start m (past tr n) (drop n tr)
+  pub walk-to : (n : ℕ) → n ≤ length tr → ((i : ℕ) → i < n → rule (past tr i) (at tr i) ≡ 0) → walk start m [] tr ≡ walk start m (past tr n) (drop n tr)
   unfolding past orElse
   walk-to zero l f = refl
   walk-to (suc n) l f = walk-to n (omega arith) (λ i h. f i (omega arith)) ∙ walk-at n l ∙ rw (f n (omega arith))

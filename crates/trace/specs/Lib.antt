@@ -4,4 +4,5 @@ pub mod Rule
 pub mod Reading
 pub mod Paper
 pub mod Plain
+pub mod Behind
 pub mod loops

@@ -6,9 +6,6 @@ use borrow.Author.Needs.{needs}
 use Rattle.call_cases.proofs.fill_in.Statement.{statement}
 use Rattle.call_cases.proofs.fill_in.Tie as tie
 
-slice-aggregate-word : tie.Need-slice-aggregate-word
-slice-aggregate-word c = search needs
-
 word-requires : tie.Need-word-requires
 word-requires c κs = search needs
 
@@ -18,14 +15,11 @@ number-requires c κs = search needs
 number-requires-2 : tie.Need-number-requires-2
 number-requires-2 c κs = search needs
 
-slice-aggregate-fill : tie.Need-slice-aggregate-fill
-slice-aggregate-fill c = search needs
-
 slice-relend-prefix-fill : tie.Need-slice-relend-prefix-fill
 slice-relend-prefix-fill c = search needs
 
-slice-aggregate-fill-2 : tie.Need-slice-aggregate-fill-2
-slice-aggregate-fill-2 c = simp length-take (omega arith)
+slice-aggregate-fill : tie.Need-slice-aggregate-fill
+slice-aggregate-fill c = simp length-take (omega arith)
 
 fill-requires : tie.Need-fill-requires
 fill-requires c κs = search needs
@@ -36,8 +30,8 @@ filling-requires c κs = search needs
 numbers-requires : tie.Need-numbers-requires
 numbers-requires c κs = search needs
 
-slice-aggregate-word-2 : tie.Need-slice-aggregate-word-2
-slice-aggregate-word-2 c = search needs
+slice-aggregate-word : tie.Need-slice-aggregate-word
+slice-aggregate-word c = search needs
 
 word-requires-2 : tie.Need-word-requires-2
 word-requires-2 c κs = search needs
@@ -55,17 +49,15 @@ pub fill-in-spec : {M : Type 1} → statement M
 fill-in-spec =
     tie.close
     (tie.spec
-    slice-aggregate-word
     word-requires
     number-requires
     number-requires-2
-    slice-aggregate-fill
     slice-relend-prefix-fill
-    slice-aggregate-fill-2
+    slice-aggregate-fill
     fill-requires
     filling-requires
     numbers-requires
-    slice-aggregate-word-2
+    slice-aggregate-word
     word-requires-2
     same-length
     returns

@@ -15,9 +15,6 @@ returns-2 c = search needs
 returns-3 : tie.Need-returns-3
 returns-3 c = search needs
 
-slice-aggregate-word : tie.Need-slice-aggregate-word
-slice-aggregate-word c = search needs
-
 word-requires : tie.Need-word-requires
 word-requires c κs = search needs
 
@@ -66,8 +63,8 @@ bytes-requires c κs = search needs
 numbers-requires-2 : tie.Need-numbers-requires-2
 numbers-requires-2 c κs = search needs
 
-slice-aggregate-word-2 : tie.Need-slice-aggregate-word-2
-slice-aggregate-word-2 c = search needs
+slice-aggregate-word : tie.Need-slice-aggregate-word
+slice-aggregate-word c = search needs
 
 word-requires-2 : tie.Need-word-requires-2
 word-requires-2 c κs = search needs
@@ -91,7 +88,6 @@ list-in-spec =
     returns
     returns-2
     returns-3
-    slice-aggregate-word
     word-requires
     number-requires
     number-requires-2
@@ -108,7 +104,7 @@ list-in-spec =
     numbers-requires
     bytes-requires
     numbers-requires-2
-    slice-aggregate-word-2
+    slice-aggregate-word
     word-requires-2
     same-length
     same-length-2

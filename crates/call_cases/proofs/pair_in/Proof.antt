@@ -12,9 +12,6 @@ returns c = search needs
 returns-2 : tie.Need-returns-2
 returns-2 c = search needs
 
-slice-aggregate-word : tie.Need-slice-aggregate-word
-slice-aggregate-word c = search needs
-
 word-requires : tie.Need-word-requires
 word-requires c κs = search needs
 
@@ -33,20 +30,17 @@ number-requires-4 c κs = search needs
 number-requires-5 : tie.Need-number-requires-5
 number-requires-5 c κs = search needs
 
-slice-aggregate-ask-pair : tie.Need-slice-aggregate-ask-pair
-slice-aggregate-ask-pair c = search needs
-
 slice-relend-prefix-ask-pair : tie.Need-slice-relend-prefix-ask-pair
 slice-relend-prefix-ask-pair c = search needs
 
-slice-aggregate-ask-pair-2 : tie.Need-slice-aggregate-ask-pair-2
-slice-aggregate-ask-pair-2 c = simp length-take (omega arith)
+slice-aggregate-ask-pair : tie.Need-slice-aggregate-ask-pair
+slice-aggregate-ask-pair c = simp length-take (omega arith)
 
 slice-relend-prefix-ask-pair-2 : tie.Need-slice-relend-prefix-ask-pair-2
 slice-relend-prefix-ask-pair-2 c = search needs
 
-slice-aggregate-ask-pair-3 : tie.Need-slice-aggregate-ask-pair-3
-slice-aggregate-ask-pair-3 c = simp length-take (omega arith)
+slice-aggregate-ask-pair-2 : tie.Need-slice-aggregate-ask-pair-2
+slice-aggregate-ask-pair-2 c = simp length-take (omega arith)
 
 ask-pair-requires : tie.Need-ask-pair-requires
 ask-pair-requires c κs = search needs
@@ -63,8 +57,8 @@ bytes-requires c κs = search needs
 numbers-requires-2 : tie.Need-numbers-requires-2
 numbers-requires-2 c κs = search needs
 
-slice-aggregate-word-2 : tie.Need-slice-aggregate-word-2
-slice-aggregate-word-2 c = search needs
+slice-aggregate-word : tie.Need-slice-aggregate-word
+slice-aggregate-word c = search needs
 
 word-requires-2 : tie.Need-word-requires-2
 word-requires-2 c κs = search needs
@@ -87,24 +81,22 @@ pair-in-spec =
     (tie.spec
     returns
     returns-2
-    slice-aggregate-word
     word-requires
     number-requires
     number-requires-2
     number-requires-3
     number-requires-4
     number-requires-5
-    slice-aggregate-ask-pair
     slice-relend-prefix-ask-pair
-    slice-aggregate-ask-pair-2
+    slice-aggregate-ask-pair
     slice-relend-prefix-ask-pair-2
-    slice-aggregate-ask-pair-3
+    slice-aggregate-ask-pair-2
     ask-pair-requires
     pair-requires
     numbers-requires
     bytes-requires
     numbers-requires-2
-    slice-aggregate-word-2
+    slice-aggregate-word
     word-requires-2
     same-length
     same-length-2

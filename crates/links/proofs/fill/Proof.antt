@@ -7,7 +7,7 @@ use native.Mathlib.Omega.{arith}
 use Rattle.records.specs.Bytes.{decode}
 use Rattle.records.proofs.Decoded.{decoded-length}
 use Rattle.links.specs.Rule.{rankIn}
-use Rattle.links.specs.Fill.{Filled, fillFrom}
+use Rattle.links.specs.Fill.{FilledTable, fillFrom}
 use borrow.Author.Needs.{needs}
 use Rattle.links.proofs.fill.Statement.{statement}
 use Rattle.links.proofs.fill.Tie as tie
@@ -32,7 +32,7 @@ returns : tie.Need-returns
 returns c = let k = c .before .before .before .before .before .before .before .before .before .before .before .args in
     let r = c .before .before .before .fill-rows .ensures in
     let w = ap₂ (λ (n : ℕ) (last : List ℕ). fillFrom (decode (now (k .recs))) (rankIn (now (k .ranks))) 0 n (now (k .table)) last) (c .before .before .before .before .before .before .before .count .ensures) (c .before .before .before .before .before .before .numbers-1025 .ensures) in
-    (r .0 ∙ ap (λ (x : Filled). x .stop) w, r .1 ∙ ap (λ (x : Filled). x .words) w)
+    (r .0 ∙ ap (λ (x : FilledTable). x .stop) w, r .1 ∙ ap (λ (x : FilledTable). x .words) w)
 
 pub fill-spec : {M : Type 1} → statement M
 fill-spec =

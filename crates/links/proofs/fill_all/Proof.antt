@@ -9,7 +9,7 @@ use borrow.Author.Needs.{needs}
 use Rattle.slices.specs.Slices.{zeros}
 use Rattle.records.specs.Bytes.{decode}
 use Rattle.links.specs.Rule.{rankIn}
-use Rattle.links.specs.Fill.{Filled, fillFrom, fillAll}
+use Rattle.links.specs.Fill.{FilledTable, fillFrom, fillAll}
 use Rattle.links.proofs.fill_all.Statement.{statement}
 use Rattle.links.proofs.fill_all.Tie as tie
 
@@ -32,7 +32,7 @@ returns c =
     let r = c .fill .ensures in
     let long : length (now (start .args .table)) ≡ 8704 = omega arith in
     let w = ap₂ (λ (ranks ws : List ℕ). fillFrom tr (rankIn ranks) 0 (length tr) ws (zeros 1025)) (at-ranks .fill-ranks .ensures) (at-clear .clear .ensures ∙ ap zeros long) in
-    ((r .0 ∙ ap (λ (x : Filled). x .stop) w, r .1 ∙ ap (λ (x : Filled). x .words) w), at-ranks .fill-ranks .ensures)
+    ((r .0 ∙ ap (λ (x : FilledTable). x .stop) w, r .1 ∙ ap (λ (x : FilledTable). x .words) w), at-ranks .fill-ranks .ensures)
 
 pub fill-all-spec : {M : Type 1} → statement M
 fill-all-spec = tie.close (tie.spec fill-ranks-requires clear-requires fill-requires returns)

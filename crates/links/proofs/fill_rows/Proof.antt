@@ -7,7 +7,7 @@ use native.Mathlib.Omega.{arith}
 use lib.ListN.{length}
 use Rattle.records.specs.Bytes.{decode}
 use Rattle.links.specs.Rule.{rankIn}
-use Rattle.links.specs.Fill.{Filled, fillFrom}
+use Rattle.links.specs.Fill.{FilledTable, fillFrom}
 use Rattle.links.proofs.FillLaws.{fill-next, fill-stuck, fill-end}
 use Rattle.links.proofs.fill_rows.Statement.{statement}
 use Rattle.links.proofs.fill_rows.Tie as tie
@@ -43,7 +43,7 @@ returns c = let k = c .before .before .before .before .before .before .before .b
     let l = c .before .before .before .before .before .before .before .before .before .loop in
     let t = c .before .before .before .before .before .fill-record .ensures in
     let w = fill-stuck (decode (now (k .recs))) (rankIn (now (k .ranks))) (l .i) (k .n) (l .table) (l .last) (omega arith) (sym (t .stuck-is) ∙ c .if1 .taken) ∙ l .inv .3 in
-    (ap (λ (x : Filled). x .stop) w, t .words-are ∙ ap (λ (x : Filled). x .words) w)
+    (ap (λ (x : FilledTable). x .stop) w, t .words-are ∙ ap (λ (x : FilledTable). x .words) w)
 
 add-i : tie.Need-add-i Inv-loop μ-loop
 add-i c = omega arith
@@ -72,7 +72,7 @@ returns-2 c = let k = c .before .before .before .before .before .before .args in
     let l = c .before .loop in
     let z : k .n ≡ l .i = omega arith in
     let w = fill-end (decode (now (k .recs))) (rankIn (now (k .ranks))) (l .i) (k .n) (l .table) (l .last) (omega arith) ∙ l .inv .3 in
-    (z ∙ ap (λ (x : Filled). x .stop) w, ap (λ (x : Filled). x .words) w)
+    (z ∙ ap (λ (x : FilledTable). x .stop) w, ap (λ (x : FilledTable). x .words) w)
 
 pub fill-rows-spec : {M : Type 1} → statement M
 fill-rows-spec =

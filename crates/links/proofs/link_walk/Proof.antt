@@ -8,7 +8,7 @@ use borrow.Author.Needs.{needs}
 use lib.ListN.{length}
 use Rattle.records.specs.Bytes.{decode}
 use Rattle.links.specs.Rule.{rankIn, Walked, walk}
-use Rattle.links.proofs.RuleLaws.{walk-down, walk-stuck, walk-end}
+use Rattle.links.proofs.RuleLaws.{walk-down, walk-stuck, walk-end, walk-within}
 use Rattle.links.proofs.link_walk.Statement.{statement}
 use Rattle.links.proofs.link_walk.Tie as tie
 
@@ -20,8 +20,14 @@ Inv-loop recs ranks from e u table₀ sets₀ j₀ table sets j =
 abbrev μ-loop : tie.MeasureT-loop
 μ-loop recs ranks from e u table₀ sets₀ j₀ table sets j = j
 
+within-requires : tie.Need-within-requires Inv-loop μ-loop
+within-requires c κs = search needs
+
 loop-holds : tie.Need-loop-holds Inv-loop μ-loop
-loop-holds c = (refl, refl, refl)
+loop-holds c =
+    let k = c .before .before .before .before .before .args in
+    let w = c .within .ensures in
+    (refl, refl, walk-within (decode (now (k .recs))) (rankIn (now (k .ranks))) (k .e .0) (k .u) (now (k .table)) (now (k .sets)) (c .within .result) (k .from) (w .0) (w .1))
 
 sub-j : tie.Need-sub-j Inv-loop μ-loop
 sub-j c = omega arith
@@ -49,7 +55,7 @@ loop-less c = omega arith
 
 loop-again : tie.Need-loop-again Inv-loop μ-loop
 loop-again c = let t = c .before .before .before .before .before .link-turn .ensures in
-    let k = c .before .before .before .before .before .before .before .before .before .before .before .before .before .before .args in
+    let k = c .before .before .before .before .before .before .before .before .before .before .before .before .before .before .before .args in
     let l = c .before .before .before .before .before .before .before .before .before .loop in
     let down = walk-down (decode (now (k .recs))) (rankIn (now (k .ranks))) (k .e .0) (k .u) (l .table) (l .sets) (l .j) (omega arith) (sym (t .stuck-is) ∙ c .if1 .left) in
     let same = ap₂ (λ (a b : List ℕ). walk (decode (now (k .recs))) (rankIn (now (k .ranks))) (k .e .0) (k .u) (l .j - 1) a b) (t .words-are) (t .sets-are) in
@@ -71,6 +77,7 @@ link-walk-spec =
     (tie.spec
     Inv-loop
     μ-loop
+    within-requires
     loop-holds
     sub-j
     link-turn-requires

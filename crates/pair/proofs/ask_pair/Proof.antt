@@ -6,7 +6,7 @@ use mathlib.Core.Path.{refl, sym, ap}
 use Rattle.order.specs.Paper.{fillPaper}
 use Rattle.order.proofs.Upward.{upward}
 use Rattle.races.proofs.FilledLaws.{chosen-length}
-use Rattle.pair.proofs.PairEnds.{for-pair, not-asked, askable}
+use Rattle.pair.proofs.PairEnds.{not-asked, askable}
 use borrow.Author.Needs.{needs}
 use Rattle.pair.proofs.ask_pair.Statement.{statement}
 use Rattle.pair.proofs.ask_pair.Tie as tie
@@ -17,14 +17,8 @@ numbers-1024-requires c κs = search needs
 numbers-1025-requires : tie.Need-numbers-1025-requires
 numbers-1025-requires c κs = search needs
 
-smaller-requires : tie.Need-smaller-requires
-smaller-requires c κs = search needs
-
-larger-requires : tie.Need-larger-requires
-larger-requires c κs = search needs
-
-prepare-requires : tie.Need-prepare-requires
-prepare-requires c κs = search needs
+prepare-pair-requires : tie.Need-prepare-pair-requires
+prepare-pair-requires c κs = search needs
 
 clear-requires : tie.Need-clear-requires
 clear-requires c κs = search needs
@@ -48,21 +42,17 @@ returns : tie.Need-returns
 returns c =
     let at-clear = c .before .before .before .before .before in
     let at-prepare = at-clear .before .before .before .before .before in
-    let at-larger = at-prepare .before .before .before .before in
-    let at-smaller = at-larger .before in
-    let s = c .before .before .before .before .before .before .before .before .before .before .before .before .before .before .before .before .before .before .before .before .before .before in
-    let p = for-pair (s .args .a .0) (s .args .b .0) _ (at-smaller .smaller .ensures) (at-larger .larger .ensures) (at-prepare .prepare .ensures) in
+    let s = at-prepare .before .before .before .before .before .before .before .before .before .before in
+    let p = at-prepare .prepare-pair .ensures in
     not-asked (now (s .args .bytes)) (s .args .a .0) (s .args .b .0) (s .args .width) (now (s .args .clocks)) _ (now (s .args .work)) _ _ (now (s .args .list)) _ _
-    p (at-clear .clear .ensures) _ _ (upward (at-prepare .prepare .result .answer) (c .before .before .match .keys2)) _ (simp (c .refusal-of .ensures))
+    p (at-clear .clear .ensures) _ _ (upward (at-prepare .prepare-pair .result .answer) (c .before .before .match .keys2)) _ (simp (c .refusal-of .ensures))
 
 sub-i : tie.Need-sub-i
 sub-i c =
     let at-clear = c .before .before .before .before .before .before in
     let at-prepare = at-clear .before .before .before .before .before in
-    let at-larger = at-prepare .before .before .before .before in
-    let at-smaller = at-larger .before in
-    let s = c .before .before .before .before .before .before .before .before .before .before .before .before .before .before .before .before .before .before .before .before .before .before .before in
-    let p = for-pair (s .args .a .0) (s .args .b .0) _ (at-smaller .smaller .ensures) (at-larger .larger .ensures) (at-prepare .prepare .ensures) in
+    let s = at-prepare .before .before .before .before .before .before .before .before .before .before in
+    let p = at-prepare .prepare-pair .ensures in
     let l = askable (now (s .args .bytes)) (s .args .a .0) (s .args .b .0) (s .args .width) (now (s .args .clocks)) _ (now (s .args .work)) _ _ (now (s .args .list)) _ _
     p (at-clear .clear .ensures) _ (ap fillPaper (c .before .before .answer .given .1)) _ refl in
     l .both-in .first
@@ -74,10 +64,8 @@ sub-j : tie.Need-sub-j
 sub-j c =
     let at-clear = c .before .before .before .before .before .before .before in
     let at-prepare = at-clear .before .before .before .before .before in
-    let at-larger = at-prepare .before .before .before .before in
-    let at-smaller = at-larger .before in
-    let s = c .before .before .before .before .before .before .before .before .before .before .before .before .before .before .before .before .before .before .before .before .before .before .before .before in
-    let p = for-pair (s .args .a .0) (s .args .b .0) _ (at-smaller .smaller .ensures) (at-larger .larger .ensures) (at-prepare .prepare .ensures) in
+    let s = at-prepare .before .before .before .before .before .before .before .before .before .before in
+    let p = at-prepare .prepare-pair .ensures in
     let l = askable (now (s .args .bytes)) (s .args .a .0) (s .args .b .0) (s .args .width) (now (s .args .clocks)) _ (now (s .args .work)) _ _ (now (s .args .list)) _ _
     p (at-clear .clear .ensures) _ (ap fillPaper (c .before .before .before .answer .given .1)) _ refl in
     l .both-in .second
@@ -93,10 +81,8 @@ slice-aggregate-ask-filled c =
     let at-answer = c .before .before .before .before .before .before in
     let at-clear = at-answer .before .before .before .before in
     let at-prepare = at-clear .before .before .before .before .before in
-    let at-larger = at-prepare .before .before .before .before in
-    let at-smaller = at-larger .before in
-    let s = c .before .before .before .before .before .before .before .before .before .before .before .before .before .before .before .before .before .before .before .before .before .before .before .before .before .before .before in
-    let p = for-pair (s .args .a .0) (s .args .b .0) _ (at-smaller .smaller .ensures) (at-larger .larger .ensures) (at-prepare .prepare .ensures) in
+    let s = at-prepare .before .before .before .before .before .before .before .before .before .before in
+    let p = at-prepare .prepare-pair .ensures in
     let l = askable (now (s .args .bytes)) (s .args .a .0) (s .args .b .0) (s .args .width) (now (s .args .clocks)) _ (now (s .args .work)) _ _ (now (s .args .list)) _ _
     p (at-clear .clear .ensures) _ (ap fillPaper (at-answer .answer .given .1)) _ (c .before .before .records .ensures) in
     sym (chosen-length (l .filled))
@@ -107,10 +93,8 @@ ask-filled-requires c κs =
     let at-answer = at-records .before .before .before .before in
     let at-clear = at-answer .before .before .before .before in
     let at-prepare = at-clear .before .before .before .before .before in
-    let at-larger = at-prepare .before .before .before .before in
-    let at-smaller = at-larger .before in
-    let s = c .before .before .before .before .before .before .before .before .before .before .before .before .before .before .before .before .before .before .before .before .before .before .before .before .before .before .before .before .before .before in
-    let p = for-pair (s .args .a .0) (s .args .b .0) _ (at-smaller .smaller .ensures) (at-larger .larger .ensures) (at-prepare .prepare .ensures) in
+    let s = at-prepare .before .before .before .before .before .before .before .before .before .before in
+    let p = at-prepare .prepare-pair .ensures in
     let l = askable (now (s .args .bytes)) (s .args .a .0) (s .args .b .0) (s .args .width) (now (s .args .clocks)) _ (now (s .args .work)) _ _ (now (s .args .list)) _ _
     p (at-clear .clear .ensures) _ (ap fillPaper (at-answer .answer .given .1)) _ (at-records .records .ensures) in
     ((l .filled, l .chains-used, omega (arith, l .both-in .second, l .both-in .second-inside)), l .clear)
@@ -131,10 +115,8 @@ returns-2 c =
     let at-answer = at-records .before .before .before .before in
     let at-clear = at-answer .before .before .before .before in
     let at-prepare = at-clear .before .before .before .before .before in
-    let at-larger = at-prepare .before .before .before .before in
-    let at-smaller = at-larger .before in
-    let s = c .before .before .before .before .before .before .before .before .before .before .before .before .before .before .before .before .before .before .before .before .before .before .before .before .before .before .before .before .before .before .before .before .before .before .before in
-    let p = for-pair (s .args .a .0) (s .args .b .0) _ (at-smaller .smaller .ensures) (at-larger .larger .ensures) (at-prepare .prepare .ensures) in
+    let s = at-prepare .before .before .before .before .before .before .before .before .before .before in
+    let p = at-prepare .prepare-pair .ensures in
     let l = askable (now (s .args .bytes)) (s .args .a .0) (s .args .b .0) (s .args .width) (now (s .args .clocks)) _ (now (s .args .work)) _ _ (now (s .args .list)) _ _
     p (at-clear .clear .ensures) _ (ap fillPaper (at-answer .answer .given .1)) _ (at-records .records .ensures) in
     let a = at-ask-filled .ask-filled .ensures in
@@ -146,9 +128,7 @@ ask-pair-spec =
     (tie.spec
     numbers-1024-requires
     numbers-1025-requires
-    smaller-requires
-    larger-requires
-    prepare-requires
+    prepare-pair-requires
     clear-requires
     enum-known-answer
     enum-told

@@ -4,7 +4,7 @@ use mathlib.Core.Path.{_≡_}
 use mathlib.Core.Logic.{_≢_}
 use mathlib.Core.Bool.{Bool, _&&_}
 use mathlib.Core.List.{List, _++_, map}
-use lib.Dec.{T, eqb}
+use lib.Dec.{T, eqb, leb}
 use lib.ListN.{length, getD, set}
 use Rattle.records.specs.declared.Record.{Record}
 use Rattle.records.specs.Records.{at, eventOf}
@@ -54,10 +54,10 @@ abbrev pub wayOf : List Record → ℕ → ℕ → WayRound
 wayOf tr a b = wayRound (eqb (eventOf (at tr a)) (eventOf (at tr b))) (happensBefore tr (eventOf (at tr a)) (eventOf (at tr b)))
     (happensBefore tr (eventOf (at tr b)) (eventOf (at tr a)))
 
--- row c is unordered with row d, and row t happens before it or is it
-unfoldable pub goesOn : List ℕ → ℕ → List ℕ → ℕ → ℕ → ℕ → Bool
-goesOn chosen width clocks t c d = saysUnordered (relateIn clocks width c (getD chosen c 0) d (getD chosen d 0))
-    && saysBefore (relateIn clocks width t (getD chosen t 0) c (getD chosen c 0))
+-- a record of that kind is no send, its row c is unordered with row d, and row t happens before it or is it
+unfoldable pub goesOn : List ℕ → ℕ → List ℕ → ℕ → ℕ → ℕ → ℕ → Bool
+goesOn chosen width clocks kind t c d = leb kind 6 && (saysUnordered (relateIn clocks width c (getD chosen c 0) d (getD chosen d 0))
+    && saysBefore (relateIn clocks width t (getD chosen t 0) c (getD chosen c 0)))
 
 -- no record before d has such a race
 abbrev pub NoRace : List Record → ℕ → ℕ → ℕ → ℕ → Type 0

@@ -1,13 +1,12 @@
 -- Filling the clock rows once more, where the chain of each row is known. Assumes nothing.
 use Prim.Native.Nat.{ℕ, _*_, _≤_}
 use mathlib.Core.Path.{_≡_}
-use mathlib.Core.Bool.{Bool, false}
+use mathlib.Core.Bool.{false}
 use mathlib.Core.List.{List}
 use lib.ListN.{length}
 use Rattle.records.specs.declared.Record.{Record}
-use Rattle.records.specs.declared.Trace.{Trace}
 use Rattle.records.specs.Kinds.{hasSend}
-use Rattle.trace.specs.Reading.{Acceptable, Accepts, recordsIn}
+use Rattle.trace.specs.Reading.{Acceptable}
 use Rattle.ranks.specs.Ranks.{ranksOf}
 use Rattle.order.specs.Fill.{eventsIn, rowPastWidth, chainTable}
 
@@ -21,11 +20,3 @@ pub record Refillable (tr : List Record) (ranks chosen : List ℕ) (events width
   pub narrow : width ≤ 1024
   pub enough : rowPastWidth tr width ≡ eventsIn tr
   pub room : eventsIn tr * width ≤ length clocks
-
--- the bytes of an accepted trace with these records, and whether one is a send
-pub record Source (b : List ℕ) (tr : List Record) (width : ℕ) (sends : Bool) : Type 0 where
-  pub trace : Trace
-  pub accepted : Accepts b trace
-  pub records-are : tr ≡ recordsIn b trace
-  pub some : 1 ≤ width
-  pub sends-are : sends ≡ hasSend tr

@@ -10,7 +10,7 @@ abbrev Inv-loop : tie.InvT-loop
 Inv-loop tally₀ x₀ tally x = x₀ ≤ x
 
 abbrev μ-loop : tie.MeasureT-loop
-μ-loop tally₀ x₀ tally x = 8000 - x
+μ-loop tally₀ x₀ tally x = 14000 - x
 
 loop-holds : tie.Need-loop-holds Inv-loop μ-loop
 loop-holds c = search needs

@@ -49,11 +49,8 @@ clear-requires c κs =
     let start = at-pass .before .before .before .before .before .before .before .before .before .before .before .before .before in
     omega (arith, at-pass .pass-rows .kept .1 .1 .1 .1 .1 .1 .1 .1 .0, ap length (start .pre .3), zeros-length 1024)
 
-add-t31 : tie.Need-add-t31
-add-t31 c = search needs
-
-cast-t32 : tie.Need-cast-t32
-cast-t32 c =
+past-width-requires : tie.Need-past-width-requires
+past-width-requires c κs =
     let at-if = c .before .before .before .before .before .before .before .before in
     let at-count = at-if .before in
     let start = at-count .before .before .before .before .before .before .before .before .before .before .before .before .before .before .before .before .before .before .before in
@@ -67,7 +64,7 @@ same-length-2 c = search needs
 
 returns : tie.Need-returns
 returns c =
-    let at-clear-rows = c .before .before .before .before .before .before in
+    let at-clear-rows = c .before .before .before .before .before .before .before in
     let at-if = at-clear-rows .before .before in
     let at-count = at-if .before in
     let at-pass = at-count .before .before .before .before .before .before in
@@ -76,9 +73,9 @@ returns c =
     let p = at-pass .pass-rows in
     let h : p .result .position < length (decode (now (a .args .recs))) = omega (arith, at-count .count .ensures, at-if .if1 .taken) in
     let kept = p .kept .1 .1 .1 .1 .1 .1 .1 .1 .0 ∙ (ap length (a .pre .3) ∙ zeros-length 1024) in
-    let o = cleared-whole (p .last .1 .1 .1 .1 .1 .1 .1 .1 .0) (sym kept) (c .before .before .clear .ensures) in
+    let o = cleared-whole (p .last .1 .1 .1 .1 .1 .1 .1 .1 .0) (sym kept) (c .before .before .before .clear .ensures) in
     ends-short _ (a .pre .0) _ _ (a .pre .1) (now (a .args .clocks)) (a .pre .2) _ _ _ _ (p .ensures) h _ _ _ (p .kept .1 .1 .1 .1 .1 .0)
-    (at-clear-rows .clear-rows .ensures) o (at-fill-ranks .fill-ranks .ensures) _ refl
+    (at-clear-rows .clear-rows .ensures) o (at-fill-ranks .fill-ranks .ensures) _ (c .past-width .ensures)
 
 same-length-3 : tie.Need-same-length-3
 same-length-3 c = search needs
@@ -107,8 +104,7 @@ fill-rows-spec =
     count-requires
     clear-rows-requires
     clear-requires
-    add-t31
-    cast-t32
+    past-width-requires
     same-length
     same-length-2
     returns

@@ -56,40 +56,48 @@ loop-holds c =
     let k = at-kind-at .base-kind-at .ensures in
     λ f i. along-start f (s .args .lo) (s .args .t) (s .args .d) i (c .before .before .cell-at .ensures) (c .before .least-kind .ensures ∙ ap leastKind k) (omega (arith, at-if .if1 .left)) (at-row-at .row-at .ensures) (c .before .before .before .if2 .left) (c .next-access .ensures .next (s .pre .1 .2) (omega (arith, s .pre .1 .3)))
 
+kind-at-requires : tie.Need-kind-at-requires Inv-loop μ-loop
+kind-at-requires c κs = search needs
+
 row-at-requires-2 : tie.Need-row-at-requires-2 Inv-loop μ-loop
 row-at-requires-2 c κs = search needs
 
 leads-on-requires : tie.Need-leads-on-requires Inv-loop μ-loop
 leads-on-requires c κs =
-    let s = c .before .before .before .before .before .before .before .before .before .before .before .before .before .before .before .before in
-    along-rows (s .pre .0) (s .args .lo) (s .args .t) (s .args .d) (s .pre .1 .3) (c .before .before .loop .inv (s .pre .0) (s .pre .1 .3)) (c .before .loop-test .taken) (c .row-at2 .ensures) (s .pre .1 .1)
+    let at-test = c .before .before in
+    let s = at-test .before .before .before .before .before .before .before .before .before .before .before .before .before .before .before in
+    along-rows (s .pre .0) (s .args .lo) (s .args .t) (s .args .d) (s .pre .1 .3) (at-test .before .loop .inv (s .pre .0) (s .pre .1 .3)) (at-test .loop-test .taken) (c .before .kind-at .ensures) (c .row-at2 .ensures) (s .pre .1 .1)
 
 returns-3 : tie.Need-returns-3 Inv-loop μ-loop
 returns-3 c =
-    let at-loop = c .before .before .before .before in
-    let s = c .before .before .before .before .before .before .before .before .before .before .before .before .before .before .before .before .before .before in
-    along-found (s .pre .0) (s .args .lo) (s .args .t) (s .args .d) (s .pre .1 .3) (at-loop .loop .inv (s .pre .0) (s .pre .1 .3)) (c .before .before .before .loop-test .taken) (c .before .before .row-at2 .ensures) (sym (c .before .leads-on .ensures) ∙ c .if3 .taken)
+    let at-row = c .before .before in
+    let at-test = at-row .before .before in
+    let s = at-test .before .before .before .before .before .before .before .before .before .before .before .before .before .before .before in
+    along-found (s .pre .0) (s .args .lo) (s .args .t) (s .args .d) (s .pre .1 .3) (at-test .before .loop .inv (s .pre .0) (s .pre .1 .3)) (at-test .loop-test .taken) (at-row .before .kind-at .ensures) (at-row .row-at2 .ensures) (sym (c .before .leads-on .ensures) ∙ c .if3 .taken)
 
 add-next-access : tie.Need-add-next-access Inv-loop μ-loop
-add-next-access c = let s = c .before .before .before .before .before .before .before .before .before .before .before .before .before .before .before .before .before .before in omega (arith, c .before .before .before .loop-test .taken, s .pre .1 .3, s .pre .0 .acceptable .few)
+add-next-access c =
+    let at-test = c .before .before .before .before in
+    let s = at-test .before .before .before .before .before .before .before .before .before .before .before .before .before .before .before in
+    omega (arith, at-test .loop-test .taken, s .pre .1 .3, s .pre .0 .acceptable .few)
 
 next-access-requires-2 : tie.Need-next-access-requires-2 Inv-loop μ-loop
 next-access-requires-2 c κs = search needs
 
 loop-less : tie.Need-loop-less Inv-loop μ-loop
 loop-less c =
-    let at-loop-test = c .before .before .before .before in
-    let s = c .before .before .before .before .before .before .before .before .before .before .before .before .before .before .before .before .before .before .before in
-    let t = at-loop-test .loop-test .taken in
+    let at-test = c .before .before .before .before .before in
+    let s = at-test .before .before .before .before .before .before .before .before .before .before .before .before .before .before .before in
+    let t = at-test .loop-test .taken in
     omega (arith, t, c .next-access2 .ensures .next (omega (arith, t)) (omega (arith, s .pre .1 .3)) .past .low)
 
 loop-again : tie.Need-loop-again Inv-loop μ-loop
 loop-again c =
-    let at-loop-test = c .before .before .before .before in
-    let at-loop = at-loop-test .before in
+    let at-row = c .before .before .before in
+    let at-test = at-row .before .before in
+    let s = at-test .before .before .before .before .before .before .before .before .before .before .before .before .before .before .before in
     λ f i.
-    let s = c .before .before .before .before .before .before .before .before .before .before .before .before .before .before .before .before .before .before .before in
-    along-next f (s .args .lo) (s .args .t) (s .args .d) i (at-loop .loop .inv f i) (at-loop-test .loop-test .taken) (c .before .before .before .row-at2 .ensures) (sym (c .before .before .leads-on .ensures) ∙ c .before .if3 .left) (c .next-access2 .ensures .next (omega (arith, at-loop-test .loop-test .taken)) (omega (arith, s .pre .1 .3)))
+    along-next f (s .args .lo) (s .args .t) (s .args .d) i (at-test .before .loop .inv f i) (at-test .loop-test .taken) (at-row .before .kind-at .ensures) (at-row .row-at2 .ensures) (sym (c .before .before .leads-on .ensures) ∙ c .before .if3 .left) (c .next-access2 .ensures .next (omega (arith, at-test .loop-test .taken)) (omega (arith, s .pre .1 .3)))
 
 returns-4 : tie.Need-returns-4 Inv-loop μ-loop
 returns-4 c =
@@ -111,6 +119,7 @@ find-first-spec =
     least-kind-requires
     next-access-requires
     loop-holds
+    kind-at-requires
     row-at-requires-2
     leads-on-requires
     returns-3

@@ -38,7 +38,7 @@ returns c =
     let s = c .before .before in
     let q = s .before .before in
     let r = q .before .before in
-    let b = r .before .before .before in
+    let b = r .before .before .before .before in
     let e = rank-told (b .pre .0) (b .args .t .0) (r .ranks .ensures) (q .rank-of .ensures) in
     let f = rank-told (b .pre .0) (b .args .u .0) (r .ranks .ensures) (s .rank-of2 .ensures) in
     c .refused .ensures ∙ sym (ask-none _ _ _ _ _ _ (inl (sym e ∙ c .before .if1 .taken)))
@@ -51,7 +51,7 @@ returns-2 c =
     let s = c .before .before .before in
     let q = s .before .before in
     let r = q .before .before in
-    let b = r .before .before .before in
+    let b = r .before .before .before .before in
     let e = rank-told (b .pre .0) (b .args .t .0) (r .ranks .ensures) (q .rank-of .ensures) in
     let f = rank-told (b .pre .0) (b .args .u .0) (r .ranks .ensures) (s .rank-of2 .ensures) in
     c .refused2 .ensures ∙ sym (ask-none _ _ _ _ _ _ (inr (sym f ∙ c .before .if2 .taken)))
@@ -67,7 +67,7 @@ returns-3 c =
     let s = c .before .before .before .before .before in
     let q = s .before .before in
     let r = q .before .before in
-    let b = r .before .before .before in
+    let b = r .before .before .before .before in
     let e = rank-told (b .pre .0) (b .args .t .0) (r .ranks .ensures) (q .rank-of .ensures) in
     let f = rank-told (b .pre .0) (b .args .u .0) (r .ranks .ensures) (s .rank-of2 .ensures) in
     let h = c .before .before in
@@ -82,18 +82,12 @@ sub-y c = search needs
 slice-aggregate-pass-chains : tie.Need-slice-aggregate-pass-chains
 slice-aggregate-pass-chains c = search needs
 
-cast-pass-chains : tie.Need-cast-pass-chains
-cast-pass-chains c = search needs
-
-cast-pass-chains-2 : tie.Need-cast-pass-chains-2
-cast-pass-chains-2 c = search needs
-
 pass-chains-requires : tie.Need-pass-chains-requires
 pass-chains-requires c κs =
     let at-if = c .before in
     let h = at-if .before in
     let r = h .before .before .before .before .before .before .before in
-    let start = r .before .before .before in (
+    let start = r .before .before .before .before in (
       record {
         acceptable = start .pre .0;
         ranks-are = r .ranks .ensures;
@@ -101,6 +95,7 @@ pass-chains-requires c κs =
       },
       start .pre .1,
       start .pre .2,
+      start .pre .3,
     )
 
 count-requires : tie.Need-count-requires
@@ -123,7 +118,7 @@ returns-4 c =
     let s = c .before .before .before .before .before .before .before .before .before .before .before in
     let q = s .before .before in
     let r = q .before .before in
-    let b = r .before .before .before in
+    let b = r .before .before .before .before in
     let e = rank-told (b .pre .0) (b .args .t .0) (r .ranks .ensures) (q .rank-of .ensures) in
     let f = rank-told (b .pre .0) (b .args .u .0) (r .ranks .ensures) (s .rank-of2 .ensures) in
     let h = c .before .before .before .before .before .before .before .before in
@@ -146,7 +141,7 @@ returns-5 c =
     let s = c .before .before .before .before .before .before .before .before .before .before in
     let q = s .before .before in
     let r = q .before .before in
-    let b = r .before .before .before in
+    let b = r .before .before .before .before in
     let e = rank-told (b .pre .0) (b .args .t .0) (r .ranks .ensures) (q .rank-of .ensures) in
     let f = rank-told (b .pre .0) (b .args .u .0) (r .ranks .ensures) (s .rank-of2 .ensures) in
     let h = c .before .before .before .before .before .before .before in
@@ -172,8 +167,6 @@ ask-spec =
     sub-x
     sub-y
     slice-aggregate-pass-chains
-    cast-pass-chains
-    cast-pass-chains-2
     pass-chains-requires
     count-requires
     add-t28

@@ -29,8 +29,16 @@ mul-own c = let h = own-room _ _ (c .before .before .before .pre) in search need
 slice-read-own : tie.Need-slice-read-own
 slice-read-own c = own-room _ _ (c .before .before .before .before .pre)
 
-entries-of-requires : tie.Need-entries-of-requires
-entries-of-requires c κs = search needs
+numbers-1024-requires : tie.Need-numbers-1024-requires
+numbers-1024-requires c κs = search needs
+
+slice-aggregate-keep-entries : tie.Need-slice-aggregate-keep-entries
+slice-aggregate-keep-entries c = search needs
+
+keep-entries-requires : tie.Need-keep-entries-requires
+keep-entries-requires c κs =
+    let pre = c .before .before .before .before .before .before .before .pre in
+    (pre .room, pre .narrow, c .before .before .numbers-1024 .ensures)
 
 cast-clear-row : tie.Need-cast-clear-row
 cast-clear-row c = search needs
@@ -44,16 +52,16 @@ slice-aggregate-lead-down c = search needs
 lead-down-requires : tie.Need-lead-down-requires
 lead-down-requires c κs =
     let at-clear-row = c .before .before .before .before in
-    let at-entries = at-clear-row .before .before in
-    let start = at-entries .before .before .before .before .before .before in
-    let e = ap length (at-entries .entries-of .ensures) ∙ kept-length _ _ _ _ in
+    let at-keep = at-clear-row .before .before .before in
+    let start = at-keep .before .before .before .before .before .before .before .before in
+    let e = ap length (at-keep .keep-entries .ensures) ∙ kept-length _ _ _ _ in
     (may-keep _ _ (start .pre) (at-clear-row .clear-row .kept .0), omega (arith, e))
 
 raise-to-requires : tie.Need-raise-to-requires
 raise-to-requires c κs =
     let at-lead-down = c .before .before .before in
     let at-clear-row = at-lead-down .before .before .before .before .before in
-    let start = at-clear-row .before .before .before .before .before .before .before .before in
+    let start = at-clear-row .before .before .before .before .before .before .before .before .before .before .before in
     let e = at-lead-down .lead-down .kept .1 .1 .1 .0 ∙ at-clear-row .clear-row .kept .0 in
     omega (arith, e, own-room _ _ (start .pre))
 
@@ -65,8 +73,8 @@ returns c =
     let at-raise-to = c .before .before in
     let at-lead-down = at-raise-to .before .before .before .before in
     let at-clear-row = at-lead-down .before .before .before .before .before in
-    let at-entries = at-clear-row .before .before in
-    lead-whole _ _ _ _ _ _ _ _ _ _ _ refl refl (at-entries .entries-of .ensures) (at-clear-row .clear-row .ensures) (at-lead-down .lead-down .ensures) (at-raise-to .raise-to .ensures)
+    let at-keep = at-clear-row .before .before .before in
+    lead-whole _ _ _ _ _ _ _ _ _ _ _ refl refl (at-keep .keep-entries .ensures) (at-clear-row .clear-row .ensures) (at-lead-down .lead-down .ensures) (at-raise-to .raise-to .ensures)
 
 pub lead-in-spec : {M : Type 1} → statement M
 lead-in-spec =
@@ -79,7 +87,9 @@ lead-in-spec =
     add-place
     mul-own
     slice-read-own
-    entries-of-requires
+    numbers-1024-requires
+    slice-aggregate-keep-entries
+    keep-entries-requires
     cast-clear-row
     clear-row-requires
     slice-aggregate-lead-down

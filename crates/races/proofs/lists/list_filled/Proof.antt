@@ -20,7 +20,7 @@ same-length-2 c = search needs
 returns : tie.Need-returns
 returns c =
     let at-count-all = c .before .before .before .before in
-    let start = at-count-all .before .before .before .before .before .before .before .before .before in
+    let start = at-count-all .before .before .before .before .before .before .before .before in
     all-refused (decode (now (start .args .recs))) (start .args .short) (start .args .events) (now (start .args .list)) _ (at-count-all .count-all .result) (at-count-all .count-all .ensures .0) (at-count-all .count-all .ensures .1) _ (c .before .if1 .taken) _ (c .refused .ensures)
 
 count-requires : tie.Need-count-requires
@@ -38,14 +38,14 @@ same-length-4 c = search needs
 returns-2 : tie.Need-returns-2
 returns-2 c =
     let at-count-all = c .before .before .before .before .before .before in
-    let start = at-count-all .before .before .before .before .before .before .before .before .before in
+    let start = at-count-all .before .before .before .before .before .before .before .before in
     none-listed (decode (now (start .args .recs))) (start .args .short) (start .args .events) (now (start .args .list)) _ (at-count-all .count-all .result) (at-count-all .count-all .ensures .0) (at-count-all .count-all .ensures .1) (c .before .before .before .if1 .left) (c .before .if2 .taken) _ (c .before .before .count .result) (start .args .chains) (c .before .before .count .ensures) (start .pre .2) _ (c .listed .ensures)
 
 write-all-requires : tie.Need-write-all-requires
 write-all-requires c κs =
     let at-if = c .before .before .before .before in
     let at-count-all = at-if .before .before .before in
-    let start = at-count-all .before .before .before .before .before .before .before .before .before in
+    let start = at-count-all .before .before .before .before .before .before .before .before in
     ((start .pre .0, start .pre .1, start .pre .3), all-room (decode (now (start .args .recs))) (start .args .short) (start .args .events) (now (start .args .list)) _ (at-count-all .count-all .result) (at-count-all .count-all .ensures .0) (at-count-all .count-all .ensures .1) (at-if .if1 .left))
 
 listed-requires-2 : tie.Need-listed-requires-2
@@ -63,7 +63,7 @@ returns-3 c =
     let at-count = at-write-all .before .before .before .before in
     let at-if = at-count .before in
     let at-count-all = at-if .before .before .before in
-    let start = at-count-all .before .before .before .before .before .before .before .before .before in
+    let start = at-count-all .before .before .before .before .before .before .before .before in
     all-listed (decode (now (start .args .recs))) (start .args .short) (start .args .events) (now (start .args .list)) _ (at-count-all .count-all .result) (at-count-all .count-all .ensures .0) (at-count-all .count-all .ensures .1) (at-if .if1 .left) (at-write-all .write-all .ensures .0) (at-write-all .write-all .ensures .1) (at-count .count .result) (start .args .chains) (at-count .count .ensures) (start .pre .2) _ (c .listed2 .ensures)
 
 pub list-filled-spec : {M : Type 1} → statement M

@@ -75,7 +75,7 @@ list-filled-requires c κs =
     let p = k .before .before .before .before .before in
     let s = p .before .before .before .before .before .before .before .before .before .before in
     let l = listable (now (s .args .bytes)) (s .args .short) (s .args .width) (now (s .args .clocks)) _ (now (s .args .work)) _ _ (now (s .args .list)) _ _ (for-list _ (p .prepare .ensures)) (k .clear .ensures) _ (ap fillPaper (a .answer .given .1)) _ (r .records .ensures) in
-    (l .filled, l .events-are, l .chains-used, l .source)
+    (l .filled, l .events-are, l .chains-used, l .sends-are)
 
 same-length-3 : tie.Need-same-length-3
 same-length-3 c = search needs

@@ -1,22 +1,19 @@
 -- `races::raising::mark_list` meets its contract.
 -- Assumes nothing.
 use borrow.Author.Needs.{needs}
-use mathlib.Core.Path.{sym, _∙_}
-use Rattle.races.proofs.MarkedList.{marks-list, marks-none}
-use Rattle.races.proofs.RefillLaws.{again-refillable, again-filled, filled-again}
+use mathlib.Core.Path.{sym, _∙_, subst}
+use lib.Dec.{T}
+use Rattle.races.proofs.MarkedList.{marks-none}
 use Rattle.races.proofs.raising.mark_list.Statement.{statement}
 use Rattle.races.proofs.raising.mark_list.Tie as tie
 
 returns : tie.Need-returns
-returns c = let if1 = c .if1 in marks-none _ _ _ (if1 .taken)
+returns c = marks-none _ _ _ (c .if1 .taken)
 
-mark-all-requires : tie.Need-mark-all-requires
-mark-all-requires c κs =
+mark-linked-requires : tie.Need-mark-linked-requires
+mark-linked-requires c κs =
     let pre = c .before .before .before .before .before .before .before .before .before .pre in
-    (pre .0, pre .1, pre .3 .sends-are)
-
-fill-requires : tie.Need-fill-requires
-fill-requires c κs = search needs
+    (pre .0, pre .1, pre .2, sym (pre .3) ∙ c .before .before .if2 .taken)
 
 same-length : tie.Need-same-length
 same-length c = search needs
@@ -25,18 +22,18 @@ same-length-2 : tie.Need-same-length-2
 same-length-2 c = search needs
 
 returns-2 : tie.Need-returns-2
-returns-2 c =
-    let at-mark-all = c .before .before .before .before .before .before .before .before .before in
-    let pre = at-mark-all .before .before .before .before .before .before .before .before .before .before .pre in
-    let mark-all = at-mark-all .mark-all in
-    marks-list (filled-again (pre .0) (pre .3) _ (mark-all .kept .1 .1 .1 .1 .0) (mark-all .ensures .past-rows) _ (c .before .before .fill .ensures)) (mark-all .ensures .remarked)
+returns-2 c = c .before .before .before .before .mark-linked .ensures
 
-refill-requires : tie.Need-refill-requires
-refill-requires c κs =
-    let else2 = c .before in
-    let at-mark-all = else2 .before .before .before .before .before in
-    let pre = at-mark-all .before .before .before .before .before .before .before .before .before .before .pre in
-    again-refillable (pre .0) (sym (pre .3 .sends-are) ∙ else2 .if2 .left) _ (at-mark-all .mark-all .kept .1 .1 .1 .1 .0) _ (pre .2)
+no-words-requires : tie.Need-no-words-requires
+no-words-requires c κs = search needs
+
+slice-aggregate-mark-within : tie.Need-slice-aggregate-mark-within
+slice-aggregate-mark-within c = search needs
+
+mark-within-requires : tie.Need-mark-within-requires
+mark-within-requires c κs =
+    let pre = c .before .before .before .before .before .before .before .before .before .before .before .pre in
+    (pre .0, pre .1, pre .2, sym (c .before .before .before .before .if2 .left) ∙ pre .3, λ h. absurd h)
 
 same-length-3 : tie.Need-same-length-3
 same-length-3 c = search needs
@@ -45,23 +42,20 @@ same-length-4 : tie.Need-same-length-4
 same-length-4 c = search needs
 
 returns-3 : tie.Need-returns-3
-returns-3 c =
-    let at-mark-all = c .before .before .before .before .before .before .before .before .before in
-    let pre = at-mark-all .before .before .before .before .before .before .before .before .before .before .pre in
-    let mark-all = at-mark-all .mark-all in
-    marks-list (again-filled (pre .0) _ (mark-all .ensures .past-rows) _ (c .before .before .refill .ensures)) (mark-all .ensures .remarked)
+returns-3 c = c .before .before .before .before .before .mark-within .ensures
 
 pub mark-list-spec : {M : Type 1} → statement M
 mark-list-spec =
     tie.close
     (tie.spec
     returns
-    mark-all-requires
-    fill-requires
+    mark-linked-requires
     same-length
     same-length-2
     returns-2
-    refill-requires
+    no-words-requires
+    slice-aggregate-mark-within
+    mark-within-requires
     same-length-3
     same-length-4
     returns-3)

@@ -6,11 +6,6 @@ use lib.ListN.{length}
 use mathlib.Core.Path.{_≡_}
 use Rattle.random_traces.proofs.draft.put_action.Statement.{statement}
 use Rattle.random_traces.proofs.draft.put_action.Tie as tie
-use Rattle.random_traces.proofs.draft.kind_of.Reads as kind-of-reads
-use Rattle.random_traces.proofs.draft.number.Reads as number-reads
-use Rattle.random_traces.proofs.draft.put_record.Reads as put-record-reads
-use Rattle.random_traces.proofs.draft.second_of.Reads as second-of-reads
-use Rattle.random_traces.proofs.slots.plus.Reads as plus-reads
 
 abbrev Inv-loop : tie.InvT-loop
 Inv-loop bytes₀ s x n at₀ r₀ bytes at r = length bytes ≡ length bytes₀
@@ -30,11 +25,11 @@ loop-holds c = search needs
 kind-of-requires : tie.Need-kind-of-requires Inv-loop μ-loop
 kind-of-requires c κs = search needs
 
-number-requires : tie.Need-number-requires Inv-loop μ-loop
-number-requires c κs = search needs
-
 second-of-requires : tie.Need-second-of-requires Inv-loop μ-loop
 second-of-requires c κs = search needs
+
+number-requires : tie.Need-number-requires Inv-loop μ-loop
+number-requires c κs = search needs
 
 put-record-requires : tie.Need-put-record-requires Inv-loop μ-loop
 put-record-requires c κs = search needs
@@ -64,8 +59,8 @@ put-action-spec =
     plus-requires-2
     loop-holds
     kind-of-requires
-    number-requires
     second-of-requires
+    number-requires
     put-record-requires
     add-r
     loop-less

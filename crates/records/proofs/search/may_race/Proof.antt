@@ -13,14 +13,14 @@ returns : tie.Need-returns
 unfolding mayRace
 returns c = simp (← c .before .before .before .cell-at .ensures, ne-eqb _ _ (c .if1 .taken))
 
-base-kind-at-requires : tie.Need-base-kind-at-requires
-base-kind-at-requires c κs = search needs
+kind-at-requires : tie.Need-kind-at-requires
+kind-at-requires c κs = search needs
 
 returns-2 : tie.Need-returns-2
 unfolding mayRace
 returns-2 c =
     let at-cell-at = c .before .before .before .before in
-    simp (← at-cell-at .cell-at .ensures, eq-eqb _ _ (c .before .if1 .left), c .base-kind-at .ensures)
+    simp (← at-cell-at .cell-at .ensures, eq-eqb _ _ (c .before .if1 .left), c .kind-at .ensures)
 
 pub may-race-spec : {M : Type 1} → statement M
-may-race-spec = tie.close (tie.spec cell-at-requires returns base-kind-at-requires returns-2)
+may-race-spec = tie.close (tie.spec cell-at-requires returns kind-at-requires returns-2)
