@@ -1,4 +1,6 @@
 // A table of bits, a triangle of 1,024 rows, and four sets of numbers below 1,024, in words of 64 bits.
+#![tactic(auto)]
+
 ghost use Rattle.std.specs.Prelude.{◌≡◌, ◌+◌, ◌≤◌, ◌<◌, length, get_or};
 ghost use Rattle.slices.specs.Slices.{zeros};
 ghost use Rattle.bits.specs.Words.{bit_at, with_bit, or_from, or_others};

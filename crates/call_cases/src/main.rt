@@ -1,5 +1,7 @@
 // The boundary cases of filling, the order question, the lists and the pair question, on trace T: widths, spaces just enough and one short, and
 // refusals in their order. Then the same calls on traces with sends. Each line has the call, its width and spaces, and the answer.
+#![tactic(auto)]
+
 mod relay;
 mod show;
 
@@ -14,7 +16,7 @@ const T: [u8; 68] = [
 ];
 
 // How much of each space is lent.
-#[derive(Drop)]
+#[derive(Clone, Copy)]
 struct Spaces {
     clocks: usize,
     work: usize,

@@ -1,4 +1,6 @@
 // The lent clocks: whether they have space for the rows, how two rows stand to each other, and merging and clearing rows.
+#![tactic(auto)]
+
 ghost use Rattle.std.specs.Prelude.{◌≡◌, ◌&&◌, ◌+◌, ◌*◌, ◌<◌, min, max, ltb, length, get_or, set};
 ghost use Rattle.clocks.specs.Rows.{space_for, has_row, reach, merge_row, one_more, span, copy_row, clear_row, clear_rows};
 ghost use Rattle.clocks.specs.WayRound.{relation_paper, relate_entries, relate_in, says_unordered, says_before};
@@ -26,7 +28,7 @@ fn entry(clocks: &[u16], width: u16, u: u16, c: u16) -> u16
 }
 
 // Which way round two event actions stand.
-#[derive(Drop)]
+#[derive(Clone, Copy)]
 pub enum Relation {
     Same,
     Before,

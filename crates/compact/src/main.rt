@@ -1,4 +1,6 @@
 // The compactor as a program: reads a trace from standard input and writes its slim trace, or the line that the trace program prints for a refusal.
+#![tactic(auto)]
+
 use compactor::Compacting;
 use records::Operation;
 

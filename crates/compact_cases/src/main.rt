@@ -1,4 +1,6 @@
 // The compactor's boundary cases. Each line has the bytes given and the space lent, the answer, and the first bytes of the space, which held 9 before.
+#![tactic(auto)]
+
 mod draft;
 mod show;
 

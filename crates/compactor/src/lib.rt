@@ -1,4 +1,6 @@
 // The compactor: a second trace without repeated reads and writes of a cell by one event action.
+#![tactic(auto)]
+
 mod keeping;
 
 ghost use Rattle.std.specs.Prelude.{◌≡◌, ◌≤◌, length};
@@ -13,14 +15,14 @@ use records::{Operation, RECORD_BYTES, TRAILER_BYTES, access};
 use trace::{Reading, Refusal};
 
 // A slim trace: its length in bytes, and how many records it leaves out.
-#[derive(Drop)]
+#[derive(Clone, Copy)]
 pub struct Slim {
     pub length: usize,
     pub dropped: usize,
 }
 
 // What the compactor finds.
-#[derive(Drop)]
+#[derive(Clone, Copy)]
 pub enum Compacting {
     Compacted(Slim),
     Refused(Refusal),

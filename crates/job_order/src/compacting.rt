@@ -5,7 +5,7 @@ ghost use Rattle.job_order.specs.Calls.{slim_numbers, CompactsOut};
 
 use compactor::Compacting;
 
-#[derive(Drop)]
+#[derive(Clone, Copy)]
 struct Slimmed {
     number: u16,
     place: u16,

@@ -15,7 +15,7 @@ use question::Answer;
 use races::Listing;
 use trace::Reading;
 
-#[derive(Drop)]
+#[derive(Clone, Copy)]
 pub(crate) struct Read {
     pub(crate) number: u16,
     pub(crate) place: u16,
@@ -46,7 +46,7 @@ pub(crate) fn reading(r: Reading) -> Read
     }
 }
 
-#[derive(Drop)]
+#[derive(Clone, Copy)]
 pub(crate) struct Filled {
     pub(crate) number: u16,
     pub(crate) place: u16,
@@ -82,7 +82,7 @@ fn relation(r: Relation) -> u8
     }
 }
 
-#[derive(Drop)]
+#[derive(Clone, Copy)]
 pub(crate) struct Told {
     pub(crate) number: u16,
     pub(crate) place: u16,
@@ -106,7 +106,7 @@ pub(crate) fn answer(r: Answer) -> Told
     }
 }
 
-#[derive(Drop)]
+#[derive(Clone, Copy)]
 pub(crate) struct Listed {
     pub(crate) number: u16,
     pub(crate) place: u16,
@@ -139,7 +139,7 @@ pub(crate) fn listing(r: Listing) -> Listed
     }
 }
 
-#[derive(Drop)]
+#[derive(Clone, Copy)]
 pub(crate) struct Asked {
     pub(crate) number: u16,
     pub(crate) place: u16,

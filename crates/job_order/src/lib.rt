@@ -1,5 +1,7 @@
 // The calls from C: numbers and slices only. A call's result is 0 or the refusal's number; what it finds besides is stored through its last parameters, and
 // each of these is stored in every case, 0 where there is nothing to give.
+#![tactic(auto)]
+
 pub mod compacting;
 mod give;
 pub mod recording;

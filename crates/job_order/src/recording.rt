@@ -30,7 +30,7 @@ fn closed_after(before: u8, now: bool) -> u8
     0
 }
 
-#[derive(Drop)]
+#[derive(Clone, Copy)]
 struct Numbers {
     count: u16,
     situation: u8,
@@ -58,7 +58,7 @@ fn opening(r: Opening) -> u16
     }
 }
 
-#[derive(Drop)]
+#[derive(Clone, Copy)]
 struct Told {
     number: u16,
     place: u16,
@@ -79,7 +79,7 @@ fn stepped(r: Stepped) -> Told
     }
 }
 
-#[derive(Drop)]
+#[derive(Clone, Copy)]
 struct Closed {
     number: u16,
     place: u16,

@@ -1,4 +1,6 @@
 // Happens-before with links that deliver in order, as a table of bits by rank, and refusal 31.
+#![tactic(auto)]
+
 ghost use Rattle.std.specs.Prelude.{◌≡◌, ◌≢◌, ◌≤◌, ◌<◌, length};
 ghost use Rattle.slices.specs.Slices.{zeros};
 ghost use Rattle.records.specs.Bytes.{decode};

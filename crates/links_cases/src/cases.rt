@@ -4,7 +4,7 @@ use crate::show::{number, word};
 use crate::slots::{pick, plus};
 
 // How many traces, those that 31 refuses, pairs of event actions compared, ordered ones, and differences.
-#[derive(Drop)]
+#[derive(Clone, Copy)]
 pub(crate) struct Counts {
     pub traces: usize,
     pub refused: usize,

@@ -1,5 +1,7 @@
 // Links that deliver in order, against the rules as they stand. Of a trace written out: the position at which 31 stops it, or the number of its records,
 // the differences from the rules, and the event actions ordered by then. Positions count from 0. Then all traces of a few forms, and random ones.
+#![tactic(auto)]
+
 mod cases;
 mod chance;
 mod draft;

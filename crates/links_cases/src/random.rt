@@ -7,7 +7,7 @@ use records::access;
 
 // What a seed settles: how many event actions, at most how many forks and sends each (less 1), how often it joins, forks and sends to any target (of 8),
 // how many links, and a mask for the numbers. Other sends go no lower than the last target on their link.
-#[derive(Drop)]
+#[derive(Clone, Copy)]
 pub(crate) struct Shape {
     pub seed: usize,
     pub events: usize,
@@ -20,7 +20,7 @@ pub(crate) struct Shape {
 }
 
 // An event action: its rank, from 0, the position of its first record, and how many joins and body records it has.
-#[derive(Drop)]
+#[derive(Clone, Copy)]
 struct Action {
     j: usize,
     from: usize,

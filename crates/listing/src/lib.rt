@@ -1,4 +1,6 @@
 // The printed lines of the trace program: each is written into lent bytes at a position, where it fits.
+#![tactic(auto)]
+
 ghost use Rattle.std.specs.Prelude.{◌≡◌, [], ◌∷◌, ◌++◌, ◌+◌, ◌-◌, ◌≤◌, length};
 ghost use Rattle.listing.specs.Lines.{decimal, shape_word, mark_word, header_line, pair_line, refused_line, Printed};
 ghost use Rattle.listing.specs.loops.Pieces.{Width, Written};

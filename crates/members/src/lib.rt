@@ -1,4 +1,6 @@
 // A set of event actions in lent bytes, one bit for each: bit t % 8 of byte t ÷ 8 is event action t, in begin order.
+#![tactic(auto)]
+
 ghost use Rattle.std.specs.Prelude.{◌≡◌, min};
 ghost use Rattle.std.specs.Int.Count as Count;
 ghost use Rattle.members.specs.Members.{member, with_member, bytes_for, ones, counted};

@@ -61,7 +61,7 @@ pub(crate) fn make_row(
 }
 
 // How many rows were made, and the chains taken.
-#[derive(Drop)]
+#[derive(Clone, Copy)]
 pub(crate) struct MadeRows {
     pub rows: usize,
     pub chains: usize,

@@ -1,4 +1,6 @@
 // Happens-before, chains and vector clocks.
+#![tactic(auto)]
+
 pub mod from_table;
 mod linking;
 mod merge;
@@ -20,14 +22,14 @@ use slices::zeros::{numbers_1024, numbers_1025};
 use trace::{Reading, Refusal};
 
 // What filling finds: the number of chains used, or why it is refused.
-#[derive(Drop)]
+#[derive(Clone, Copy)]
 pub enum Filling {
     Filled(usize),
     Refused(Refusal),
 }
 
 // Filling with the trace to go on with: the one that was read where the call passes 22, else one with no records.
-#[derive(Drop)]
+#[derive(Clone, Copy)]
 pub struct Prepared {
     pub answer: Filling,
     pub trace: Trace,

@@ -81,7 +81,7 @@ fn clear_fresh(clocks: &mut [u16], width: usize, u: usize, chosen: &[u16])
 }
 
 // How far the pass came: the chains taken, and the position of the begin that needs one more than the width has, or the number of records.
-#[derive(Drop)]
+#[derive(Clone, Copy)]
 pub(crate) struct Passed {
     pub chains: usize,
     pub position: usize,

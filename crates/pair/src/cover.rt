@@ -16,7 +16,7 @@ use ranks::row_at;
 use records::{access, search};
 
 // A race: its two records.
-#[derive(Drop)]
+#[derive(Clone, Copy)]
 pub(crate) struct Step {
     pub first: usize,
     pub second: usize,

@@ -1,4 +1,6 @@
 // The pair question: for a race, what an arrangement keeps that runs its second access without its first, or a cover.
+#![tactic(auto)]
+
 mod cover;
 mod kept;
 mod racing;
@@ -30,7 +32,7 @@ use trace::Refusal;
 pub const ENTRY_NUMBERS: usize = 2;
 
 // What the pair question finds: open or covered, with the number of entries given, or why it is refused.
-#[derive(Drop)]
+#[derive(Clone, Copy)]
 pub enum PairAnswer {
     Open(usize),
     Covered(usize),

@@ -7,7 +7,7 @@ use pair_lists::{Pair, all_races_into, short_list_into};
 use races::Listing;
 use records::{Operation, Var};
 
-#[derive(Drop)]
+#[derive(Clone, Copy)]
 pub(crate) struct Few {
     pub answer: Listing,
     pub pairs: [Pair; 4],

@@ -1,5 +1,7 @@
 // Both lists as pair structs, on trace T, two more and T with sends: the entries by value, and spaces just enough and one short.
 // Each line has the trace, the list, its width and number space, the answer, the four pairs, and the first ten numbers.
+#![tactic(auto)]
+
 mod four;
 
 use four::Few;

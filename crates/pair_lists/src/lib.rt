@@ -1,4 +1,6 @@
 // Both lists as pair structs, written into a lent slice: the lists over numbers, and a copy of their entries. Thin: all decisions are made over numbers.
+#![tactic(auto)]
+
 ghost use Rattle.std.specs.Prelude.{◌≡◌, true, false, ◌+◌, ◌*◌, ◌≤◌, length};
 ghost use Rattle.races.specs.Lists.{entry_numbers};
 ghost use Rattle.races.specs.Paper.{Lists};
@@ -9,7 +11,7 @@ use races::{ENTRY_NUMBERS, Listing};
 use records::{Operation, Var};
 
 // An entry of a list: its first and second record, its cell, its shape (1 ww, 2 wr, 3 rw) and its mark (1 open, 0 covered).
-#[derive(Drop)]
+#[derive(Clone, Copy)]
 pub struct Pair {
     pub first: Operation,
     pub second: Operation,
@@ -19,7 +21,7 @@ pub struct Pair {
 }
 
 // What a list over numbers finds, and how many entries it has written.
-#[derive(Drop)]
+#[derive(Clone, Copy)]
 pub(crate) struct Made {
     pub answer: Listing,
     pub count: usize,

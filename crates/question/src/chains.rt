@@ -61,7 +61,7 @@ fn marked_chain(marks: &[u8], lasts: &[u16], chains: usize) -> usize
 }
 
 // The chains taken, more than the width where it has none left, and the chains of the two rows asked for: 0 before a row enters one.
-#[derive(Drop)]
+#[derive(Clone, Copy)]
 pub(crate) struct Taken {
     pub chains: usize,
     pub first: u16,
@@ -151,7 +151,7 @@ fn turn(
 }
 
 // How far the pass came, the position of the begin that needs one chain more than the width has or the number of records; and the chains of the rows asked for.
-#[derive(Drop)]
+#[derive(Clone, Copy)]
 pub(crate) struct Passed {
     pub position: usize,
     pub first: u16,

@@ -50,7 +50,7 @@ fn enter_row(
 }
 
 // How many rows entered a chain, and the chains of the rows asked for.
-#[derive(Drop)]
+#[derive(Clone, Copy)]
 struct Entered {
     rows: usize,
     first: u16,

@@ -1,4 +1,6 @@
 // The order question.
+#![tactic(auto)]
+
 mod ask;
 mod chains;
 mod from_table;
@@ -16,7 +18,7 @@ use slices::zeros::numbers_1025;
 use trace::{Reading, Refusal};
 
 // What the order question finds: which way round the two event actions stand, as the clocks have it.
-#[derive(Drop)]
+#[derive(Clone, Copy)]
 pub enum Answer {
     Related(Relation),
     Refused(Refusal),

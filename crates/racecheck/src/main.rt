@@ -1,5 +1,6 @@
 // The trace program: reads a trace from standard input and prints a header line and its short list, or one line for a refusal. What it prints is
 // `report`'s text.
+#![tactic(auto)]
 
 fn print(text: &[u8], length: usize) {
     if length <= text.len() {

@@ -89,7 +89,7 @@ fn firsts_to(kind: u8, last: usize, b: usize) -> usize
 }
 
 // Where the first accesses that may race with a second access are looked for: from one record on, before another.
-#[derive(Drop)]
+#[derive(Clone, Copy)]
 pub(crate) struct Firsts {
     pub from: usize,
     pub to: usize,

@@ -1,4 +1,6 @@
 // The races of a trace: the list of all of them, and the short list.
+#![tactic(auto)]
+
 mod candidates;
 mod keeping;
 mod leading;
@@ -16,7 +18,7 @@ use trace::Refusal;
 pub const ENTRY_NUMBERS: usize = 5;
 
 // A list that was made: its event actions, records, chains used and entries.
-#[derive(Drop)]
+#[derive(Clone, Copy)]
 pub struct Summary {
     pub events: usize,
     pub records: usize,
@@ -25,7 +27,7 @@ pub struct Summary {
 }
 
 // What a list finds.
-#[derive(Drop)]
+#[derive(Clone, Copy)]
 pub enum Listing {
     Listed(Summary),
     Refused(Refusal),

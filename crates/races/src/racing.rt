@@ -6,7 +6,7 @@ ghost use Rattle.races.specs.loops.FilledClocks.{RowsIn, BothIn, OwnIs};
 use clocks::{Relation, relate_entries};
 
 // A row with its chain and its own entry there.
-#[derive(Drop)]
+#[derive(Clone, Copy)]
 pub(crate) struct Own {
     pub row: usize,
     pub chain: usize,

@@ -131,7 +131,7 @@ fn more_chains(chosen: &[u16], chains: usize, u: usize) -> usize
 }
 
 // Where raising stands: at that row, and the chains taken by it and those before. Without a send, position is that of the row's begin.
-#[derive(Drop)]
+#[derive(Clone, Copy)]
 struct Stand {
     row: usize,
     position: usize,

@@ -21,7 +21,7 @@ pub(crate) const PAIR: usize = 3;
 // What is asked: the call, whether it is the pair question of a race, the width, how many clocks, work bytes and list numbers are lent, and two
 // records. What is expected: the group to count it in, a refusal's number (0 for none) and place; how many of the clocks are then as the rows say, or
 // 0; how many work bytes are 0; how many list numbers are those of the list, and how many entries they are. All other lent memory is unchanged.
-#[derive(Drop)]
+#[derive(Clone, Copy)]
 pub(crate) struct Case {
     pub call: usize,
     pub asks: bool,
@@ -42,7 +42,7 @@ pub(crate) struct Case {
 }
 
 // An answer of any of the calls.
-#[derive(Drop)]
+#[derive(Clone, Copy)]
 struct Reply {
     number: usize,
     place: usize,
@@ -54,7 +54,7 @@ struct Reply {
 }
 
 // Whether the answer and the list agree, and the other lent memory; for the pair question, whether it answers covered, and how many entries.
-#[derive(Drop)]
+#[derive(Clone, Copy)]
 pub(crate) struct Outcome {
     pub right: bool,
     pub lent: bool,

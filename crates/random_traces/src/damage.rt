@@ -4,7 +4,7 @@ use crate::draft::{Draft, byte, put_trailer};
 use crate::slots::{NOWHERE, fives, get_byte, pick, plus, put_byte};
 
 // Where the trailer is put, which record is written over which, where a byte is put and which, and how long the trace is.
-#[derive(Drop)]
+#[derive(Clone, Copy)]
 struct Change {
     end: usize,
     p: usize,

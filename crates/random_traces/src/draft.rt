@@ -8,7 +8,7 @@ use records::access;
 // What a seed settles: how many event actions, at most how many body records each (less 1), how often it joins (of 8), forks, sends and writes (of 16),
 // how many cells and links, how many sends go to any target (of 8; the others go no lower than the last one on their link, and 31 is for none of them), how
 // many bytes of the job file stand before, and a mask for the numbers.
-#[derive(Drop)]
+#[derive(Clone, Copy)]
 pub(crate) struct Shape {
     pub seed: usize,
     pub events: usize,
@@ -25,7 +25,7 @@ pub(crate) struct Shape {
 }
 
 // Where record 1 and the trailer start; may 31 be for one of the begins?
-#[derive(Drop)]
+#[derive(Clone, Copy)]
 pub(crate) struct Draft {
     pub start: usize,
     pub end: usize,
@@ -34,7 +34,7 @@ pub(crate) struct Draft {
 }
 
 // An event action: its rank, from 0, where it starts, and how many joins and body records it has.
-#[derive(Drop)]
+#[derive(Clone, Copy)]
 struct Action {
     j: usize,
     from: usize,

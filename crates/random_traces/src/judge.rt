@@ -5,7 +5,7 @@ use crate::slots::{get_byte, less, pick, plus, wide};
 use records::{Trace, access};
 
 // A refusal's number and place; number 0 for an accepted trace.
-#[derive(Drop)]
+#[derive(Clone, Copy)]
 pub(crate) struct Verdict {
     pub number: usize,
     pub place: usize,

@@ -4,7 +4,7 @@ use crate::{chains, definitions, judge, paths};
 use records::access;
 
 // Event actions, records, chains, the width to use and the clocks that it takes, races, entries of the short list, and the begin that needs the last chain.
-#[derive(Drop)]
+#[derive(Clone, Copy)]
 pub(crate) struct Known {
     pub events: usize,
     pub records: usize,

@@ -1,4 +1,6 @@
 // Random traces, accepted and damaged, and all of two frames: every answer is compared with a plain path search.
+#![tactic(auto)]
+
 mod calls;
 mod cases;
 mod chains;

@@ -112,7 +112,7 @@ fn has_open_race(recs: &[u8], table: &[usize], races: usize, cell: usize) -> boo
 }
 
 // One side: how many races it has, and where the map has the other side's numbers.
-#[derive(Drop)]
+#[derive(Clone, Copy)]
 pub(crate) struct Side {
     pub races: usize,
     pub numbers: usize,

@@ -1,7 +1,7 @@
 // What was counted. Each group has two counts: agreements, then disagreements. The totals follow the groups.
 use crate::slots::{get_byte, pick, plus};
 
-#[derive(Drop)]
+#[derive(Clone, Copy)]
 pub(crate) struct Counts {
     pub at: [usize; 72],
 }

@@ -1,4 +1,6 @@
 // The rank of an event: the place of its begin among the begins, counted from 1, and 0 where it has none. An event action's row is its rank less 1.
+#![tactic(auto)]
+
 ghost use Rattle.std.specs.Prelude.{◌≡◌, get_or, cond, ◌+◌, ◌-◌, ◌≤◌, ◌<◌, eqb};
 ghost use Rattle.records.specs.Bytes.{decode};
 ghost use Rattle.records.specs.Records.{at};
@@ -12,7 +14,7 @@ use slices::numbers::{clear, get, put};
 use slices::zeros::numbers_1025;
 
 // What a record says of links and begins, between rows.
-#[derive(Drop)]
+#[derive(Clone, Copy)]
 pub enum Ordering {
     Link(u16, u16),
     Begin(u16),

@@ -1,5 +1,7 @@
 // The recorder: a trace written step by step into lent bytes, each step checked by the reader's rules. Nothing in its state or in the bytes is trusted:
 // over altered bytes, or with a state made up by somebody, every call is still without fault.
+#![tactic(auto)]
+
 mod look;
 
 ghost use Rattle.std.specs.Prelude.{◌≡◌, false, ◌≤◌};
@@ -11,7 +13,7 @@ use records::{EventId, Operation, RECORD_BYTES, Record, TRAILER_BYTES};
 use trace::{Checked, Refusal};
 
 // The recorder's one state: how many records are stored, the situation, the open or joining event, and whether the trace is closed.
-#[derive(Drop)]
+#[derive(Clone, Copy)]
 pub struct Recorder {
     pub count: u16,
     pub situation: u8,
@@ -19,38 +21,38 @@ pub struct Recorder {
     pub closed: bool,
 }
 
-#[derive(Drop)]
+#[derive(Clone, Copy)]
 pub enum Opening {
     Open,
     Refused(Refusal),
 }
 
-#[derive(Drop)]
+#[derive(Clone, Copy)]
 pub struct Opened {
     pub recorder: Recorder,
     pub answer: Opening,
 }
 
-#[derive(Drop)]
+#[derive(Clone, Copy)]
 pub enum Stepped {
     Taken,
     Refused(Refusal),
 }
 
-#[derive(Drop)]
+#[derive(Clone, Copy)]
 pub struct Next {
     pub recorder: Recorder,
     pub answer: Stepped,
 }
 
 // The length of the closed trace, from the first byte of the space lent.
-#[derive(Drop)]
+#[derive(Clone, Copy)]
 pub enum Closing {
     Closed(usize),
     Refused(Refusal),
 }
 
-#[derive(Drop)]
+#[derive(Clone, Copy)]
 pub struct Ended {
     pub recorder: Recorder,
     pub answer: Closing,

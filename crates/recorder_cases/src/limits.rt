@@ -3,7 +3,7 @@ use crate::say;
 use recorder::{Recorder, Stepped};
 use records::Record;
 
-#[derive(Drop)]
+#[derive(Clone, Copy)]
 struct Run {
     recorder: Recorder,
     taken: usize,

@@ -1,5 +1,7 @@
 // Records traces, closes them and reads them back: at every limit of space, over other lengths of it, with 4,096 records, at random, where the reader is
 // asked about each refused step, and with forged states.
+#![tactic(auto)]
+
 mod forged;
 mod lent;
 mod limits;

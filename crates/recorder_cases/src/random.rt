@@ -5,7 +5,7 @@ use recorder::{Closing, Recorder, Stepped};
 use records::Record;
 use trace::Refusal;
 
-#[derive(Drop)]
+#[derive(Clone, Copy)]
 struct Totals {
     recorder: Recorder,
     seed: u64,

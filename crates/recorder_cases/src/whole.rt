@@ -25,7 +25,7 @@ fn step_at(i: usize) -> Record {
     }
 }
 
-#[derive(Drop)]
+#[derive(Clone, Copy)]
 struct Run {
     recorder: Recorder,
     taken: u64,

@@ -1,22 +1,24 @@
 // The records of a trace: identifiers, where records stand in the bytes and what each says, read and written.
+#![tactic(auto)]
+
 pub mod access;
 pub mod search;
 pub mod store;
 
 // An event's number, 1 to 1,024: the source's EventId.
-#[derive(Drop)]
+#[derive(Clone, Copy)]
 pub struct EventId(pub u16);
 
 // A cell's number, 1 to 1,024: the source's Var.
-#[derive(Drop)]
+#[derive(Clone, Copy)]
 pub struct Var(pub u16);
 
 // A record's number, from 1 in trace order: the source's Operation.
-#[derive(Drop)]
+#[derive(Clone, Copy)]
 pub struct Operation(pub u16);
 
 // One record of a trace.
-#[derive(Drop)]
+#[derive(Clone, Copy)]
 pub struct Record {
     pub kind: u8,
     pub first: u16,
@@ -29,7 +31,7 @@ pub const RECORD_BYTES: usize = 5;
 pub const TRAILER_BYTES: usize = 8;
 
 // An accepted trace: where record 1 starts in the bytes, how many records and how many event actions, and whether a record is a send.
-#[derive(Drop)]
+#[derive(Clone, Copy)]
 pub struct Trace {
     pub start: usize,
     pub records: usize,

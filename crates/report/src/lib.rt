@@ -1,4 +1,6 @@
 // The whole text that the trace program prints, for every input.
+#![tactic(auto)]
+
 ghost use Rattle.std.specs.Prelude.{◌≡◌, ◌*◌, ◌≤◌};
 ghost use Rattle.listing.specs.Lines.{Printed};
 ghost use Rattle.report.specs.Text.{entry_line, entry_lines, Prints, lines_of, no_clocks, no_list};

@@ -1,4 +1,6 @@
 // The whole report, for inputs of each sort. A case's name, then the text; of a long one its length, its Adler-32 checksum, its first line and its last.
+#![tactic(auto)]
+
 mod bounds;
 mod draft;
 mod longest;

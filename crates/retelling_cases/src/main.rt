@@ -1,6 +1,8 @@
 // The pair question against all arrangements, of every race of two samples. A line has the pair and its mark; of an open one the entries given (event,
 // last record kept) and how many records they stand for; how many arrangements run the second access without the first; and of these how many lack a
 // kept record, the records of the shortest, and how many run just the kept records in trace order.
+#![tactic(auto)]
+
 mod arrangements;
 mod paths;
 mod show;
@@ -33,7 +35,7 @@ fn kept_records(recs: &[u8], list: &[u16], k: usize) -> usize {
 }
 
 // What is counted of the arrangements that run b without a.
-#[derive(Drop)]
+#[derive(Clone, Copy)]
 struct Tally {
     all: usize,
     lacking: usize,

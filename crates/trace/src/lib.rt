@@ -1,4 +1,6 @@
 // Traces of event actions: the refusals, and the reader, which checks a trace record by record.
+#![tactic(auto)]
+
 mod frame;
 mod place;
 pub mod rule;
@@ -16,7 +18,7 @@ use records::access::records_from;
 use records::{Operation, Trace, access};
 
 // A refusal: its number and a record number, 0 where no record is concerned.
-#[derive(Drop)]
+#[derive(Clone, Copy)]
 pub struct Refusal {
     pub number: u16,
     pub place: Operation,
@@ -65,14 +67,14 @@ pub const CLOSED: u16 = 26;
 pub const BEHIND: u16 = 31;
 
 // What reading finds.
-#[derive(Drop)]
+#[derive(Clone, Copy)]
 pub enum Reading {
     Accepted(Trace),
     Refused(Refusal),
 }
 
 // What a pass by refusals 1 to 10 finds: its reading, where record 1 starts, how many records passed 4 to 8, and whether one of those is a send.
-#[derive(Drop)]
+#[derive(Clone, Copy)]
 pub struct Scanned {
     pub reading: Reading,
     pub start: usize,
@@ -81,7 +83,7 @@ pub struct Scanned {
 }
 
 // The check of one record: the next situation, or why the record is refused.
-#[derive(Drop)]
+#[derive(Clone, Copy)]
 pub enum Checked {
     Next(u8),
     Refused(Refusal),

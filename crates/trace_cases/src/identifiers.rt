@@ -55,7 +55,7 @@ fn put_around(bytes: &mut [u8], kind: u8, x: u16, y: u16) -> usize {
 }
 
 // The number of the record under test, and how many records and event actions its trace has.
-#[derive(Drop)]
+#[derive(Clone, Copy)]
 struct Shape {
     place: u16,
     records: usize,

@@ -1,4 +1,6 @@
 // The reader on cases that are run, not proved: boundaries, every kind byte in every situation, each refusal with its place, and links.
+#![tactic(auto)]
+
 mod bounds;
 mod draft;
 mod expect;
