@@ -1,0 +1,34 @@
+use Rattle.records.proofs.Records.{past_more}
+use Rattle.records.specs.Bytes.{decode}
+use Rattle.records.specs.Records.{past, begins}
+use Prim.Native.Nat.{◌-◌}
+use mathlib.Core.Path.{◌≡◌, refl, ◌∙◌}
+use mathlib.Core.Logic.{⊎_elim}
+use native.Mathlib.Omega.{arith}
+use borrow.Author.Tests.{eq-eqb, ne_eqb}
+use borrow.Author.Rules.{rules}
+use Rattle.records.proofs.access.count_begins.Goals as goal
+
+pub loop-i-init : goal.loop-i-init
+unfolding begins past
+loop-i-init c = (refl, search rules, search rules)
+
+pub loop-i-preserved : goal.loop-i-preserved
+unfolding begins
+loop-i-preserved c =
+    let start = c in
+    let a = start.args in
+    let l = c.loop-i in
+    let k = c.kind_at-k in
+    let more = past_more (decode a.recs.now) l.i in
+    ⊎_elim
+    (λ w. (w.1 ∙ simp (more, ← k.ensures, eq-eqb _ _ w.0.taken, l.invariant.0), omega arith, omega arith))
+    (λ w. (w.1 ∙ simp (more, ← k.ensures, ne_eqb _ _ w.0.left, l.invariant.0), omega arith, omega arith))
+    c.if-k-eq1.branch
+
+pub returns : goal.returns
+returns c =
+    let l = c.loop-i in
+    let n = c.count-n in
+    let z : l.i ≡ n.result = omega arith in
+    l.invariant.0 ∙ simp (z, n.ensures)

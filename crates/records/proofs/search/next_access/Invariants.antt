@@ -1,0 +1,11 @@
+use Prim.Native.Nat.{◌-◌, ◌≤◌}
+use lib.ListN.{length}
+use Rattle.records.specs.Bytes.{decode}
+use Rattle.records.specs.Search.{Past}
+use Rattle.records.proofs.search.next_access.Given as goal
+
+abbrev pub invariant-loop-i : goal.invariant-loop-i
+invariant-loop-i l = (l.from ≤ l.to) × (l.to ≤ length (decode l.recs)) × (l.i ≤ l.to) × Past (decode l.recs) l.least l.c.0 l.from l.i
+
+abbrev pub decreases-loop-i : goal.decreases-loop-i
+decreases-loop-i l = l.to - l.i

@@ -1,0 +1,41 @@
+use mathlib.Core.List.{[], ◌∷◌}
+use native.Mathlib.Numerals.{towards_suc}
+use Rattle.records.proofs.Stored.{stored-sets, stored-none}
+use Rattle.records.specs.Encoding.{encode}
+use lib.ListN.{length-set}
+use native.Mathlib.Omega.{arith}
+use Rattle.records.proofs.store.put_record.Goals as goal
+
+pub returns-then-bytes-lt-RECORD_BYTES : goal.returns-then-bytes-lt-RECORD_BYTES
+unfolding encode
+returns-then-bytes-lt-RECORD_BYTES c =
+    let a = c.args in
+    stored-none a.bytes.now a.at (encode (a.rec ∷ [])) (omega arith)
+
+pub returns-then-bytes-at : goal.returns-then-bytes-at
+unfolding encode
+returns-then-bytes-at c =
+    let a = c.args in
+    stored-none a.bytes.now a.at (encode (a.rec ∷ [])) (omega arith)
+
+pub put_two-requires : goal.put_two-requires
+put_two-requires c = simp length-set (omega arith)
+
+pub put_two-requires-2 : goal.put_two-requires-2
+put_two-requires-2 c =
+    let at-put-two = c in
+    simp (at-put-two.put_two.ensures, length-set) (omega arith)
+
+pub shape_of-bytes : goal.shape_of-bytes
+shape_of-bytes c =
+    let start = c in
+    omega (arith, length-set start.args.bytes.now start.args.at start.args.rec.kind)
+
+pub returns : goal.returns
+unfolding encode
+returns c =
+    let at-put-two = c in
+    let start = at-put-two in
+    let a = start.args in
+    simp (at-put-two.put_two.ensures, c.put_two-2.ensures, towards_suc)
+    (stored-sets a.put_two.new.bytes.now a.at (encode (a.rec ∷ [])) (omega arith))
