@@ -282,6 +282,6 @@ module _ (w : ℕ) (cs : List ℕ) where
           past z = sym (ap (λ (k : ℕ). drop (k + w) (replicate (u * w) 0 ++ drop (u * w) cs)) z) ∙ (drop-append-add (replicate {A = ℕ} (u * w) 0) (drop (u * w) cs) w ∙ drop-drop w (u * w) cs)
 
 -- one more at an entry that can be raised
-pub one_more : (row : List ℕ) {row' : List ℕ} (c : ℕ) → c < length row → get_or row c 0 < 65535 → row' ≡ one_more c row → row' ≡ set row c (get_or row c 0 + 1)
+pub one_more-at : (row : List ℕ) {row' : List ℕ} (c : ℕ) → c < length row → get_or row c 0 < 65535 → row' ≡ one_more c row → row' ≡ set row c (get_or row c 0 + 1)
 unfolding one_more
-one_more row c l h e = rw (lt-ltb c (length row) l, lt-ltb (get_or row c 0) 65535 h) at e
+one_more-at row c l h e = rw (lt-ltb c (length row) l, lt-ltb (get_or row c 0) 65535 h) at e

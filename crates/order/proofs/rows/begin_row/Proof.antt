@@ -2,7 +2,7 @@
 -- Assumes nothing.
 use Rattle.order.specs.loops.Pass.{enter_row}
 use Rattle.order.proofs.FlatLaws.{part-entry, ticked-part}
-use Rattle.clocks.proofs.RowLaws.{one_more}
+use Rattle.clocks.proofs.RowLaws.{one_more-at}
 use borrow.Author.Tests.{le-leb, lt-leb}
 use native.Mathlib.Omega.{arith}
 use mathlib.Core.Path.{refl}
@@ -104,7 +104,7 @@ returns-2 c =
     rw (← q.ensures, lt-leb _ _ f)
     (record {
       clocks_are = ticked-part a.args.width a.args.u q.result a.args.clocks.now _ a.requires.room.row f
-          (one_more _ q.result p.0 (rw p.1 (a.requires.few_entries q.result f)) at-add-one.add-one.ensures);
+          (one_more-at _ q.result p.0 (rw p.1 (a.requires.few_entries q.result f)) at-add-one.add-one.ensures);
       sizes_are = refl;
       chosen_are = refl;
       chains_are = omega arith;
@@ -132,7 +132,7 @@ returns-3 c =
     rw (← q.ensures, lt-leb _ _ f)
     (record {
       clocks_are = ticked-part a.args.width a.args.u q.result a.args.clocks.now _ a.requires.room.row f
-          (one_more _ q.result p.0 (rw p.1 (a.requires.few_entries q.result f)) at-add-one.add-one.ensures);
+          (one_more-at _ q.result p.0 (rw p.1 (a.requires.few_entries q.result f)) at-add-one.add-one.ensures);
       sizes_are = refl;
       chosen_are = refl;
       chains_are = omega arith;

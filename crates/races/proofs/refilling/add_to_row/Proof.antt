@@ -1,6 +1,6 @@
 -- `races::refilling::add_to_row` meets its contract.
 -- Assumes nothing.
-use Rattle.clocks.proofs.RowLaws.{one_more}
+use Rattle.clocks.proofs.RowLaws.{one_more-at}
 use Rattle.order.proofs.FlatLaws.{part-entry, ticked-part}
 use borrow.Author.Rules.{rules}
 use Rattle.races.proofs.refilling.add_to_row.Statement.{statement}
@@ -35,7 +35,7 @@ returns c =
     let s = c.before.before.before.before.before in
     let a = s.args in
     let p = part-entry a.width a.u a.c a.clocks.now s.requires.0 s.requires.1 in
-    ticked-part a.width a.u a.c a.clocks.now _ s.requires.0 s.requires.1 (one_more _ a.c p.0 (rw p.1 s.requires.2) c.before.before.add-one.ensures)
+    ticked-part a.width a.u a.c a.clocks.now _ s.requires.0 s.requires.1 (one_more-at _ a.c p.0 (rw p.1 s.requires.2) c.before.before.add-one.ensures)
 
 pub add-to-row-spec : {M : Type 1} → statement M
 add-to-row-spec =
