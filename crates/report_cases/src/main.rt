@@ -8,11 +8,12 @@ mod refusals;
 mod samples;
 mod show;
 
-fn main() {
-    samples::each();
+fn main(rt: HostRuntime) -> std::io::Result<()> {
+    samples::each(&rt)?;
     bounds::short();
     bounds::sizes();
     refusals::each();
     bounds::chains();
     longest::texts();
+    Ok(())
 }

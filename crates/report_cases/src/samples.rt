@@ -1,26 +1,22 @@
 // The samples, as files.
+use std::fs;
+
 use crate::show;
 
-fn sample(name: &[u8]) {
-    show::title(name);
-    let fd = os::open_read(name);
-    if fd < 0 {
-        os::fail(name);
-        return;
-    }
-    let mut bytes = io::buffer();
-    let n = io::read_full(fd, &mut bytes);
-    show::report(&bytes[..n]);
-    libc::close(fd);
+fn sample(rt: &HostRuntime, name: &str) -> std::io::Result<()> {
+    show::title(name.as_bytes());
+    let bytes = fs::read(rt, name)?;
+    show::report(&bytes);
+    Ok(())
 }
 
-pub(crate) fn each() {
-    sample(b"t.trace");
-    sample(b"setup-apart.trace");
-    sample(b"setup-joined.trace");
-    sample(b"repeated-reads.trace");
-    sample(b"two-observations.trace");
-    sample(b"radio-link.trace");
-    sample(b"two-radio-links.trace");
-    sample(b"radio-link-broken.trace");
+pub(crate) fn each(rt: &HostRuntime) -> std::io::Result<()> {
+    sample(rt, "t.trace")?;
+    sample(rt, "setup-apart.trace")?;
+    sample(rt, "setup-joined.trace")?;
+    sample(rt, "repeated-reads.trace")?;
+    sample(rt, "two-observations.trace")?;
+    sample(rt, "radio-link.trace")?;
+    sample(rt, "two-radio-links.trace")?;
+    sample(rt, "radio-link-broken.trace")
 }

@@ -8,6 +8,8 @@ mod paths;
 mod show;
 mod slots;
 
+use std::fs;
+
 use pair::PairAnswer;
 use records::{Operation, access};
 use show::{number, word};
@@ -159,21 +161,15 @@ fn each_pair(bytes: &[u8]) {
     ask_each(bytes, recs, &table, found);
 }
 
-fn sample(name: &[u8]) {
-    word(name);
+fn sample(rt: &HostRuntime, name: &str) -> std::io::Result<()> {
+    word(name.as_bytes());
     word(b"\n");
-    let fd = os::open_read(name);
-    if fd < 0 {
-        os::fail(name);
-        return;
-    }
-    let mut bytes = io::buffer();
-    let n = io::read_full(fd, &mut bytes);
-    each_pair(&bytes[..n]);
-    libc::close(fd);
+    let bytes = fs::read(rt, name)?;
+    each_pair(&bytes);
+    Ok(())
 }
 
-fn main() {
-    sample(b"t.trace");
-    sample(b"two-observations.trace");
+fn main(rt: HostRuntime) -> std::io::Result<()> {
+    sample(&rt, "t.trace")?;
+    sample(&rt, "two-observations.trace")
 }
