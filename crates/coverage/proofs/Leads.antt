@@ -2,7 +2,7 @@
 use Prim.Native.Nat.{ℕ, zero, suc, ◌+◌, ◌≤◌, ◌<◌}
 use mathlib.Core.Path.{◌≡◌, refl, subst}
 use mathlib.Core.Logic.{◌≢◌, ◌⊎◌, inl, inr, ◌↔◌}
-use mathlib.Core.Bool.{Bool, true, false, ◌&&◌, ◌||◌}
+use mathlib.Core.Bool.{false, ◌&&◌, ◌||◌}
 use mathlib.Core.List.{List}
 use native.Mathlib.Omega.{arith}
 use lib.Dec.{T}
@@ -118,9 +118,14 @@ module _ (t : Setting) (w : Laws t) where
       go (inr k) = cover-leads b (t.ev c) (more (w.le_refl (t.ev c)) r k.1)
 
   -- a cover goes up: it starts at a record below b
+  cover-upward : (b : ℕ) → b < t.size → (z v : ℕ) {cs : List (ℕ × ℕ)} → z < t.size → CoversFrom t b v cs → v ≡ t.ev z → z < b
+  cover-upward b l z v k (one {c = c} {d = d} q r s) e =
+      omega (arith, race-after t w z c d k (subst (λ (u : ℕ). T (t.le u (t.ev c))) e q) r, before-lt t w d b r.inside l s)
+  cover-upward b l z v k (more {c = c} {d = d} q r s) e =
+      omega (arith, race-after t w z c d k (subst (λ (u : ℕ). T (t.le u (t.ev c))) e q) r, cover-upward b l d (t.ev d) r.inside s refl)
+
   pub cover-ahead : (b : ℕ) → b < t.size → (z : ℕ) {cs : List (ℕ × ℕ)} → z < t.size → CoversFrom t b (t.ev z) cs → z < b
-  cover-ahead b l z k (one {c = c} {d = d} q r s) = omega (arith, race-after t w z c d k q r, before-lt t w d b r.inside l s)
-  cover-ahead b l z k (more {c = c} {d = d} q r s) = omega (arith, race-after t w z c d k q r, cover-ahead b l d r.inside s)
+  cover-ahead b l z k c = cover-upward b l z (t.ev z) k c refl
 
   -- an event action that leads to b, other than that of b, stands wholly before b
   pub leads-ahead : (b x : ℕ) → b < t.size → x < t.size → t.ev x ≢ t.ev b → T (leads t b (t.ev x)) → x < b

@@ -1,6 +1,6 @@
 -- The computed marks of a cell are the literal ones.
 use Prim.Native.Nat.{ℕ, ◌+◌, ◌<◌}
-use mathlib.Core.Path.{◌≡◌, refl, sym, ◌∙◌}
+use mathlib.Core.Path.{◌≡◌, sym, ◌∙◌}
 use mathlib.Core.Logic.{◌⊎◌, inl, inr, ◌↔◌}
 use mathlib.Core.Bool.{Bool, true, false, cond, not, ◌&&◌}
 use native.Mathlib.Omega.{arith}
@@ -8,11 +8,10 @@ use lib.Dec.{T, eqb, eqb→eq}
 use Rattle.slices.proofs.Tests.{both, and, decide, eq→eqb, passed, failed}
 use Rattle.coverage.specs.Below.{some}
 use Rattle.coverage.specs.Setting.{Setting, Laws}
-use Rattle.coverage.specs.Race.{Race, raceb}
-use Rattle.coverage.specs.Cover.{Open}
+use Rattle.coverage.specs.Race.{raceb}
 use Rattle.coverage.specs.Leading.{coveredb}
-use Rattle.coverage.specs.Neighbours.{Cells, writes, reads, Neighbours, neighbour, conflicts}
-use Rattle.coverage.specs.Marks.{OpenPair, HasOpen, Same, Local, MarkedSame, MarkedLocal, some_open, equal_writes, sameb, follows_write, localb, marks_of, Marks}
+use Rattle.coverage.specs.Neighbours.{Cells, writes, reads, neighbour}
+use Rattle.coverage.specs.Marks.{OpenPair, HasOpen, Same, Local, some_open, equal_writes, sameb, follows_write, localb, marks_of, Marks}
 use Rattle.coverage.proofs.Below.{found, find}
 use Rattle.coverage.proofs.Leads.{open-iff}
 use Rattle.coverage.proofs.Order.{race-of, of-race}

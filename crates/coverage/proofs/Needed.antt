@@ -1,6 +1,6 @@
 -- What every arrangement with b must hold: a covered race cannot be turned round, and the kept records are the fewest.
 use Prim.Native.Nat.{ℕ, suc, ◌<◌}
-use mathlib.Core.Path.{◌≡◌, sym, ◌∙◌}
+use mathlib.Core.Path.{◌≡◌, refl, sym, subst, ◌∙◌}
 use mathlib.Core.Logic.{◌≢◌, ◌⊎◌, inl, inr}
 use mathlib.Core.List.Memᴰ
 use mathlib.Core.List.{List, [], ◌∷◌, ◌++◌, append_assoc}
@@ -54,9 +54,14 @@ module _ (t : Setting) (w : Laws t) (π : List ℕ) (A : Arrangement t π) where
           let k : x < c = w.forward x c l (omega (arith, r.first, r.inside)) h n in
           (c, A.ordered x c l (le-before t x c k h) (earlier-left s))
 
+  present-under : {b : ℕ} {cs : List (ℕ × ℕ)} (x v : ℕ) → x < t.size → b ∈ π → CoversFrom t b v cs → v ≡ t.ev x → (z : ℕ) × Earlier x z π
+  present-under {b} x v l m (one {c = c} {d = d} h r q) e =
+      step c d x b r (subst (λ (u : ℕ). T (t.le u (t.ev c))) e h) l (A.ordered d b r.inside q m)
+  present-under x v l m (more {c = c} {d = d} h r s) e =
+      let f = present-under d (t.ev d) r.inside m s refl in step c d x f.0 r (subst (λ (u : ℕ). T (t.le u (t.ev c))) e h) l f.1
+
   present : {b : ℕ} {cs : List (ℕ × ℕ)} (x : ℕ) → x < t.size → b ∈ π → CoversFrom t b (t.ev x) cs → (z : ℕ) × Earlier x z π
-  present {b} x l m (one {c = c} {d = d} h r q) = step c d x b r h l (A.ordered d b r.inside q m)
-  present x l m (more {c = c} {d = d} h r s) = let e = present d r.inside m s in step c d x e.0 r h l e.1
+  present x l m c = present-under x (t.ev x) l m c refl
 
   -- With b stand all the records that are kept for b
   pub minimal : (b : ℕ) → b ∈ π → (x : ℕ) → x ∈ kept t b → x ∈ π

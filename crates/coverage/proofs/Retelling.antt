@@ -48,16 +48,19 @@ rising-same (x ∷ xs) (y ∷ ys) r s f = go (first ((f x).0 (Memᴰ.head refl))
 
 -- A list without one of its members
 without : {x : ℕ} (k : List ℕ) → x ∈ k → List ℕ
+without [] m = elim m [ ]
 without (y ∷ ys) (Memᴰ.head e) = ys
 without (y ∷ ys) (Memᴰ.tail m) = y ∷ without ys m
 
 without-length : {x : ℕ} (k : List ℕ) (m : x ∈ k) → suc (length (without k m)) ≡ length k
 unfolding without
+without-length [] m = elim m [ ]
 without-length (y ∷ ys) (Memᴰ.head e) = refl
 without-length (y ∷ ys) (Memᴰ.tail m) = ap suc (without-length ys m)
 
 without_in : {x z : ℕ} (k : List ℕ) (m : x ∈ k) → z ∈ k → z ≢ x → z ∈ without k m
 unfolding without
+without_in {z = z} [] m _ n = elim m [ ]
 without_in (y ∷ ys) (Memᴰ.head e) (Memᴰ.head g) n = absurd (n (g ∙ sym e))
 without_in (y ∷ ys) (Memᴰ.head e) (Memᴰ.tail h) n = h
 without_in (y ∷ ys) (Memᴰ.tail m) (Memᴰ.head g) n = Memᴰ.head g

@@ -9,7 +9,7 @@ use lib.ListN.{length}
 use Rattle.coverage.specs.Below.{some, pairs}
 use Rattle.coverage.specs.Setting.{Setting}
 use Rattle.coverage.specs.Race.{raceb}
-use Rattle.coverage.specs.Neighbours.{Cells, writes, reads, neighbour, Neighbours, write_write, write_read, read-write}
+use Rattle.coverage.specs.Neighbours.{Cells, writes, neighbour, Neighbours, write_write, write_read, read-write}
 use Rattle.coverage.specs.Lists.{short_list}
 use Rattle.slices.proofs.Tests.{both, and, decide, eq→eqb}
 use Rattle.coverage.proofs.Below.{found, find}

@@ -1,6 +1,6 @@
 -- What leads to an event action as a whole: closed downwards, transitive, forward; and what leads to b, by its last race.
 use Prim.Native.Nat.{ℕ, zero, suc, ◌+◌, ◌-◌, ◌≤◌, ◌<◌}
-use mathlib.Core.Path.{◌≡◌, sym, ap, ◌∙◌, subst}
+use mathlib.Core.Path.{◌≡◌, refl, sym, ap, ◌∙◌, subst}
 use mathlib.Core.Logic.{◌≢◌, ◌⊎◌, inl, inr, ◌↔◌}
 use mathlib.Core.Bool.{◌&&◌}
 use mathlib.Core.List.{List}
@@ -68,9 +68,11 @@ module _ (t : Setting) (l : Laws t) where
   race-whole {c} {d} r = by_race (l.le_refl (t.ev c)) r (whole-self (t.ev d))
 
   -- forward: the records of what leads to u, other than u, stand before those of u
-  pub whole-ahead : (x y : ℕ) → x < t.size → y < t.size → t.ev x ≢ t.ev y → Whole t (t.ev y) (t.ev x) → x < y
-  whole-ahead x y i j n (below h) = l.forward x y i j h n
-  whole-ahead x y i j n (by_race {c = c} {d = d} h r w) = go (decide_eq (t.ev d) (t.ev y)) (race-after t l x c d i h r) (λ k. whole-ahead d y r.inside j k w)
+  whole-upward : (y : ℕ) → y < t.size → (x v : ℕ) → x < t.size → t.ev x ≢ t.ev y → Whole t (t.ev y) v → v ≡ t.ev x → x < y
+  whole-upward y j x v i n (below h) e = l.forward x y i j (subst (λ (s : ℕ). T (t.le s (t.ev y))) e h) n
+  whole-upward y j x v i n (by_race {c = c} {d = d} h r w) e =
+      let m = race-after t l x c d i (subst (λ (s : ℕ). T (t.le s (t.ev c))) e h) r in
+      go (decide_eq (t.ev d) (t.ev y)) m (λ k. whole-upward y j d (t.ev d) r.inside k w refl)
     where
       go : (t.ev d ≡ t.ev y) ⊎ (t.ev d ≢ t.ev y) → x < d → (t.ev d ≢ t.ev y → d < y) → x < y
       go (inl e) m f =
@@ -78,6 +80,9 @@ module _ (t : Setting) (l : Laws t) where
           let z : x ≡ y → ⊥ = λ (g : x ≡ y). n (ap t.ev g) in
           omega (arith, k, z)
       go (inr k) m f = omega (arith, f k)
+
+  pub whole-ahead : (x y : ℕ) → x < t.size → y < t.size → t.ev x ≢ t.ev y → Whole t (t.ev y) (t.ev x) → x < y
+  whole-ahead x y i j n w = whole-upward y j x (t.ev x) i n w refl
 
   -- What leads to b has all that leads to it as a whole, but for ev(b) itself.
   pub leads-whole : (b a : ℕ) {v : ℕ} → b < t.size → a < t.size → t.ev a ≢ t.ev b → T (leads t b (t.ev a)) → Whole t (t.ev a) v → T (leads t b v)

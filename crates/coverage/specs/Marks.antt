@@ -20,7 +20,7 @@ module _ (t : Setting) (s : Cells) where
   abbrev pub HasOpen : ℕ → Type 0
   HasOpen c = (a b : ℕ) × OpenPair c a b
 
-  -- "`same`, all these pairs are write_write with equal tags"
+  -- "`same`, all these pairs are write-write with equal tags"
   abbrev pub Same : (ℕ → ℕ) → ℕ → Type 0
   Same tag c = (a b : ℕ) → OpenPair c a b → T (writes s a) × T (writes s b) × (tag a ≡ tag b)
 

@@ -1,10 +1,9 @@
 -- The kind of a record among document 01's six. Assumes nothing.
-use Prim.Native.Nat.{ℕ, ◌≤◌, ◌<◌}
+use Prim.Native.Nat.{◌≤◌, ◌<◌}
 use mathlib.Core.Path.{◌≡◌}
-use mathlib.Core.Logic.{◌≢◌, ◌⊎◌, inl, inr}
+use mathlib.Core.Logic.{◌⊎◌, inl, inr}
 use native.Mathlib.Omega.{arith}
 use borrow.Author.Tests.{le-leb, lt-leb}
-use lib.Dec.{leb}
 use Rattle.records.specs.declared.Record.{Record}
 use Rattle.records.specs.Kinds.{base_kind}
 use Rattle.records.proofs.Positions.{lt-or-ge}

@@ -1,12 +1,11 @@
 use Rattle.records.proofs.Records.{past_more}
 use Rattle.records.specs.Bytes.{decode}
 use Rattle.records.specs.Records.{past, begins}
-use Prim.Native.Nat.{◌-◌}
 use mathlib.Core.Path.{◌≡◌, refl, ◌∙◌}
-use mathlib.Core.Logic.{⊎_elim}
 use native.Mathlib.Omega.{arith}
-use borrow.Author.Tests.{eq-eqb, ne_eqb}
+use borrow.Author.Tests.{ne_eqb}
 use borrow.Author.Rules.{rules}
+use Rattle.records.proofs.access.count_begins.Goals.{then-k-eq1, else-k-eq1}
 use Rattle.records.proofs.access.count_begins.Goals as goal
 
 pub loop-i-init : goal.loop-i-init
@@ -21,10 +20,10 @@ loop-i-preserved c =
     let l = c.loop-i in
     let k = c.kind_at-k in
     let more = past_more (decode a.recs.now) l.i in
-    ⊎_elim
-    (λ w. (w.1 ∙ simp (more, ← k.ensures, eq-eqb _ _ w.0.taken, l.invariant.0), omega arith, omega arith))
-    (λ w. (w.1 ∙ simp (more, ← k.ensures, ne_eqb _ _ w.0.left, l.invariant.0), omega arith, omega arith))
-    c.if-k-eq1.branch
+    elim c.if-k-eq1.branch [
+      | then-k-eq1 w ↦ (w.found-is ∙ simp (more, ← k.ensures, w.if-k-eq1.true, l.invariant.0), omega arith, omega arith)
+      | else-k-eq1 w ↦ (w.found-is ∙ simp (more, ← k.ensures, ne_eqb _ _ w.if-k-eq1.false, l.invariant.0), omega arith, omega arith)
+    ]
 
 pub returns : goal.returns
 returns c =

@@ -4,14 +4,7 @@ use native.Mathlib.Omega.{arith}
 use lib.ListN.{length, drop, length-drop, drop_of_length-le}
 use lib.Seq.{take_all, take-nil}
 use Rattle.records.specs.Bytes.{part}
-use borrow.Author.Rules.{rules}
 use Rattle.records.proofs.access.records_from.Goals as goal
-
--- GONE slice-bounds-result-start
--- part-result-start c = search rules
-
--- GONE slice-bounds-result-end
--- part-result-end c = search rules
 
 pub returns-then-n-start : goal.returns-then-n-start
 unfolding part
@@ -20,12 +13,6 @@ returns-then-n-start c =
     let e = length a.bytes.now in
     simp (drop_of_length-le a.bytes.now {i = e} (omega arith), drop_of_length-le a.bytes.now {i = a.start} (omega arith), take-nil)
 
--- GONE slice-bounds-result-start-2
--- part-result-start-2 c = search rules
-
--- GONE slice-bounds-result-end-2
--- part-result-end-2 c = search rules
-
 pub returns-then-rest-records : goal.returns-then-rest-records
 unfolding part
 returns-then-rest-records c =
@@ -33,12 +20,6 @@ returns-then-rest-records c =
     let r = drop a.start a.bytes.now in
     let l : length r ≡ length a.bytes.now - a.start = length-drop a.start a.bytes.now in
     take_all (length a.bytes.now - a.start) r (omega arith) ∙ sym (take_all (5 * a.records) r (omega arith))
-
--- GONE slice-bounds-result-start-3
--- part-result-start-3 c = search rules
-
--- GONE slice-bounds-result-end-3
--- part-result-end-3 c = search rules
 
 pub returns : goal.returns
 unfolding part

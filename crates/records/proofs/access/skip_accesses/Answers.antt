@@ -2,7 +2,6 @@ use Rattle.records.proofs.Leading.{leading-over, leading-four, leading-next}
 use Rattle.records.proofs.Decoded.{decoded-length}
 use mathlib.Core.Path.{refl, sym, ◌∙◌}
 use native.Mathlib.Omega.{arith}
-use Prim.Native.Nat.{◌-◌}
 use Rattle.records.proofs.access.skip_accesses.Goals as goal
 
 pub returns-then-n-from : goal.returns-then-n-from

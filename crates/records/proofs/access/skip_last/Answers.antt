@@ -1,7 +1,6 @@
 use Rattle.records.proofs.Leading.{leading-hit, leading-miss, leading-over}
 use mathlib.Core.Path.{refl, sym, ◌∙◌}
 use native.Mathlib.Omega.{arith}
-use Prim.Native.Nat.{◌-◌}
 use Rattle.records.proofs.access.skip_last.Goals as goal
 
 pub loop-at-init : goal.loop-at-init

@@ -1,6 +1,5 @@
 use native.Mathlib.Omega.{arith}
 use mathlib.Core.Path.{◌≡◌, refl}
-use Prim.Native.Nat.{◌-◌}
 use Rattle.records.proofs.Decoded.{decoded-length}
 use Rattle.records.proofs.SearchLaws.{past-none, past-on, next-on, far, between_none, found-next}
 use Rattle.records.proofs.search.next_access.Goals as goal

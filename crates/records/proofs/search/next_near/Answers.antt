@@ -1,6 +1,5 @@
 use native.Mathlib.Omega.{arith}
 use mathlib.Core.Path.{refl, sym, ◌∙◌}
-use Prim.Native.Nat.{◌-◌}
 use Rattle.records.proofs.SearchLaws.{past-none, past_more, next_here, next-none}
 use Rattle.records.proofs.search.next_near.Goals as goal
 

@@ -23,19 +23,15 @@ put_two-requires c = simp length-set (omega arith)
 
 pub put_two-requires-2 : goal.put_two-requires-2
 put_two-requires-2 c =
-    let at-put-two = c in
-    simp (at-put-two.put_two.ensures, length-set) (omega arith)
+    simp (c.put_two.ensures, length-set) (omega arith)
 
 pub shape_of-bytes : goal.shape_of-bytes
 shape_of-bytes c =
-    let start = c in
-    omega (arith, length-set start.args.bytes.now start.args.at start.args.rec.kind)
+    omega (arith, length-set c.args.bytes.now c.args.at c.args.rec.kind)
 
 pub returns : goal.returns
 unfolding encode
 returns c =
-    let at-put-two = c in
-    let start = at-put-two in
-    let a = start.args in
-    simp (at-put-two.put_two.ensures, c.put_two-2.ensures, towards_suc)
-    (stored-sets a.put_two.new.bytes.now a.at (encode (a.rec ∷ [])) (omega arith))
+    let a = c.args in
+    simp (c.put_two.ensures, c.put_two-2.ensures, towards_suc)
+    (stored-sets a.bytes.now a.at (encode (a.rec ∷ [])) (omega arith))

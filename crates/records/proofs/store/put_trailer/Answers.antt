@@ -26,9 +26,6 @@ shape_of-bytes c = simp length-set (omega arith)
 pub returns : goal.returns
 unfolding trailer
 returns c =
-    let at-put-two2 = c in
-    let at-put-two = at-put-two2 in
-    let start = at-put-two in
-    let a = start.args in
-    simp (at-put-two.put_two.ensures, at-put-two2.put_two-2.ensures, c.put_two-3.ensures, towards_suc)
-    (stored-sets a.put_two.new.bytes.now a.at (trailer a.distance a.begins) (omega arith))
+    let a = c.args in
+    simp (c.put_two.ensures, c.put_two-2.ensures, c.put_two-3.ensures, towards_suc)
+    (stored-sets a.bytes.now a.at (trailer a.distance a.begins) (omega arith))
