@@ -1,0 +1,10 @@
+use Rattle.ranks.specs.loops.RanksTo.{RanksTo}
+use Rattle.records.specs.Bytes.{decode}
+use Prim.Native.Nat.{◌-◌, ◌≤◌}
+use Rattle.ranks.proofs.fill_ranks.Given as goal
+
+abbrev pub invariant-loop-i : goal.invariant-loop-i
+invariant-loop-i l = (l.found ≤ l.i) × (l.i ≤ l.n) × RanksTo (decode l.recs) l.i l.ranks l.found
+
+abbrev pub decreases-loop-i : goal.decreases-loop-i
+decreases-loop-i l = l.n - l.i
