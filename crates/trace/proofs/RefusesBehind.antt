@@ -97,22 +97,26 @@ module _ (tr : List Record) where
         let k = passed _ ((refusal-decides (passing-sound w.passed) (at tr i).first).1 w.behind) in
         rw q (sym (walk-to tr start m i (omega arith) w.passed ∙ walk_at tr start m i h ∙ rw (rule-31 tr i w.others w.is-begin k)))
 
+module _ (b : List ℕ) (place : ℕ) where
+  abbrev next : Trace → Reply Trace
+  next t = walk t.start t.events [] (records_in b t)
+
+  behind : (t : Trace) → gives t ≡ frame_reply b → refused 31 place ≡ next t → RefusedBehind b place
+  behind t e q =
+      let (i, n, w) = found (records_in b t) t.start t.events place (length (records_in b t)) 0 (omega arith) (λ j l. absurd (omega arith)) (unfold past in q) in
+      record { t = t; framed = e; position = i; numbered = n; there = w }
+
+  go : (x : Reply Trace) → x ≡ frame_reply b → refused 31 place ≡ then x next → RefusedBehind b place
+  go (refused n p) e q = absurd (frame-not b place (unfold then in q ∙ e))
+  go (gives t) e q = behind t e (unfold then in q)
+
+  there : refused 31 place ≡ read_reply b → RefusedBehind b place
+  there e = go (frame_reply b) refl (unfold read_reply in e)
+
+  back : RefusedBehind b place → refused 31 place ≡ read_reply b
+  back r =
+      let t = r.t in
+      told (records_in b t) t.start t.events place r.position r.numbered r.there ∙ sym (unfold read_reply in then-given r.framed next)
+
 pub refuses-behind : (b : List ℕ) → RefusesBehind b
-refuses-behind b place = (there, back)
-  where
-    next : Trace → Reply Trace
-    next t = walk t.start t.events [] (records_in b t)
-
-    go : (x : Reply Trace) → x ≡ frame_reply b → refused 31 place ≡ then x next → RefusedBehind b place
-    go (refused n p) e q = absurd (frame-not b place (unfold then in q ∙ e))
-    go (gives t) e q =
-        let (i, n, w) = found (records_in b t) t.start t.events place (length (records_in b t)) 0 (omega arith) (λ j l. absurd (omega arith)) (unfold then past in q) in
-        record { t = t; framed = e; position = i; numbered = n; there = w }
-
-    there : refused 31 place ≡ read_reply b → RefusedBehind b place
-    there e = go (frame_reply b) refl (unfold read_reply in e)
-
-    back : RefusedBehind b place → refused 31 place ≡ read_reply b
-    back r =
-        let t = r.t in
-        told (records_in b t) t.start t.events place r.position r.numbered r.there ∙ sym (unfold read_reply in then-given r.framed next)
+refuses-behind b place = (there b place, back b place)
