@@ -13,8 +13,8 @@ use Rattle.records.specs.Kinds.{starts}
 use Rattle.bits.specs.Words.{with_bit, or_at, or_from, words_if}
 use Rattle.bits.specs.Table.{row_start, in_table, place, bit_of, put_bit, or_row}
 use Rattle.bits.proofs.WordLaws.{or-at-length}
-use Rattle.links.specs.Rule.{missing, behind, hits, turn_words, turn_sets, turn_stuck, Walked, walked_if, walk}
-use Rattle.links.specs.Fill.{linked, begin_row, begun, step_words, step_last, step_stuck, FilledTable, filled_if, fill_from, fill_all}
+use Rattle.links.specs.Rule.{missing, behind, hits, turn_words, turn_sets, turn_stuck, walked_if, walk}
+use Rattle.links.specs.Fill.{linked, begin_row, begun, step_words, step_last, step_stuck, filled_if, fill_from, fill_all}
 
 -- both of two lists of words have one length
 one-length : (b : Bool) (xs ys ws : List ℕ) → length xs ≡ length ws → length ys ≡ length ws → length (words_if b xs ys) ≡ length ws

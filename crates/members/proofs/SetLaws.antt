@@ -59,7 +59,8 @@ module _ (w : List ℕ) (t : ℕ) where
       w' : List ℕ
       w' = set w (t / 8) (with_bit b (t % 8))
 
-      go : (u / 8 ≡ t / 8) ⊎ (u / 8 ≢ t / 8) → (t / 8 < length w) ⊎ (length w ≤ t / 8) → bit_at (get_or w' (u / 8) 0) (u % 8) ≡ bit_at (get_or w (u / 8) 0) (u % 8)
+      go : (u / 8 ≡ t / 8) ⊎ (u / 8 ≢ t / 8) → (t / 8 < length w) ⊎ (length w ≤ t / 8)
+          → bit_at (get_or w' (u / 8) 0) (u % 8) ≡ bit_at (get_or w (u / 8) 0) (u % 8)
       go (inr d) _ = ap (λ x. bit_at x (u % 8)) (get_or-set_other w (t / 8) (u / 8) (with_bit b (t % 8)) 0 d)
       go (inl e) (inr h) = ap (λ x. bit_at (get_or x (u / 8) 0) (u % 8)) (set_out w (t / 8) (with_bit b (t % 8)) h)
       go (inl e) (inl h) =

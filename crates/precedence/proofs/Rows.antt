@@ -250,7 +250,8 @@ module _ {tr : List Record} {n : ℕ} (s : Sound tr n) where
       omega (arith, one-begin b f (omega arith) (omega arith))
 
   -- of two event actions, all records of one stand before all of the other
-  pub stand-apart : (x x' y y' : ℕ) → x' < n → y < n → (at tr x).first ≡ (at tr x').first → (at tr y).first ≡ (at tr y').first → (at tr x).first ≢ (at tr y).first
+  pub stand-apart : (x x' y y' : ℕ) → x' < n → y < n
+      → (at tr x).first ≡ (at tr x').first → (at tr y).first ≡ (at tr y').first → (at tr x).first ≢ (at tr y).first
       → x ≤ y → x' < y'
   stand-apart x x' y y' k l e q d h = go (lt-or-ge x' y') (lt-or-ge y' x)
     where

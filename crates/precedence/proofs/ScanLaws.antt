@@ -223,7 +223,8 @@ module _ (tr : List Record) (i : ℕ) where
   has v = begun v (past tr i)
 
   -- whatever e's row is
-  pub row-aside : (e : ℕ) (row : ℕ → Bool) → (run tr e (table tr i) has i (record { reach = λ k x. false; row = row; stuck = false })).stuck ≡ blocked_for tr i e
+  pub row-aside : (e : ℕ) (row : ℕ → Bool)
+      → (run tr e (table tr i) has i (record { reach = λ k x. false; row = row; stuck = false })).stuck ≡ blocked_for tr i e
   unfolding blocked_for
   row-aside e row =
       run-stuck tr e (table tr i) has i (record { reach = λ k x. false; row = row; stuck = false })
