@@ -1,6 +1,7 @@
 -- Clock rows in lent clocks: "A clock row has one 16-bit entry per chain, one row after another in begin order". Row u at a width is the
 -- part that starts at u × width. Assumes nothing.
-use Rattle.std.specs.Prelude.{ℕ, zero, suc, ◌+◌, ◌*◌, ◌-◌, ◌/◌, min, max, Bool, true, false, ◌&&◌, List, ◌++◌, leb, ltb, length, get_or, set, take, drop, replicate}
+use Rattle.std.specs.Prelude.{ℕ, zero, suc, ◌+◌, ◌*◌, ◌-◌, ◌/◌, min, max, Bool, true, false, ◌&&◌, List, ◌++◌, leb, ltb}
+use Rattle.std.specs.Prelude.{length, get_or, set, take, drop, replicate}
 
 -- "21: clock width not 1 to 1,024, or clock space shorter than event actions × width."
 unfoldable pub space_for : ℕ → ℕ → ℕ → Bool

@@ -148,7 +148,8 @@ pub(crate) struct Asked {
 }
 
 pub(crate) fn pair(r: PairAnswer) -> Asked
-    ensures { (result.number ∷ result.place ∷ result.covered ∷ result.count ∷ [] ≡ pair_numbers (pair_paper r) result.count) × (result.count ≡ entries_given r) }
+    ensures { (result.number ∷ result.place ∷ result.covered ∷ result.count ∷ [] ≡ pair_numbers (pair_paper r) result.count) ×
+        (result.count ≡ entries_given r) }
 {
     match r {
         PairAnswer::Open(k) => Asked {

@@ -49,10 +49,10 @@ pub(crate) fn make_row(
     chosen: &mut [u16],
     chains: usize,
 ) -> usize
-    requires { RoomToMake (bit_of table.now) width u (record { clocks = clocks.now; sizes = sizes.old; chosen = chosen.old; chains = chains }) }
+    requires { RoomToMake (bit_of table.now) width u (record { clocks = clocks.old; sizes = sizes.old; chosen = chosen.old; chains = chains }) }
     ensures { Are (make_row (bit_of table.now) width u
-        (record { clocks = clocks.entry.now; sizes = sizes.old; chosen = chosen.old; chains = chains }))
-        clocks.exit.now sizes.new chosen.new result }
+        (record { clocks = clocks.old; sizes = sizes.old; chosen = chosen.old; chains = chains }))
+        clocks.new sizes.new chosen.new result }
 {
     clear_row(clocks, width, u as u16);
     take_before(table, u, width, clocks, chosen);

@@ -51,9 +51,9 @@ pub(crate) fn begin_row(
     chosen: &mut [u16],
     chains: usize,
 ) -> usize
-    requires { RoomToBegin width u (record { clocks = clocks.now; sizes = sizes.old; chosen = chosen.old; chains = chains }) }
-    ensures { Are (begin_row width u (record { clocks = clocks.entry.now; sizes = sizes.old; chosen = chosen.old; chains = chains }))
-        clocks.exit.now sizes.new chosen.new result }
+    requires { RoomToBegin width u (record { clocks = clocks.old; sizes = sizes.old; chosen = chosen.old; chains = chains }) }
+    ensures { Are (begin_row width u (record { clocks = clocks.old; sizes = sizes.old; chosen = chosen.old; chains = chains }))
+        clocks.new sizes.new chosen.new result }
 {
     let c = choose_hinted(clocks, width, u, sizes, chains, chosen[u]);
     if width <= c {

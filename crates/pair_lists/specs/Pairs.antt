@@ -21,7 +21,13 @@ var n = record { 0 = n }
 
 -- "An entry of either has first, second, cell, shape and mark."; records are numbered from 1
 unfoldable pub pair_of : List Record → ℕ × ℕ → Pair
-pair_of tr (a, b) = record { first = operation (a + 1); second = operation (b + 1); cell = var (at tr b).second; shape = shape_of tr a b; mark = mark_of tr a b }
+pair_of tr (a, b) = record {
+  first = operation (a + 1);
+  second = operation (b + 1);
+  cell = var (at tr b).second;
+  shape = shape_of tr a b;
+  mark = mark_of tr a b;
+}
 
 -- "24: list space too short: fewer entries than the list has": of the two spaces the one with fewer entries counts, as a number of numbers
 abbrev pub space : ℕ → ℕ → ℕ

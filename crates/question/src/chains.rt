@@ -91,8 +91,8 @@ pub(crate) fn enter_chain(
 ) -> Taken
     requires { (width ≤ 1024) × (u < 1024) × (length lasts.old ≡ 1024) }
     ensures { AreMembers
-        (enter_chain x y width u (record { lasts = lasts.entry.now; chains = taken.chains; first = taken.first; second = taken.second }) c)
-        lasts.exit.now result.chains result.first result.second }
+        (enter_chain x y width u (record { lasts = lasts.old; chains = taken.chains; first = taken.first; second = taken.second }) c)
+        lasts.new result.chains result.first result.second }
 {
     if width <= c {
         return Taken {
@@ -131,11 +131,11 @@ fn turn(
     width: usize,
 ) -> Taken
     requires { (width ≤ 1024) × (length marks.old ≡ 1024) × RoomFor (said_by ranks.now (decode recs.now) i)
-        (record { lasts = lasts.now; chains = taken.chains; first = taken.first; second = taken.second }) }
+        (record { lasts = lasts.old; chains = taken.chains; first = taken.first; second = taken.second }) }
     ensures { AreMembers
         (turn_members ranks.now (decode recs.now) x y width i (said_by ranks.now (decode recs.now) i)
-        (record { lasts = lasts.entry.now; chains = taken.chains; first = taken.first; second = taken.second }))
-        lasts.exit.now result.chains result.first result.second }
+        (record { lasts = lasts.old; chains = taken.chains; first = taken.first; second = taken.second }))
+        lasts.new result.chains result.first result.second }
 {
     let said = ordering_at(recs, ranks, i);
     match said {

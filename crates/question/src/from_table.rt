@@ -41,9 +41,9 @@ fn enter_row(
 ) -> Taken
     requires { (width ≤ 1024) × (u < 1024) × (taken.chains ≤ 1024) × (length lasts.old ≡ 1024) }
     ensures { AreMembers
-        (enter_chain x y width u (record { lasts = lasts.entry.now; chains = taken.chains; first = taken.first; second = taken.second })
-        (bit_chain (bit_of table.now) lasts.entry.now taken.chains u))
-        lasts.exit.now result.chains result.first result.second }
+        (enter_chain x y width u (record { lasts = lasts.old; chains = taken.chains; first = taken.first; second = taken.second })
+        (bit_chain (bit_of table.now) lasts.old taken.chains u))
+        lasts.new result.chains result.first result.second }
 {
     let c = chain_before(table, lasts, taken.chains, u);
     enter_chain(lasts, taken, x, y, width, u, c)

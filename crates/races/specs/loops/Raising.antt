@@ -56,7 +56,8 @@ module _ (tr : List Record) (ranks : List ℕ) (width chains u : ℕ) (list : Li
 
   unfoldable pub raise_down : ℕ → ℕ → List ℕ → List ℕ
   raise_down k zero clocks = clocks
-  raise_down k (suc d) clocks = let raised = raise_by (k + d) clocks in rows_if (eqb (get_or list (entry_numbers * (k + d) + 3) 0) 3) (raise_down k d raised) raised
+  raise_down k (suc d) clocks = let raised = raise_by (k + d) clocks in
+      rows_if (eqb (get_or list (entry_numbers * (k + d) + 3) 0) 3) (raise_down k d raised) raised
 
 -- Where raising stands: at that row, with the chains taken by it and those before; and the clocks. Without a send, position is that of the row's begin.
 pub record Place : Type 0 where
