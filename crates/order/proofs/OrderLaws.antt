@@ -22,6 +22,7 @@ found q (p ∷ ps) h = go (either (q p) (some q ps) h) (found q ps)
 
 pub find : (q : ℕ → Bool) (ps : List ℕ) (p : ℕ) → p ∈ ps → T (q p) → T (some q ps)
 unfolding some
+find q [] p m h = elim m [ ]
 find q (x ∷ ps) p (Memᴰ.head e) h = or_left (q x) (some q ps) (subst (λ (y : ℕ). T (q y)) e h)
 find q (x ∷ ps) p (Memᴰ.tail m) h = or_right (q x) (some q ps) (find q ps p m h)
 

@@ -20,6 +20,7 @@ use Rattle.order.proofs.CountLaws.{count_yes, count-mono, count_none, Last, coun
 
 pub largest-in : (ps : List ℕ) (f : ℕ → ℕ) (p : ℕ) → p ∈ ps → f p ≤ largest ps f
 unfolding largest
+largest-in [] f p m = elim m [ ]
 largest-in (x ∷ ps) f p (Memᴰ.head e) = let i : f p ≡ f x = ap f e in omega arith
 largest-in (x ∷ ps) f p (Memᴰ.tail m) = omega (arith, largest-in ps f p m)
 

@@ -1,0 +1,48 @@
+use Rattle.order.specs.Lent.{spaces, spaced}
+use Rattle.order.specs.Prepare.{within}
+use Rattle.trace.specs.Reply.{demand, then}
+use Rattle.trace.specs.Paper.{paper}
+use Rattle.trace.proofs.Upward.{upward}
+use borrow.Author.Tests.{le-leb, lt-leb}
+use mathlib.Core.Path.{refl, sym, ap, ◌∙◌}
+use Rattle.order.proofs.read_within.Goals as goal
+
+pub returns-in_default : goal.returns-in_default
+unfolding within spaced then
+returns-in_default c = rw (← upward c.args.reading (rw c.in_default.is refl))
+
+pub returns-then-not-has_records : goal.returns-then-not-has_records
+unfolding within spaced spaces then demand
+returns-then-not-has_records c =
+    let e = sym (ap paper c.in-Accepted.is) in
+    let records = sym c.has_records.ensures ∙ c.if-not-has_records.true in
+    rw (← e, records)
+
+pub returns-then-not-has_space : goal.returns-then-not-has_space
+unfolding within spaced spaces then demand
+returns-then-not-has_space c =
+    let at_records = c in
+    let e = sym (ap paper at_records.in-Accepted.is) in
+    let records = sym at_records.has_records.ensures ∙ c.if-not-has_records.false in
+    let space = sym c.has_space.ensures ∙ c.if-not-has_space.true in
+    rw (← e, records, space)
+
+pub returns-then-room-t : goal.returns-then-room-t
+unfolding within spaced spaces then demand
+returns-then-room-t c =
+    let at-space = c in
+    let at_records = at-space in
+    let e = sym (ap paper at_records.in-Accepted.is) in
+    let records = sym at_records.has_records.ensures ∙ at-space.if-not-has_records.false in
+    let space = sym at-space.has_space.ensures ∙ c.if-not-has_space.false in
+    rw (← e, records, space, lt-leb _ _ c.if-room-t.true)
+
+pub returns : goal.returns
+unfolding within spaced spaces then demand
+returns c =
+    let at-space = c in
+    let at_records = at-space in
+    let e = sym (ap paper at_records.in-Accepted.is) in
+    let records = sym at_records.has_records.ensures ∙ at-space.if-not-has_records.false in
+    let space = sym at-space.has_space.ensures ∙ c.if-not-has_space.false in
+    rw (← e, records, space, le-leb _ _ c.if-room-t.false)
