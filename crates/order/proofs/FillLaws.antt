@@ -12,9 +12,9 @@ use lib.Seq.{get_or-set_same, get_or-set_other}
 use borrow.Author.Tests.{eq-eqb, ne_eqb}
 use Rattle.order.specs.Links.{Links, Forward, ◌∈◌, leq}
 use Rattle.order.specs.Chains.{bit, chain, used, members}
-use Rattle.order.specs.Clocks.{largest, chain_of, entry, merged}
+use Rattle.order.specs.Clocks.{chain_of, entry, merged}
 use Rattle.ranks.specs.declared.Ordering.{Ordering}
-use Rattle.ranks.specs.declared.Ordering.TheVariants.{Link, Begin}
+use Rattle.ranks.specs.declared.Ordering.TheVariants.{Begin}
 use Rattle.order.specs.Schedule.{linked}
 use Rattle.order.specs.loops.Standing.{begins, Ordered, Makes}
 use Rattle.slices.proofs.Tests.{both, eq→eqb, decide_eq, decide-lt, rises}

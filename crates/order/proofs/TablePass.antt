@@ -1,35 +1,19 @@
 -- The table of bits tells the order of an acceptable trace, and rows made from it are the trace's. Assumes nothing.
-use Prim.Native.Nat.{ℕ, suc, ◌*◌, ◌-◌, ◌≤◌, ◌<◌}
-use mathlib.Core.Path.{◌≡◌, refl, sym, ap, ◌∙◌, subst}
-use mathlib.Core.Bool.{Bool, true, false}
+use Prim.Native.Nat.{ℕ, ◌-◌, ◌<◌}
+use mathlib.Core.Path.{◌≡◌, sym, ap, ◌∙◌}
 use mathlib.Core.List.{List}
-use mathlib.Core.Logic.{◌≢◌, ◌⊎◌, inl, inr}
+use mathlib.Core.Logic.{◌≢◌}
 use native.Mathlib.Omega.{arith}
-use lib.Dec.{T, eqb→eq}
-use lib.ListN.{length, get_or, drop}
-use Rattle.slices.specs.Slices.{zeros}
-use Rattle.slices.proofs.Tests.{decide_eq, decide-lt}
+use lib.ListN.{length}
 use Rattle.records.specs.declared.Record.{Record}
-use Rattle.records.specs.Records.{at, is_begin}
-use Rattle.records.proofs.Positions.{true-not-false}
 use Rattle.trace.specs.Reading.{Acceptable}
-use Rattle.trace.proofs.Blocks.{passes_at}
-use Rattle.trace.proofs.Marked.{formed}
-use Rattle.trace.proofs.Going.{in_range}
-use Rattle.trace.proofs.Events.{few-events}
 use Rattle.ranks.specs.Ranks.{ranks_of}
 use Rattle.bits.specs.Table.{bit_of}
 use Rattle.precedence.specs.Before.{Begins}
-use Rattle.precedence.specs.Table.{table, blocked}
 use Rattle.links.specs.Rule.{rank_in}
-use Rattle.links.specs.Fill.{fill_from, fill_all, Stops}
-use Rattle.links.specs.Promise.{Lawful, Decides}
-use Rattle.links.proofs.RankSim.{all-decided}
+use Rattle.links.specs.Fill.{fill_all}
 use Rattle.order.specs.Links.{leq}
-use Rattle.order.specs.Chains.{needs}
-use Rattle.order.specs.Rank.{rank}
 use Rattle.order.specs.HappensBefore.{trace_links}
-use Rattle.order.specs.Clocks.{clocks_of}
 use Rattle.order.specs.Fill.{events_in, begin_position, row_past_width, chains_used, chain_table, trace_clocks}
 use Rattle.order.specs.loops.FromTable.{Tells, ReadyToMake, MakesRows}
 use Rattle.order.specs.loops.PassEnds.{Ready, Short, Passes}

@@ -1,5 +1,5 @@
 -- Clock rows and the comparison by which the order question is answered. Definitions alone. Assumes nothing.
-use Rattle.std.specs.Prelude.{ℕ, zero, suc, ◌+◌, ◌*◌, max, Bool, List, [], ◌∷◌, ◌++◌, eqb, leb, get_or}
+use Rattle.std.specs.Prelude.{ℕ, zero, suc, ◌+◌, max, Bool, List, [], ◌∷◌, ◌++◌, eqb, leb}
 use Rattle.order.specs.Links.{Links, along, leq}
 use Rattle.order.specs.Chains.{bit, chain}
 

@@ -2,23 +2,21 @@
 use Prim.Native.Nat.{ℕ, zero, suc, ◌+◌, ◌-◌, ◌≤◌, ◌<◌}
 use mathlib.Core.Path.{◌≡◌, refl, sym, ap, ◌∙◌, subst}
 use mathlib.Core.Logic.{◌≢◌, ◌⊎◌, inl, inr}
-use mathlib.Core.Bool.{Bool, true, false, not, cond, ◌&&◌}
+use mathlib.Core.Bool.{Bool, true, false, cond, ◌&&◌}
 use mathlib.Core.List.{List}
 use native.Mathlib.Omega.{arith}
 use native.Mathlib.Numerals.{add-one}
 use native.Mathlib.Nat.{eq-or-lt_of_le, le_of_suc-le-suc}
 use native.Mathlib.Decide.{ℕ_discrete}
-use borrow.Author.Tests.{eq-eqb, ne_eqb, le-leb, leb-true, ltb-false}
+use borrow.Author.Tests.{eq-eqb, ne_eqb, ltb-false}
 use lib.Dec.{T, leb, ltb, eqb, eqb→eq, le→leb, ltb→lt}
 use lib.ListN.{length, get_or, set, length-set, length-replicate, get_or-replicate}
 use lib.Seq.{get_or-set_same, get_or-set_other}
 use Rattle.records.specs.declared.Record.{Record}
-use Rattle.records.specs.Records.{at, past, is_read, is_write, event_of}
+use Rattle.records.specs.Records.{at, is_read, is_write, event_of}
 use Rattle.trace.specs.Reading.{Acceptable}
 use Rattle.slices.specs.Slices.{zeros}
-use Rattle.trace.specs.Place.{place}
-use Rattle.trace.specs.Rule.{situation, numbered}
-use Rattle.records.proofs.Positions.{lt-or-ge}
+use Rattle.trace.specs.Rule.{numbered}
 use Rattle.records.proofs.BaseKinds.{base-known, base-kind}
 use Rattle.trace.proofs.Blocks.{passes_at, contiguous, begins_once, body-after-begin}
 use Rattle.trace.proofs.Marked.{formed}
@@ -29,7 +27,7 @@ use Rattle.slices.proofs.Tests.{decide, both, and, either, or_left, or_right, eq
 use Rattle.races.specs.Traces.{is_access, cells_of, setting_of}
 use Rattle.races.specs.loops.Candidates.{cell, accesses, writes, start_of, Upto, last_write, Seen, Tables, ordered_in, seen_after, firsts_from}
 use Rattle.records.specs.Kinds.{base_kind}
-use Rattle.records.specs.Search.{least_kind, may_race, Past, NextAccess}
+use Rattle.records.specs.Search.{least_kind, may_race, Past}
 use Rattle.clocks.specs.WayRound.{relate_in, says_before}
 use Rattle.order.specs.Rank.{rank}
 use Rattle.order.specs.HappensBefore.{happens_before}

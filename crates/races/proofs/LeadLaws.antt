@@ -87,6 +87,7 @@ module _ (chosen : List ℕ) (w : ℕ) where
 
       pub lead-down : (p : ℕ) (clocks clocks' : List ℕ) → 0 < p → clocks' ≡ lead_from chosen w kept t chains (p - 1) clocks → lead_down chosen w kept t chains (p - 1) clocks' ≡ lead_down chosen w kept t chains p clocks
       unfolding lead_down
+      lead-down zero clocks clocks' h e = elim h [ ]
       lead-down (suc p) clocks clocks' h e = let z : suc p - 1 ≡ p = omega arith in rw (e, z) refl
 
   pub lead-whole : (chains t : ℕ) (clocks kept cleared led clocks' : List ℕ) (place own : ℕ) → place ≡ t * w + get_or chosen t 0 → own ≡ get_or clocks place 0 → kept ≡ kept_to w t clocks w → cleared ≡ clear_row w t clocks → led ≡ lead_down chosen w kept t chains t cleared → clocks' ≡ raise_to place own led → clocks' ≡ lead_in chosen w chains t clocks

@@ -16,7 +16,7 @@ use Rattle.records.specs.declared.Record.{Record}
 use Rattle.records.specs.Records.{at, is_read, is_write, event_of}
 use Rattle.trace.specs.Reading.{Acceptable}
 use Rattle.records.proofs.Positions.{lt-or-ge}
-use Rattle.coverage.specs.Below.{upto, pairs, only}
+use Rattle.coverage.specs.Below.{upto, pairs}
 use Rattle.coverage.specs.Race.{raceb}
 use Rattle.coverage.specs.Neighbours.{conflicts, write_between, neighbour}
 use Rattle.coverage.specs.Lists.{all_races, short_list}

@@ -22,7 +22,7 @@ use Rattle.races.proofs.ListLaws.{pairs_below}
 use Rattle.races.proofs.EntryStores.{raws-length}
 use Rattle.races.proofs.DemandLaws.{numbers-length}
 use Rattle.races.proofs.MarkingLaws.{raws-first, raws-second, marked_other, marked_all, remarked-none}
-use Rattle.races.proofs.EntryOrder.{first_at, second_of_entry, size}
+use Rattle.races.proofs.EntryOrder.{first_at, second_of_entry}
 
 module _ (tr : List Record) where
   five : (i : ℕ) → 5 * suc i + 3 ≡ suc (suc (suc (suc (suc (5 * i + 3)))))

@@ -10,7 +10,7 @@ use lib.Seq.{sets, sets-eq, get_or-set_other}
 use Rattle.records.specs.declared.Record.{Record}
 use Rattle.records.specs.Records.{at}
 use Rattle.races.specs.Lists.{shape_of, mark_of, entry, numbers}
-use Rattle.races.specs.loops.ListPass.{firsts, raw, raws}
+use Rattle.races.specs.loops.ListPass.{raw, raws}
 use Rattle.races.specs.loops.Marking.{first, second, mark_to, Remarked}
 use Rattle.races.proofs.EntryStores.{raws-length}
 use Rattle.races.proofs.DemandLaws.{numbers-length}

@@ -1,6 +1,6 @@
 -- Where the first accesses that may race with a second access b are looked for: along the accesses of its cell. `CandidateLaws` and `ListLaws` prove
 -- that none is missed. Definitions alone. Assumes nothing.
-use Rattle.std.specs.Prelude.{ℕ, zero, suc, ◌+◌, ◌-◌, ◌≤◌, ◌<◌, ◌≡◌, ◌≢◌, Bool, true, false, cond, ◌&&◌, ◌||◌, List, T, leb, ltb, eqb, length, get_or}
+use Rattle.std.specs.Prelude.{ℕ, zero, suc, ◌+◌, ◌-◌, ◌≤◌, ◌<◌, ◌≡◌, ◌≢◌, Bool, true, false, cond, ◌&&◌, ◌||◌, List, T, ltb, eqb, length, get_or}
 use Rattle.records.specs.declared.Record.{Record}
 use Rattle.records.specs.Records.{at, is_write, event_of}
 use Rattle.clocks.specs.WayRound.{relate_in, says_before}

@@ -1,4 +1,3 @@
-use Prim.Native.Nat.{◌-◌}
 use mathlib.Core.Path.{refl, sym, ◌∙◌}
 use Rattle.records.specs.Bytes.{decode}
 use Rattle.order.proofs.HintLaws.{fill-skips, fill-over, fill_stop, fill-next}

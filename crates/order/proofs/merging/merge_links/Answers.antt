@@ -1,4 +1,3 @@
-use Prim.Native.Nat.{◌-◌}
 use mathlib.Core.Path.{refl, sym, ◌∙◌}
 use Rattle.order.proofs.WalkLaws.{walk-skips, walk-over, walk-stop, walk-next}
 use Rattle.order.proofs.merging.merge_links.Goals as goal

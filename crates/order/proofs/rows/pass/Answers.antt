@@ -3,7 +3,7 @@ use Rattle.records.specs.Bytes.{decode}
 use lib.ListN.{length}
 use native.Mathlib.Omega.{arith}
 use mathlib.Core.Path.{refl, ◌∙◌}
-use Prim.Native.Nat.{◌-◌, ◌≤◌, ◌<◌}
+use Prim.Native.Nat.{◌≤◌, ◌<◌}
 use Rattle.order.proofs.rows.pass.Goals as goal
 
 pub loop-i-init : goal.loop-i-init

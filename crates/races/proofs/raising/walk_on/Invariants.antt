@@ -1,0 +1,14 @@
+use Prim.Native.Nat.{◌+◌, ◌-◌, ◌≤◌}
+use lib.ListN.{length}
+use Rattle.records.specs.Bytes.{decode}
+use Rattle.races.specs.loops.Raising.{place_at, by_records, MayGo}
+use Rattle.races.proofs.GoLaws.{Going}
+use Rattle.races.proofs.raising.walk_on.Given as goal
+
+abbrev pub invariant-loop-t : goal.invariant-loop-t
+invariant-loop-t l =
+    MayGo (decode l.recs) l.chosen l.width l.initial.clocks l.initial.t l.initial.i l.u × Going (by_records l.chosen l.width (decode l.recs) l.ranks) (place_at l.initial.t l.initial.i l.initial.chains l.initial.clocks) l.u l.t l.i l.chains l.clocks
+    × (l.i ≤ length (decode l.recs) + (l.t - l.initial.t))
+
+abbrev pub decreases-loop-t : goal.decreases-loop-t
+decreases-loop-t l = l.u - l.t
