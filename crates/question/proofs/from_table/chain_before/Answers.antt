@@ -1,0 +1,26 @@
+use Rattle.order.proofs.CountLaws.{first-hit, first-miss, first-over}
+use Rattle.question.specs.loops.TableChains.{bit_chain}
+use native.Mathlib.Omega.{arith}
+use mathlib.Core.Path.{◌≡◌, sym, ◌∙◌}
+use Prim.Native.Nat.{◌-◌}
+use Rattle.question.proofs.from_table.chain_before.Goals as goal
+
+pub loop-c-init : goal.loop-c-init
+unfolding bit_chain
+loop-c-init c = (omega arith, let e : c.args.chains - 0 ≡ c.args.chains = omega arith in rw e)
+
+pub overflow_cast-lasts : goal.overflow_cast-lasts
+overflow_cast-lasts c = omega (arith, c.type_inv.lasts c.loop-c.c)
+
+pub returns-then-get : goal.returns-then-get
+returns-then-get c =
+    let at-loop = c in
+    sym (first-hit _ _ _ (omega arith) (sym c.get.ensures ∙ c.if-get.true)) ∙ at-loop.loop-c.invariant.1
+
+pub loop-c-preserved : goal.loop-c-preserved
+loop-c-preserved c =
+    let at-loop = c in
+    (omega arith, sym (first-miss _ _ _ (omega arith) (sym c.get.ensures ∙ c.if-get.false)) ∙ at-loop.loop-c.invariant.1)
+
+pub returns : goal.returns
+returns c = sym (first-over _ _ _ (omega arith)) ∙ c.loop-c.invariant.1

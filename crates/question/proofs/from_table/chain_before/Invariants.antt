@@ -1,0 +1,13 @@
+use Rattle.bits.specs.Table.{bit_of}
+use Rattle.question.specs.loops.TableChains.{bit_chain}
+use Rattle.order.specs.Chains.{first_from}
+use lib.ListN.{get_or}
+use mathlib.Core.Path.{◌≡◌}
+use Prim.Native.Nat.{◌-◌, ◌≤◌}
+use Rattle.question.proofs.from_table.chain_before.Given as goal
+
+abbrev pub invariant-loop-c : goal.invariant-loop-c
+invariant-loop-c l = (l.c ≤ l.chains) × (first_from (λ k. bit_of l.table (get_or l.lasts k 0) l.u) l.c (l.chains - l.c) ≡ bit_chain (bit_of l.table) l.lasts l.chains l.u)
+
+abbrev pub decreases-loop-c : goal.decreases-loop-c
+decreases-loop-c l = l.chains - l.c

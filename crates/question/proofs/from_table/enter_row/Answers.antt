@@ -1,0 +1,4 @@
+use Rattle.question.proofs.from_table.enter_row.Goals as goal
+
+pub returns : goal.returns
+returns c = rw (← c.chain_before-c.ensures) c.enter_chain.ensures
