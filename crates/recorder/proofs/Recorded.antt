@@ -9,9 +9,8 @@ use borrow.Author.Tests.{leb-true, eqb-true}
 use lib.Dec.{leb, eqb}
 use lib.ListN.{length, take}
 use Rattle.records.specs.declared.Record.{Record}
-use Rattle.records.specs.Records.{at, past, begins}
+use Rattle.records.specs.Records.{past, begins}
 use Rattle.trace.specs.Place.{between}
-use Rattle.trace.specs.Rule.{situation}
 use Rattle.trace.specs.Reading.{Acceptable}
 use Rattle.records.specs.Encoding.{trailer, trace_of, stored}
 use Rattle.trace.specs.Reply.{gives}

@@ -1,0 +1,50 @@
+use Rattle.recorder.specs.Recording.{of_numbers}
+use Rattle.recorder.proofs.Left.{close-closed, close-inside, close-short, close-done}
+use Rattle.records.specs.Bytes.{record_bytes}
+use Rattle.records.specs.Encoding.{trailer}
+use Rattle.records.proofs.Stored.{stored_is}
+use mathlib.Core.Path.{◌∙◌}
+use native.Mathlib.Omega.{arith}
+use Prim.Native.Nat.{◌*◌}
+use Rattle.recorder.proofs.close_numbers.Goals as goal
+
+pub returns-then-closed : goal.returns-then-closed
+returns-then-closed c =
+    let a = c.args in
+    simp (c.not_closed.ensures.0, c.not_closed.ensures.1)
+    (close-closed a.bytes.now (of_numbers a.count a.situation a.owner a.closed) c.if-closed.true)
+
+pub returns-then-situation-ne0 : goal.returns-then-situation-ne0
+returns-then-situation-ne0 c =
+    let at-stored-records = c in
+    let at-if1 = at-stored-records in
+    let a = at-if1.args in
+    let r = of_numbers a.count a.situation a.owner a.closed in
+    simp (c.not_closed-then-situation-ne0.ensures.0, c.not_closed-then-situation-ne0.ensures.1)
+    (close-inside a.bytes.now r at-if1.if-closed.false at-stored-records.stored_records-n.result at-stored-records.stored_records-n.ensures.0
+    c.if-situation-ne0.true)
+
+pub returns-then-bytes-at : goal.returns-then-bytes-at
+returns-then-bytes-at c =
+    let at-stored-records = c in
+    let at-if1 = at-stored-records in
+    let a = at-if1.args in
+    let r = of_numbers a.count a.situation a.owner a.closed in
+    simp (c.not_closed-then-bytes-at.ensures.0, c.not_closed-then-bytes-at.ensures.1)
+    (close-short a.bytes.now r at-if1.if-closed.false at-stored-records.stored_records-n.result at-stored-records.stored_records-n.ensures.0
+    c.if-situation-ne0.false c.if-bytes-at.true)
+
+pub returns : goal.returns
+returns c =
+    let at-begins = c in
+    let at-if3 = at-begins in
+    let at-if2 = at-if3 in
+    let at-stored-records = at-if2 in
+    let at-if1 = at-stored-records in
+    let a = at-if1.args in
+    let r = of_numbers a.count a.situation a.owner a.closed in
+    let at = record_bytes * at-stored-records.stored_records-n.result in
+    let put = stored_is a.bytes.now at (trailer at at-begins.begins-begins.result) (unfold trailer in omega arith) in
+    simp (c.put_trailer.ensures ∙ put, at-begins.begins-begins.ensures)
+    (close-done a.bytes.now r at-if1.if-closed.false at-stored-records.stored_records-n.result at-stored-records.stored_records-n.ensures.0
+    at-if2.if-situation-ne0.false at-if3.if-bytes-at.false)
