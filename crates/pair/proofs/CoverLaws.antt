@@ -2,7 +2,7 @@
 use Prim.Native.Nat.{ℕ, ◌+◌, ◌*◌, ◌-◌, ◌≤◌, ◌<◌}
 use mathlib.Core.Path.{◌≡◌, refl, sym, ap, ap₂, ◌∙◌, subst}
 use mathlib.Core.Logic.{◌≢◌, ◌⊎◌, inl, inr}
-use mathlib.Core.Bool.{Bool, true, false, not, ◌&&◌}
+use mathlib.Core.Bool.{Bool, true, false, ◌&&◌}
 use mathlib.Core.List.{List, [], ◌∷◌, ◌++◌, append_assoc}
 use native.Mathlib.Omega.{arith}
 use native.Mathlib.Decide.{ℕ_discrete}
@@ -15,7 +15,6 @@ use Rattle.trace.specs.Reading.{Acceptable}
 use Rattle.records.proofs.Positions.{lt-or-ge}
 use Rattle.order.specs.Rank.{rank}
 use Rattle.order.specs.HappensBefore.{happens_before}
-use Rattle.order.specs.Fill.{events_in}
 use Rattle.coverage.specs.Race.{before, Race, raceb}
 use Rattle.coverage.specs.Cover.{CoversFrom, one, more}
 use Rattle.coverage.specs.Leading.{leads, coveredb}
@@ -25,7 +24,7 @@ use Rattle.coverage.proofs.Theorems.{cover-next}
 use Rattle.coverage.proofs.Leads.{le-leads}
 use Rattle.races.specs.Traces.{setting_of}
 use Rattle.pair.specs.loops.Leading.{mark, Marks}
-use Rattle.races.specs.loops.FilledClocks.{rows, FilledClocks, RowsIn}
+use Rattle.races.specs.loops.FilledClocks.{rows, FilledClocks}
 use Rattle.races.specs.loops.Candidates.{cell}
 use Rattle.records.specs.Kinds.{base_kind}
 use Rattle.records.specs.Search.{least_kind, may_race, Past, NextAccess}

@@ -1,0 +1,10 @@
+use Prim.Native.Nat.{◌-◌, ◌≤◌}
+use Rattle.records.specs.Bytes.{decode}
+use Rattle.pair.specs.loops.PairSearch.{NoRace}
+use Rattle.pair.proofs.cover.find_race.Given as goal
+
+abbrev pub invariant-loop-d : goal.invariant-loop-d
+invariant-loop-d l = (l.lo ≤ l.d) × NoRace (decode l.recs) l.b l.lo l.t l.d
+
+abbrev pub decreases-loop-d : goal.decreases-loop-d
+decreases-loop-d l = l.b - l.d
