@@ -1,10 +1,10 @@
 -- How the compactor ends. Assumes nothing.
-use Prim.Native.Nat.{ℕ, ◌+◌, ◌*◌, ◌-◌, ◌≤◌, ◌<◌}
+use Prim.Native.Nat.{ℕ, ◌+◌, ◌*◌, ◌-◌, ◌≤◌}
 use mathlib.Core.Path.{◌≡◌, refl, sym, ap, ◌∙◌}
-use mathlib.Core.Bool.{Bool, true, false, not}
-use mathlib.Core.List.{List, [], ◌∷◌, ◌++◌}
+use mathlib.Core.Bool.{Bool, true, false}
+use mathlib.Core.List.{List, ◌++◌}
 use native.Mathlib.Omega.{arith}
-use borrow.Author.Tests.{le-leb, leb-true, not-true, not-false}
+use borrow.Author.Tests.{le-leb, leb-true}
 use lib.Dec.{leb}
 use lib.ListN.{length, drop, length-append, length-drop}
 use Rattle.records.specs.declared.Record.{Record}
@@ -12,13 +12,12 @@ use Rattle.records.specs.declared.Trace.{Trace}
 use Rattle.records.specs.Records.{past, begins}
 use Rattle.records.specs.Encoding.{encode, trailer, trace_of, stored, stored_within}
 use Rattle.records.proofs.Encoded.{encode-length}
-use Rattle.trace.specs.Reply.{Reply, refused, gives, demand, then, unless}
-use Rattle.trace.specs.Reading.{records_in, read_reply, records_read, Accepts, Acceptable}
+use Rattle.trace.specs.Reply.{refused, gives, demand, then, unless}
+use Rattle.trace.specs.Reading.{records_in, read_reply, Accepts, Acceptable}
 use Rattle.trace.proofs.ReplyLaws.{then-given}
 use Rattle.trace.proofs.Accepted.{accepts, records-read}
 use Rattle.order.specs.Fill.{events_in}
-use Rattle.coverage.proofs.Indexed.{size, size-most, sizes-together}
-use Rattle.compactor.specs.declared.Slim.{Slim}
+use Rattle.coverage.proofs.Indexed.{size-most, sizes-together}
 use Rattle.compactor.specs.declared.Compacting.{Compacting}
 use Rattle.compactor.specs.declared.Compacting.TheVariants.{Compacted}
 use Rattle.compactor.specs.SlimTrace.{dropped, kept, slim_of, dropped_in}
@@ -86,25 +85,25 @@ module _ (b : List ℕ) where
     replies space = then-given e (λ t. compact_trace (records_in b t) space)
 
     -- the output space is too short
-    pub space-short : {out out' : List ℕ} (f : Bool) (r : Compacting) → Fits tr out out' f → not f ≡ true → compact_paper r ≡ refused 24 0 → Compacts b out out' r
+    pub space-short : {out out' : List ℕ} (f : Bool) (r : Compacting) → Fits tr out out' f → f ≡ false → compact_paper r ≡ refused 24 0 → Compacts b out out' r
     unfolding compact_trace demand out_after unless
     space-short {out} f r w n q =
-        let z : leb (length (slim_bytes tr)) (length out) ≡ false = sym w.tells ∙ not-true f n in
+        let z : leb (length (slim_bytes tr)) (length out) ≡ false = sym w.tells ∙ n in
         let y : compact_reply b (length out) ≡ refused 24 0 = replies (length out) ∙ rw z in
         record { answer = q ∙ sym y; out-after = w.out-is ∙ rw y }
 
     -- the slim trace is written
-    pub slim-written : {k : ℕ} {out out' out'' : List ℕ} (f : Bool) → Fits tr out out' f → not f ≡ false → WritesSlim tr out' out'' k
+    pub slim-written : {k : ℕ} {out out' out'' : List ℕ} (f : Bool) → Fits tr out out' f → f ≡ true → WritesSlim tr out' out'' k
         → Compacts b out out'' (Compacted (record { length = 5 * k + 8; dropped = t.records - k }))
     unfolding compact_trace demand out_after unless dropped_in
     slim-written {k} {out} {out'} f h n w =
         let a = accepts b t e in
         let m : 5 * k + 8 ≡ length (slim_bytes tr) = omega (arith, w.count, trace-length (slim_of tr)) in
-        let z : leb (length (slim_bytes tr)) (length out) ≡ true = sym h.tells ∙ not-false f n in
+        let z : leb (length (slim_bytes tr)) (length out) ≡ true = sym h.tells ∙ n in
         let y : compact_reply b (length out) ≡ gives (record { length = length (slim_bytes tr); dropped = dropped_in tr }) = replies (length out) ∙ rw z in
         let d : t.records - k ≡ dropped_in tr = omega (arith, w.count, slim-length a.acceptable, sizes-together (dropped tr) (length tr), a.counts) in
         record { answer = rw (m, d) (sym y); out-after = w.out-is ∙ rw (h.out-is, y, records-read b t e) }
 
     -- so that it can be
-    pub has_room : {out out' : List ℕ} (f : Bool) → Fits tr out out' f → not f ≡ false → length (slim_bytes tr) ≤ length out'
-    has_room {out} f h n = rw h.out-is (leb-true (length (slim_bytes tr)) (length out) (sym h.tells ∙ not-false f n))
+    pub has_room : {out out' : List ℕ} (f : Bool) → Fits tr out out' f → f ≡ true → length (slim_bytes tr) ≤ length out'
+    has_room {out} f h n = rw h.out-is (leb-true (length (slim_bytes tr)) (length out) (sym h.tells ∙ n))

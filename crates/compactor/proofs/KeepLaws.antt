@@ -1,18 +1,18 @@
 -- The stamps of the cells tell which records are kept. Assumes nothing.
-use Prim.Native.Nat.{ℕ, zero, suc, ◌+◌, ◌*◌, ◌-◌, ◌≤◌, ◌<◌}
+use Prim.Native.Nat.{ℕ, zero, suc, ◌+◌, ◌*◌, ◌≤◌, ◌<◌}
 use mathlib.Core.Path.{◌≡◌, refl, sym, ap, ◌∙◌, subst}
 use mathlib.Core.Logic.{◌≢◌, ◌⊎◌, inl, inr}
-use mathlib.Core.Bool.{Bool, true, false, cond, not, ◌&&◌, ◌||◌, and-eq-true_iff}
-use mathlib.Core.List.{List, [], ◌∷◌, ◌++◌, map, map-append, append_assoc}
+use mathlib.Core.Bool.{Bool, true, false, cond, not, ◌&&◌, and-eq-true_iff}
+use mathlib.Core.List.{List, [], ◌∷◌, ◌++◌, map, map-append}
 use native.Mathlib.Omega.{arith}
 use native.Mathlib.Decide.{ℕ_discrete}
 use native.Mathlib.Numerals.{add-one}
-use borrow.Author.Tests.{eq-eqb, ne_eqb, eqb-true, leb-true, le-leb, not-false}
+use borrow.Author.Tests.{eq-eqb, ne_eqb, leb-true, le-leb}
 use lib.Dec.{T, eqb, leb, eqb→eq}
-use lib.ListN.{length, get_or, set, take, drop, length-map, length-drop, length-set, length-append, get_or-replicate, length-replicate}
+use lib.ListN.{length, get_or, set, drop, length-map, length-drop, length-set, length-append, get_or-replicate, length-replicate}
 use lib.Seq.{get_or-set_same, get_or-set_other, drop-drop, take_at, drop_at}
 use Rattle.records.specs.declared.Record.{Record}
-use Rattle.records.specs.Records.{at, past, event_of}
+use Rattle.records.specs.Records.{at, event_of}
 use Rattle.slices.specs.Slices.{zeros}
 use Rattle.trace.specs.Rule.{numbered}
 use Rattle.trace.specs.Reading.{Acceptable}
@@ -20,14 +20,14 @@ use Rattle.records.specs.Encoding.{encode, stored, stored_within}
 use Rattle.trace.proofs.Marked.{formed}
 use Rattle.trace.proofs.Blocks.{passes_at, contiguous}
 use Rattle.records.proofs.Encoded.{encode-length, encode-append}
-use Rattle.coverage.specs.Below.{some, upto}
-use Rattle.slices.proofs.Tests.{same, decide, passed, failed, or_left, or_right, eq→eqb}
-use Rattle.coverage.proofs.Lists.{upto-yes, upto-no, upto_zero}
-use Rattle.coverage.proofs.Indexed.{size, size-zero, size-yes, size-no, size-more, size-most, no-not, not-no}
+use Rattle.coverage.specs.Below.{upto}
+use Rattle.slices.proofs.Tests.{same, passed, or_left, or_right, eq→eqb}
+use Rattle.coverage.proofs.Lists.{upto-yes, upto-no}
+use Rattle.coverage.proofs.Indexed.{size, size-zero, size-yes, size-no, size-more, size-most, not-no}
 use Rattle.races.specs.Traces.{is_access}
 use Rattle.races.proofs.Instance.{access-kind}
 use Rattle.races.proofs.CandidateLaws.{cell-low}
-use Rattle.compactor.specs.SlimTrace.{repeats, dropped, kept, slim_of}
+use Rattle.compactor.specs.SlimTrace.{dropped, kept, slim_of}
 use Rattle.compactor.specs.loops.Keeping.{last_by, Stamped, Stamps, Passes}
 use Rattle.compactor.proofs.SlimLaws.{Repeat, repeat-of, of-repeat, slim-length}
 
@@ -218,11 +218,11 @@ module _ {tr : List Record} {i : ℕ} {read written : List ℕ} (s : Stamps tr i
     keeps-write e (q, w) = let (k, n) = as-write e in (q ∙ rw (cell-is, event-is) k, rw (w, cell-is, event-is) n)
 
 -- by the answer to whether a record is kept
-pub not-kept : {q : Bool} (r : Bool) → r ≡ q → not r ≡ true → T q → ⊥
-not-kept {q} r e h y = no-not q y (subst (λ (b : Bool). T (not b)) e (subst T (sym h) tt))
+pub not-kept : {q : Bool} (r : Bool) → r ≡ q → r ≡ false → T q → ⊥
+not-kept r e h y = subst T (sym e ∙ h) y
 
-pub is_kept : {q : Bool} (r : Bool) → r ≡ q → not r ≡ false → T q
-is_kept r e h = subst T (sym (not-false r h) ∙ e) tt
+pub is_kept : {q : Bool} (r : Bool) → r ≡ q → r ≡ true → T q
+is_kept r e h = subst T (sym h ∙ e) tt
 
 -- the kept records below one that is there are few
 pub few-kept : {tr : List Record} → Acceptable tr → (i : ℕ) → i ≤ length tr → (size (kept tr) i ≤ 4096) × (size (kept tr) i ≤ length (slim_of tr))

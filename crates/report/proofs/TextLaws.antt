@@ -7,7 +7,7 @@ use native.Mathlib.Omega.{arith}
 use native.Mathlib.Numerals.{add-one}
 use borrow.Author.Tests.{lt-ltb, le-ltb, leb-true}
 use lib.Dec.{leb}
-use lib.ListN.{length, get_or, take, drop, length-append, length-take, length-drop, length-replicate}
+use lib.ListN.{length, get_or, take, drop, length-append, length-take, length-drop}
 use lib.Seq.{get_or-append-add}
 use Rattle.slices.proofs.Cleared.{zeros-length}
 use Rattle.records.specs.declared.Record.{Record}

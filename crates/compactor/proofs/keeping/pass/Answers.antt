@@ -1,0 +1,73 @@
+use Prim.Native.Nat.{suc, ◌≤◌}
+use mathlib.Core.Path.{sym}
+use native.Mathlib.Omega.{arith}
+use lib.ListN.{length}
+use Rattle.records.specs.Bytes.{decode}
+use Rattle.compactor.proofs.KeepLaws.{stamps-start, not-kept, is_kept, few-kept, written_start, written-dropped, written-kept, written-room, written-long, written-end}
+use Rattle.compactor.proofs.keeping.pass.Goals as goal
+
+pub loop-i-init : goal.loop-i-init
+loop-i-init c =
+    let start = c in
+    let a = start.args in
+    (rw (c.numbers_1025-written.ensures, c.numbers_1025-read.ensures) (stamps-start start.requires.0), written_start _ a.writing _, omega arith)
+
+pub slice_bounds-keeps-end : goal.slice_bounds-keeps-end
+slice_bounds-keeps-end c = sym c.loop-i.invariant.0.reads.size
+
+pub slice_bounds-keeps-end-in-loop-i : goal.slice_bounds-keeps-end-in-loop-i
+slice_bounds-keeps-end-in-loop-i c = sym c.loop-i.invariant.0.writes.size
+
+pub keeps-requires : goal.keeps-requires
+keeps-requires c =
+    let l = c in
+    let n = l.count-n.ensures in
+    (l.loop-i.invariant.0, omega arith)
+
+pub loop-i-preserved-then-not-keeps : goal.loop-i-preserved-then-not-keeps
+loop-i-preserved-then-not-keeps c =
+    let at-keeps = c in
+    let l = at-keeps in
+    let n = l.count-n.ensures in
+    let k = at-keeps.keeps in
+    (k.ensures.1, written-dropped _ l.loop-i.invariant.1 (not-kept k.result k.ensures.0 c.if-not-keeps.true), omega arith)
+
+pub put-requires : goal.put-requires
+put-requires c =
+    let l = c in
+    let f = few-kept l.requires.0 l.loop-i.i l.loop-i.invariant.2 in
+    omega (arith, l.loop-i.invariant.1.count, f.0)
+
+pub overflow_add-k : goal.overflow_add-k
+overflow_add-k c =
+    let l = c in
+    let f = few-kept l.requires.0 l.loop-i.i l.loop-i.invariant.2 in
+    omega (arith, l.loop-i.invariant.1.count, f.0)
+
+pub loop-i-preserved : goal.loop-i-preserved
+loop-i-preserved c =
+    let at-if1 = c in
+    let at-keeps = at-if1 in
+    let l = at-keeps in
+    let start = l in
+    let n = l.count-n.ensures in
+    let k = at-keeps.keeps in
+    let w = l.loop-i.invariant.1 in
+    let y = is_kept k.result k.ensures.0 at-if1.if-not-keeps.false in
+    let more : suc l.loop-i.i ≤ length (decode start.args.recs.now) = omega arith in
+    let room = written-room _ start.args.writing w _ (few-kept start.requires.0 (suc l.loop-i.i) more).1 y start.requires.1 in
+    (k.ensures.1, written-kept _ start.args.writing w y room c.put.ensures, omega arith)
+
+pub shape_of-out : goal.shape_of-out
+shape_of-out c =
+    let l = c in
+    let start = l in
+    written-long _ start.args.writing l.loop-i.invariant.1 _ (few-kept start.requires.0 l.loop-i.i l.loop-i.invariant.2).1 start.requires.1
+
+pub returns : goal.returns
+returns c =
+    let l = c in
+    let start = l in
+    let n = l.count-n.ensures in
+    let i = l.loop-i.invariant.2 in
+    written-end _ start.requires.0 l.loop-i.invariant.1 (omega arith)
