@@ -1,0 +1,9 @@
+use mathlib.Core.Path.{ap, ◌∙◌}
+use Rattle.job_order.specs.Calls.{list_numbers}
+use Rattle.job_order.proofs.jco_short_list.Goals as goal
+
+pub returns : goal.returns
+returns c =
+    let at-short-list = c in
+    let lists = at-short-list.short_list-listing.ensures in
+    record { given = c.listing-given.ensures ∙ ap list_numbers lists.answer; clocks-after = lists.clocks-after; work-after = lists.work-after; list-after = lists.list-after }
