@@ -44,7 +44,8 @@ pub record TooFew : Type 0 where
 
 pub hold : TooFew
 unfolding open_left step_left close_left pass held closed_already judged before space full stops_inside no_trailer stored part decode
-    records_from record_at past has begun ended begins place numbered well_formed misplaced again early judge send_to last_send begin_blocked encode trailer trace_of
+    records_from record_at past has begun ended begins place numbered well_formed misplaced again early judge send_to last_send begin_blocked encode
+    trailer trace_of
 hold =
     let c = step (step (opening refl) (rec 1 1 0) refl) (rec 2 1 0) refl in
     record { enough = c; too_few = refl; goes_on = lent (refused_closing (lent c few refl) 25 0 refl) many refl; closed = refl; bytes_are = refl }

@@ -46,7 +46,8 @@ unfolding pass
 pass-out b r n k p y e = rw e
 
 -- a check that fails, and one that passes
-failing : {A : Type 0} (b : List ℕ) (r : Recorder) (y : Left A) (n op next k p : ℕ) → refused k p ≡ or_else n op (gives next) → pass b r n op y ≡ refusing b r k p
+failing : {A : Type 0} (b : List ℕ) (r : Recorder) (y : Left A) (n op next k p : ℕ) → refused k p ≡ or_else n op (gives next)
+    → pass b r n op y ≡ refusing b r k p
 unfolding pass or_else
 failing b r y zero op next k p e = absurd (not-both next k p (sym e))
 failing b r y (suc n) op next k p e = cc

@@ -16,35 +16,26 @@ returns-then-closed c =
 
 pub returns-then-situation-ne0 : goal.returns-then-situation-ne0
 returns-then-situation-ne0 c =
-    let at-stored-records = c in
-    let at-if1 = at-stored-records in
-    let a = at-if1.args in
+    let a = c.args in
     let r = of_numbers a.count a.situation a.owner a.closed in
     simp (c.not_closed-then-situation-ne0.ensures.0, c.not_closed-then-situation-ne0.ensures.1)
-    (close-inside a.bytes.now r at-if1.if-closed.false at-stored-records.stored_records-n.result at-stored-records.stored_records-n.ensures.0
+    (close-inside a.bytes.now r c.if-closed.false c.stored_records-n.result c.stored_records-n.ensures.0
     c.if-situation-ne0.true)
 
 pub returns-then-bytes-at : goal.returns-then-bytes-at
 returns-then-bytes-at c =
-    let at-stored-records = c in
-    let at-if1 = at-stored-records in
-    let a = at-if1.args in
+    let a = c.args in
     let r = of_numbers a.count a.situation a.owner a.closed in
     simp (c.not_closed-then-bytes-at.ensures.0, c.not_closed-then-bytes-at.ensures.1)
-    (close-short a.bytes.now r at-if1.if-closed.false at-stored-records.stored_records-n.result at-stored-records.stored_records-n.ensures.0
+    (close-short a.bytes.now r c.if-closed.false c.stored_records-n.result c.stored_records-n.ensures.0
     c.if-situation-ne0.false c.if-bytes-at.true)
 
 pub returns : goal.returns
 returns c =
-    let at-begins = c in
-    let at-if3 = at-begins in
-    let at-if2 = at-if3 in
-    let at-stored-records = at-if2 in
-    let at-if1 = at-stored-records in
-    let a = at-if1.args in
+    let a = c.args in
     let r = of_numbers a.count a.situation a.owner a.closed in
-    let at = record_bytes * at-stored-records.stored_records-n.result in
-    let put = stored_is a.bytes.now at (trailer at at-begins.begins-begins.result) (unfold trailer in omega arith) in
-    simp (c.put_trailer.ensures ∙ put, at-begins.begins-begins.ensures)
-    (close-done a.bytes.now r at-if1.if-closed.false at-stored-records.stored_records-n.result at-stored-records.stored_records-n.ensures.0
-    at-if2.if-situation-ne0.false at-if3.if-bytes-at.false)
+    let at = record_bytes * c.stored_records-n.result in
+    let put = stored_is a.bytes.now at (trailer at c.begins-begins.result) (unfold trailer in omega arith) in
+    simp (c.put_trailer.ensures ∙ put, c.begins-begins.ensures)
+    (close-done a.bytes.now r c.if-closed.false c.stored_records-n.result c.stored_records-n.ensures.0
+    c.if-situation-ne0.false c.if-bytes-at.false)

@@ -10,28 +10,20 @@ loop-i-init c = rw c.count-i.ensures
 
 pub returns-then-f-e : goal.returns-then-f-e
 returns-then-f-e c =
-    let at-if = c in
-    let at-kind-at = at-if in
-    let at-loop-test = c in
-    let at-loop = at-loop-test in
-    let start = at-loop in
-    let a = start.args in
-    let l = at-loop.loop-i in
-    sym (l.invariant ∙ seen_here (decode a.recs.now) a.kind a.e.0 l.i at-loop-test.loop-i-test.true (sym at-kind-at.kind_at-k.ensures ∙ at-if.if-k-kind.true) (sym c.event_at-f.ensures ∙ c.if-f-e.true))
+    let a = c.args in
+    let l = c.loop-i in
+    sym (l.invariant ∙ seen_here (decode a.recs.now) a.kind a.e.0 l.i c.loop-i-test.true
+    (sym c.kind_at-k.ensures ∙ c.if-k-kind.true) (sym c.event_at-f.ensures ∙ c.if-f-e.true))
 
 pub loop-i-preserved-else-f-e : goal.loop-i-preserved-else-f-e
 loop-i-preserved-else-f-e c =
-    let at-loop-test = c in
-    let at-loop = at-loop-test in
-    let start = at-loop in
-    let a = start.args in
-    let l = at-loop.loop-i in
-    l.invariant ∙ other-event (decode a.recs.now) a.kind a.e.0 l.i at-loop-test.loop-i-test.true (λ p. c.if-f-e.false (c.event_at-f.ensures ∙ p))
+    let a = c.args in
+    let l = c.loop-i in
+    l.invariant ∙ other-event (decode a.recs.now) a.kind a.e.0 l.i c.loop-i-test.true (λ p. c.if-f-e.false (c.event_at-f.ensures ∙ p))
 
 pub loop-i-preserved : goal.loop-i-preserved
 loop-i-preserved c =
-    let start = c in
-    let a = start.args in
+    let a = c.args in
     let l = c.loop-i in
     l.invariant ∙ other-kind (decode a.recs.now) a.kind a.e.0 l.i c.loop-i-test.true (λ p. c.if-k-kind.false (c.kind_at-k.ensures ∙ p))
 

@@ -21,18 +21,15 @@ returns-then-rec-ne1 c =
 pub returns-then-not-begin_blocked : goal.returns-then-not-begin_blocked
 returns-then-not-begin_blocked c =
     let b = c.begin_blocked in
-    let at-if1 = c in
-    let a = at-if1.args in
+    let a = c.args in
     let v : (eqb a.rec.kind 1 && begin_blocked (decode a.recs.now) a.rec.first) ≡ false =
-    simp (eq-eqb _ _ at-if1.if-rec-ne1.false) (sym b.ensures ∙ c.if-not-begin_blocked.true) in
+    simp (eq-eqb _ _ c.if-rec-ne1.false) (sym b.ensures ∙ c.if-not-begin_blocked.true) in
     free_stays a.op.0 _ a.checked v
 
 pub returns : goal.returns
 returns c =
     let b = c.begin_blocked in
-    let at-if1 = c in
-    let at-match = at-if1 in
-    let a = at-match.args in
+    let a = c.args in
     let v : (eqb a.rec.kind 1 && begin_blocked (decode a.recs.now) a.rec.first) ≡ true =
-    simp (eq-eqb _ _ at-if1.if-rec-ne1.false) (sym b.ensures ∙ c.if-not-begin_blocked.false) in
-    behind-refused a.op.0 _ a.checked (rw at-match.in-Next.is refl) v
+    simp (eq-eqb _ _ c.if-rec-ne1.false) (sym b.ensures ∙ c.if-not-begin_blocked.false) in
+    behind-refused a.op.0 _ a.checked (rw c.in-Next.is refl) v
