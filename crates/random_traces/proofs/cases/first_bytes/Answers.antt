@@ -1,0 +1,5 @@
+use Rattle.std.proofs.Common.{arith, length-take}
+use Rattle.random_traces.proofs.cases.first_bytes.Goals as goal
+
+pub slice_bounds-result-end : goal.slice_bounds-result-end
+slice_bounds-result-end c = simp length-take (omega arith)
