@@ -8,12 +8,11 @@ mod paths;
 mod show;
 mod slots;
 
-use std::fs;
-
 use pair::PairAnswer;
 use records::{Operation, access};
 use show::{number, word};
 use slots::{bit, get_short, has_all, is_in, pick, plus, size};
+use std::fs;
 use trace::Reading;
 
 // Does the entry stand for record i: "its event's records, joins included, up to that one"?
