@@ -1,7 +1,6 @@
 // The samples, as files.
-use std::fs;
-
 use crate::show;
+use std::fs;
 
 fn sample(rt: &HostRuntime, name: &str) -> std::io::Result<()> {
     show::title(name.as_bytes());
