@@ -1,11 +1,11 @@
-// Links the product's static library. JOB_ORDER_LIB names its folder; default: target/staticlib of the repository.
+// Links the product's static library. JOB_ORDER_LIB names its folder; default: the folder where rt lib leaves it.
 use std::{env, path::PathBuf};
 
 fn main() {
     println!("cargo:rerun-if-env-changed=JOB_ORDER_LIB");
     let folder = match env::var_os("JOB_ORDER_LIB") {
         Some(folder) => PathBuf::from(folder),
-        None => PathBuf::from(env::var_os("CARGO_MANIFEST_DIR").unwrap()).join("../target/staticlib"),
+        None => PathBuf::from(env::var_os("CARGO_MANIFEST_DIR").unwrap()).join("../crates/job_order/out"),
     };
     let library = folder.join("libjob_order.a");
     println!("cargo:rerun-if-changed={}", library.display());

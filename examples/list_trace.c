@@ -1,7 +1,7 @@
 /* Prints the short list of a trace, as the trace program does: a header line and an entry a line, or one line for a refusal.
  *
- *   rt staticlib job_order
- *   gcc -std=c11 -Wall -Wextra -O2 -I include examples/list_trace.c target/staticlib/libjob_order.a -o list_trace
+ *   (cd crates/job_order && rt lib)
+ *   gcc -std=c11 -Wall -Wextra -O2 -I include examples/list_trace.c crates/job_order/out/libjob_order.a -o list_trace
  *   ./list_trace samples/t.trace          (or ./list_trace < samples/t.trace)
  */
 #include "job_order.h"

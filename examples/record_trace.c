@@ -1,7 +1,7 @@
 /* Records trace T of the scope document step by step and writes its bytes to standard output: those of samples/t.trace.
  *
- *   rt staticlib job_order
- *   gcc -std=c11 -Wall -Wextra -O2 -I include examples/record_trace.c target/staticlib/libjob_order.a -o record_trace
+ *   (cd crates/job_order && rt lib)
+ *   gcc -std=c11 -Wall -Wextra -O2 -I include examples/record_trace.c crates/job_order/out/libjob_order.a -o record_trace
  *   ./record_trace | cmp - samples/t.trace
  */
 #include "job_order.h"
