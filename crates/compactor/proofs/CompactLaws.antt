@@ -61,7 +61,8 @@ writes-slim {tr} acc {events} {k} {out} {out'} {out''} e room p w =
       count = n;
       out-is =
           let o : out' ≡ encode (slim_of tr) ++ drop (5 * k) out = p.out-is ∙ ap (λ (m : ℕ). encode (slim_of tr) ++ drop (5 * m) out) (sym n) in
-          let l : length out' ≡ length (encode (slim_of tr)) + length (drop (5 * k) out) = ap length o ∙ length-append (encode (slim_of tr)) (drop (5 * k) out) in
+          let l : length out' ≡ length (encode (slim_of tr)) + length (drop (5 * k) out) = ap length o
+          ∙ length-append (encode (slim_of tr)) (drop (5 * k) out) in
           let fits : leb (5 * k + 8) (length out') ≡ true = le-leb (5 * k + 8) (length out') (omega (arith, length-drop (5 * k) out)) in
           let vs : List ℕ = trailer (5 * k) events in
           let put : out'' ≡ stored out' (5 * k) vs = w ∙ rw fits in

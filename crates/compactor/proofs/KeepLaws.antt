@@ -52,7 +52,8 @@ module _ (tr : List Record) (k c : ℕ) where
   unfolding last_by
   miss i n = go (ℕ_discrete (at tr i).kind k) (ℕ_discrete (at tr i).second c)
     where
-      go : Dec ((at tr i).kind ≡ k) → Dec ((at tr i).second ≡ c) → cond (eqb (at tr i).kind k && eqb (at tr i).second c) (event_of (at tr i)) (last_by tr k c i) ≡ last_by tr k c i
+      go : Dec ((at tr i).kind ≡ k) → Dec ((at tr i).second ≡ c)
+          → cond (eqb (at tr i).kind k && eqb (at tr i).second c) (event_of (at tr i)) (last_by tr k c i) ≡ last_by tr k c i
       go (yes a) (yes b) = absurd (n (a, b))
       go (no a) d = rw (ne_eqb _ _ a)
       go (yes a) (no b) = rw (eq-eqb _ _ a, ne_eqb _ _ b)
@@ -252,7 +253,8 @@ module _ (tr : List Record) where
   written_start true out = record { count = sym (size-zero (kept tr)); out-is = refl }
   written_start false out = record { count = sym (size-zero (kept tr)); out-is = refl }
 
-  pub written-dropped : {writing : Bool} {i k : ℕ} {out out' : List ℕ} → Written writing tr i k out out' → (T (kept tr i) → ⊥) → Written writing tr (i + 1) k out out'
+  pub written-dropped : {writing : Bool} {i k : ℕ} {out out' : List ℕ} → Written writing tr i k out out' → (T (kept tr i) → ⊥)
+      → Written writing tr (i + 1) k out out'
   written-dropped {writing} {i} {k} {out} w h = rw (add-one i) (record {
     count = w.count ∙ sym (size-no (kept tr) i h);
     out-is = w.out-is ∙ ap (λ (l : List ℕ). cond writing (encode (map (at tr) l) ++ drop (5 * k) out) out) (sym (upto-no i (kept tr) h));
@@ -267,7 +269,8 @@ module _ (tr : List Record) where
       rw (take_at e (drop n out) n h, d)
 
   pub written-kept : (writing : Bool) {i k : ℕ} {out out' out'' : List ℕ} → Written writing tr i k out out' → T (kept tr i)
-      → (T writing → 5 * k + 5 ≤ length out') → out'' ≡ cond writing (stored_within out' (5 * k) (encode (at tr i ∷ []))) out' → Written writing tr (i + 1) (k + 1) out out''
+      → (T writing → 5 * k + 5 ≤ length out') → out'' ≡ cond writing (stored_within out' (5 * k) (encode (at tr i ∷ []))) out'
+      → Written writing tr (i + 1) (k + 1) out out''
   unfolding encode stored_within
   written-kept true {i} {k} {out} {out'} {out''} w h room e = rw (add-one i) (record {
     count = ap (λ (n : ℕ). n + 1) w.count ∙ sym (size-yes (kept tr) i h);
@@ -305,7 +308,8 @@ module _ (tr : List Record) where
       omega (arith, w.count, length-drop (5 * k) out)
   written-long false w m l room = ap length w.out-is
 
-  pub written-end : Acceptable tr → {writing : Bool} {i k : ℕ} {out out' : List ℕ} → Written writing tr i k out out' → i ≡ length tr → Passes writing tr out out' k
+  pub written-end : Acceptable tr → {writing : Bool} {i k : ℕ} {out out' : List ℕ} → Written writing tr i k out out' → i ≡ length tr
+      → Passes writing tr out out' k
   unfolding slim_of
   written-end acc {writing} {i} {k} {out} w e =
       let n : k ≡ length (slim_of tr) = w.count ∙ ap (size (kept tr)) e ∙ sym (slim-length acc) in

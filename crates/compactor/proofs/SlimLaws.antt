@@ -65,7 +65,8 @@ module _ (tr : List Record) where
   of-repeat i j r =
       and (is_access (at tr i)) (some i (repeats tr i)) r.access (find i (repeats tr i) j r.earlier
       (and (eqb (at tr j).kind (at tr i).kind) (eqb (event_of (at tr j)) (event_of (at tr i)) && eqb (at tr j).second (at tr i).second)
-      (eq→eqb _ _ r.same_kind) (and (eqb (event_of (at tr j)) (event_of (at tr i))) (eqb (at tr j).second (at tr i).second) (eq→eqb _ _ r.same_event) (eq→eqb _ _ r.same_cell))))
+      (eq→eqb _ _ r.same_kind)
+      (and (eqb (event_of (at tr j)) (event_of (at tr i))) (eqb (at tr j).second (at tr i).second) (eq→eqb _ _ r.same_event) (eq→eqb _ _ r.same_cell))))
 
   pub drops : (i : ℕ) → i < length tr → (T (kept tr i) → ⊥) → T (is_access (at tr i))
   drops i l h = let (j, r) = repeat-of i (not-kept i h) in r.access

@@ -88,7 +88,8 @@ list-small : (b : List ℕ) → Small (program_reply b)
 unfolding list_reply list_ready list_filled on_clocks spaced spaces enough_chains
 list-small b =
     small-then (list_ready b 32 32768 1024) _
-    (small-then (read_reply b) _ (read_small b) (λ t e. small-demand _ 21 0 _ (omega arith) (omega arith) (small-demand _ 22 0 _ (omega arith) (omega arith) (small-gives t))))
+    (small-then (read_reply b) _ (read_small b) (λ t e. small-demand _ 21 0 _ (omega arith) (omega arith)
+    (small-demand _ 22 0 _ (omega arith) (omega arith) (small-gives t))))
     (λ t e.
     let r = (fits (read_reply b) 32 32768 (work_for 1024) t e).found-is in
     let place = position-bound (accepts b t r).acceptable (row_past_width (records_in b t) 32) in
@@ -107,7 +108,8 @@ pub text-bound : (b : List ℕ) → length (text (lines_of b)) ≤ 262144
 unfolding lines_of reply_lines list_reply list_ready Small
 text-bound b = go (ltb 32768 (length b)) (program_reply b) refl (list-small b)
   where
-    go : (q : Bool) (x : Reply Summary) → x ≡ program_reply b → Small x → length (text (cond q (refused_line 13 0 ∷ []) (reply_lines (records_read b) x))) ≤ 262144
+    go : (q : Bool) (x : Reply Summary) → x ≡ program_reply b → Small x
+        → length (text (cond q (refused_line 13 0 ∷ []) (reply_lines (records_read b) x))) ≤ 262144
     go true x e s = omega (arith, refused-bound 13 0 (omega arith) (omega arith))
     go false (refused n p) e s = omega (arith, refused-bound n p s.0 s.1)
     go false (gives x) e s =

@@ -71,4 +71,5 @@ frame_small b =
 
 pub read_small : (b : List ℕ) → Small (read_reply b)
 unfolding read_reply
-read_small b = small-then (frame_reply b) _ (frame_small b) (λ t e. let f = framed b t e in walk-small t.start t.events (records_in b t) [] (omega (arith, f.few, records-length f)))
+read_small b = small-then (frame_reply b) _ (frame_small b) (λ t e. let f = framed b t e in
+    walk-small t.start t.events (records_in b t) [] (omega (arith, f.few, records-length f)))

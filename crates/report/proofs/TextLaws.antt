@@ -23,7 +23,8 @@ use Rattle.races.specs.declared.Listing.{Listing}
 use Rattle.races.specs.Paper.{list_paper, Lists}
 use Rattle.races.specs.declared.Summary.{Summary}
 use Rattle.races.specs.Lists.{numbers, entry, pairs_of, shape_of, mark_of, list_filled, list_ready, list_reply, list_after}
-use Rattle.report.specs.Text.{pair_lines, reply_lines, program_reply, lines_of, put_lines, after_lines, Prints, entry_line, entry_lines, no_clocks, no_work, no_list}
+use Rattle.report.specs.Text.{pair_lines, reply_lines, program_reply, lines_of, put_lines, after_lines, Prints}
+use Rattle.report.specs.Text.{entry_line, entry_lines, no_clocks, no_work, no_list}
 
 -- one line, then the rest
 pub prints-none : (s : List ℕ) (at : ℕ) → Prints s at [] s at

@@ -41,8 +41,11 @@ write_slim-kept-requires c =
     let t = at-reading.in-Accepted.t in
     let e = sym (ap paper at-reading.in-Accepted.is) ∙ at-reading.read-reading.ensures in
     let q = at_records.records-recs.ensures in
-    let f = at-fits.fits in
-    (read-acceptable b t e _ q, read-events b t e _ q, rw (records-are b t e _ q) (has_room b t e f.result (rw (records-are b t e _ q) at f.ensures) c.if-not-fits.false))
+    let f = at-fits.fits in (
+      read-acceptable b t e _ q,
+      read-events b t e _ q,
+      rw (records-are b t e _ q) (has_room b t e f.result (rw (records-are b t e _ q) at f.ensures) c.if-not-fits.false),
+    )
 
 pub overflow_mul-result : goal.overflow_mul-result
 overflow_mul-result c =

@@ -3,7 +3,8 @@ use mathlib.Core.Path.{sym}
 use native.Mathlib.Omega.{arith}
 use lib.ListN.{length}
 use Rattle.records.specs.Bytes.{decode}
-use Rattle.compactor.proofs.KeepLaws.{stamps-start, not-kept, is_kept, few-kept, written_start, written-dropped, written-kept, written-room, written-long, written-end}
+use Rattle.compactor.proofs.KeepLaws.{stamps-start, not-kept, is_kept, few-kept, written_start, written-dropped, written-kept, written-room}
+use Rattle.compactor.proofs.KeepLaws.{written-long, written-end}
 use Rattle.compactor.proofs.keeping.pass.Goals as goal
 
 pub loop-i-init : goal.loop-i-init
