@@ -1,10 +1,6 @@
 use native.Mathlib.Omega.{arith}
 use lib.ListN.{length-take}
-use borrow.Author.Rules.{rules}
 use Rattle.call_cases.proofs.fill_in.Goals as goal
 
 pub slice_bounds-fill-end-then-space-clocks : goal.slice_bounds-fill-end-then-space-clocks
 slice_bounds-fill-end-then-space-clocks c = simp length-take (omega arith)
-
--- GONE slice-aggregate-word
--- slice-aggregate-word c = search rules

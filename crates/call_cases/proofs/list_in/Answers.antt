@@ -1,6 +1,5 @@
 use native.Mathlib.Omega.{arith}
 use lib.ListN.{length-take}
-use borrow.Author.Rules.{rules}
 use Rattle.call_cases.proofs.list_in.Goals as goal
 
 pub slice_bounds-made-end-2 : goal.slice_bounds-made-end-2
@@ -11,6 +10,3 @@ slice_bounds-made-end-4 c = simp length-take (omega arith)
 
 pub slice_bounds-made-end-6 : goal.slice_bounds-made-end-6
 slice_bounds-made-end-6 c = simp length-take (omega arith)
-
--- GONE slice-aggregate-word
--- slice-aggregate-word c = search rules
