@@ -9,7 +9,7 @@ use lib.ListN.{length}
 use Rattle.coverage.specs.Below.{some, pairs}
 use Rattle.coverage.specs.Setting.{Setting}
 use Rattle.coverage.specs.Race.{raceb}
-use Rattle.coverage.specs.Neighbours.{Cells, writes, reads, neighbour, NoWrite, Neighbours, write_write, write_read, read-write}
+use Rattle.coverage.specs.Neighbours.{Cells, writes, reads, neighbour, NoWrite, Neighbours, write_write, write_read, read_write}
 use Rattle.coverage.specs.Lists.{cell_writes, cell_reads, cell_entries}
 use Rattle.slices.proofs.Tests.{both, and, either, or_left, or_right, decide, decide_eq, eq→eqb}
 use Rattle.coverage.proofs.Below.{found, find}
@@ -128,7 +128,7 @@ module _ (t : Setting) (s : Cells) (c : ℕ) where
       go : Neighbours s a b → Free writes_of reads_of b a × (T (writes_of b) ⊎ (T (reads_of b) × T (writes_of a)))
       go (write_write l f x y n) = (record { access = inl (at a (writes s a) (f ∙ e) x); none = none n }, inl (at b (writes s b) e y))
       go (write_read l f x y n) = (record { access = inl (at a (writes s a) (f ∙ e) x); none = none n }, inr (at b (reads s b) e y, at a (writes s a) (f ∙ e) x))
-      go (read-write l f x y n) = (record { access = inr (at a (reads s a) (f ∙ e) x); none = none n }, inl (at b (writes s b) e y))
+      go (read_write l f x y n) = (record { access = inr (at a (reads s a) (f ∙ e) x); none = none n }, inl (at b (writes s b) e y))
 
   -- "With p writes (at least 1) and q reads there are at most p − 1 + 2q entries."
   pub short-bound : 0 < length (cell_writes t s c) → length (cell_entries t s c) ≤ length (cell_writes t s c) - 1 + 2 * length (cell_reads t s c)

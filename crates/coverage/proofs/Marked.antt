@@ -10,7 +10,7 @@ use Rattle.coverage.specs.Setting.{Setting, Laws}
 use Rattle.coverage.specs.Race.{Race}
 use Rattle.coverage.specs.Cover.{CoversFrom, Open}
 use Rattle.coverage.specs.Lists.{short_list}
-use Rattle.coverage.specs.Neighbours.{Cells, writes, reads, NoWrite, Neighbours, write_write, write_read, read-write}
+use Rattle.coverage.specs.Neighbours.{Cells, writes, reads, NoWrite, Neighbours, write_write, write_read, read_write}
 use Rattle.coverage.specs.Embedding.{Twin, Thinning}
 use Rattle.coverage.specs.Marks.{OpenPair, HasOpen, Same, Local, Narrowing, SameMarks, KeepsFirst, KeepsLast}
 use Rattle.slices.proofs.Tests.{decide, decide_eq, passed}
@@ -54,18 +54,18 @@ writes-twin q x = subst T (writes-like (twin-like q)) x
 no_write : {s : Cells} {a b : ℕ} → Neighbours s a b → NoWrite s a b
 no_write (write_write l e x y n) = n
 no_write (write_read l e x y n) = n
-no_write (read-write l e x y n) = n
+no_write (read_write l e x y n) = n
 
 on_one : {s : Cells} {a b : ℕ} → Neighbours s a b → s.cell a ≡ s.cell b
 on_one (write_write l e x y n) = e
 on_one (write_read l e x y n) = e
-on_one (read-write l e x y n) = e
+on_one (read_write l e x y n) = e
 
 -- neighbours, as like accesses with no write between
 neighbours-like : {s s' : Cells} {a b a' b' : ℕ} → Like s s' a a' → Like s s' b b' → a' < b' → NoWrite s' a' b' → Neighbours s a b → Neighbours s' a' b'
 neighbours-like p q l n (write_write _ e x y _) = write_write l (p.at ∙ (e ∙ sym q.at)) (subst T (sym (writes-like p)) x) (subst T (sym (writes-like q)) y) n
 neighbours-like p q l n (write_read _ e x y _) = write_read l (p.at ∙ (e ∙ sym q.at)) (subst T (sym (writes-like p)) x) (subst T (sym (reads-like q)) y) n
-neighbours-like p q l n (read-write _ e x y _) = read-write l (p.at ∙ (e ∙ sym q.at)) (subst T (sym (reads-like p)) x) (subst T (sym (writes-like q)) y) n
+neighbours-like p q l n (read_write _ e x y _) = read_write l (p.at ∙ (e ∙ sym q.at)) (subst T (sym (reads-like p)) x) (subst T (sym (writes-like q)) y) n
 
 module _ {t : Setting} {s : Cells} {t' : Setting} {s' : Cells} {keep : ℕ → Bool} {old : ℕ → ℕ} (w : Laws t) (h : Thinning t s t' s' keep old) where
   own_like : (i : ℕ) → i < t'.size → Like s s' (old i) i
@@ -229,7 +229,7 @@ module _ {t : Setting} {s : Cells} {tag : ℕ → ℕ} {t' : Setting} {s' : Cell
   pub same-open : (c : ℕ) → HasOpen t s c ↔ HasOpen t' s' c
   same-open c = (λ (a, b, p). let z = slim c a b p in (z.first, z.second, z.pair), λ (a, b, p). (old a, old b, fat p))
 
-  -- The slim trace has the same cells with open short-list pairs that are all write_write with tags so related.
+  -- The slim trace has the same cells with open short-list pairs that are all write-write with tags so related.
   pub same-related : (P : ℕ → ℕ → Type 0) (c : ℕ) → ((a b : ℕ) → OpenPair t s c a b → T (writes s a) × T (writes s b) × P (tag a) (tag b)) ↔ ((a b : ℕ) → OpenPair t' s' c a b → T (writes s' a) × T (writes s' b) × P (tag' a) (tag' b))
   same-related P c = (to, from)
     where
@@ -250,7 +250,7 @@ module _ {t : Setting} {s : Cells} {tag : ℕ → ℕ} {t' : Setting} {s' : Cell
           let v = subst T z.kind x in
           (v, subst T (writes-like (like z.second m) ∙ ap (writes s) z.same) y, rw (g.same_tag z.first l, z.itself v, g.same_tag z.second m, z.same) at e)
 
-  -- The slim trace has the same cells with open short-list pairs that are all write_write with equal tags.
+  -- The slim trace has the same cells with open short-list pairs that are all write-write with equal tags.
   pub same-same : (c : ℕ) → Same t s tag c ↔ Same t' s' tag' c
   same-same = same-related (λ x y. x ≡ y)
 

@@ -9,7 +9,7 @@ use lib.Dec.{T, ltb, eqb, eqb→eq, ltb→lt, lt→ltb, T_not, not_T}
 use Rattle.coverage.specs.Setting.{Setting, Laws}
 use Rattle.coverage.specs.Race.{before, Race}
 use Rattle.coverage.specs.Cover.{CoversFrom, one, more, Open}
-use Rattle.coverage.specs.Neighbours.{Cells, writes, conflicts, NoWrite, Neighbours, write_write, write_read, read-write, write_between, neighbour}
+use Rattle.coverage.specs.Neighbours.{Cells, writes, conflicts, NoWrite, Neighbours, write_write, write_read, read_write, write_between, neighbour}
 use Rattle.slices.proofs.Tests.{both, and, either, or_left, or_right, decide, eq→eqb}
 use Rattle.coverage.proofs.Below.{found, find}
 use Rattle.coverage.proofs.Order.{before-le, race-not-le}
@@ -93,7 +93,7 @@ module _ (s : Cells) where
       to : a < b → Conflict a b → NoWrite s a b → T (s.is_write a) ⊎ (T (s.is_write a) → ⊥) → T (s.is_write b) ⊎ (T (s.is_write b) → ⊥) → Neighbours s a b
       to l c n (inl h) (inl k) = write_write l c.same (and (s.is_access a) (s.is_write a) c.access_a h) (and (s.is_access b) (s.is_write b) c.access_b k) n
       to l c n (inl h) (inr k) = write_read l c.same (and (s.is_access a) (s.is_write a) c.access_a h) (and (s.is_access b) (not (s.is_write b)) c.access_b (not_T (s.is_write b) k)) n
-      to l c n (inr h) (inl k) = read-write l c.same (and (s.is_access a) (not (s.is_write a)) c.access_a (not_T (s.is_write a) h)) (and (s.is_access b) (s.is_write b) c.access_b k) n
+      to l c n (inr h) (inl k) = read_write l c.same (and (s.is_access a) (not (s.is_write a)) c.access_a (not_T (s.is_write a) h)) (and (s.is_access b) (s.is_write b) c.access_b k) n
       to l c n (inr h) (inr k) = absurd (neither (either (s.is_write a) (s.is_write b) c.written))
         where
           neither : T (s.is_write a) ⊎ T (s.is_write b) → ⊥
@@ -106,7 +106,7 @@ module _ (s : Cells) where
       from : Neighbours s a b → T (neighbour s a b)
       from (write_write l e x y n) = let (p, q) = both (s.is_access a) (s.is_write a) x in back l e p (both (s.is_access b) (s.is_write b) y).0 (or_left (s.is_write a) (s.is_write b) q) n
       from (write_read l e x y n) = let (p, q) = both (s.is_access a) (s.is_write a) x in back l e p (both (s.is_access b) (not (s.is_write b)) y).0 (or_left (s.is_write a) (s.is_write b) q) n
-      from (read-write l e x y n) = let (p, q) = both (s.is_access b) (s.is_write b) y in back l e (both (s.is_access a) (not (s.is_write a)) x).0 p (or_right (s.is_write a) (s.is_write b) q) n
+      from (read_write l e x y n) = let (p, q) = both (s.is_access b) (s.is_write b) y in back l e (both (s.is_access a) (not (s.is_write a)) x).0 p (or_right (s.is_write a) (s.is_write b) q) n
 
 module _ (t : Setting) (l : Laws t) (s : Cells) (means : (a b : ℕ) → t.conf a b ≡ conflicts s a b) where
   of : (a b : ℕ) → Conflict s a b → T (t.conf a b)

@@ -9,7 +9,7 @@ use lib.ListN.{length}
 use Rattle.coverage.specs.Below.{some, pairs}
 use Rattle.coverage.specs.Setting.{Setting}
 use Rattle.coverage.specs.Race.{raceb}
-use Rattle.coverage.specs.Neighbours.{Cells, writes, neighbour, Neighbours, write_write, write_read, read-write}
+use Rattle.coverage.specs.Neighbours.{Cells, writes, neighbour, Neighbours, write_write, write_read, read_write}
 use Rattle.coverage.specs.Lists.{short_list}
 use Rattle.slices.proofs.Tests.{both, and, decide, eq→eqb}
 use Rattle.coverage.proofs.Below.{found, find}
@@ -66,7 +66,7 @@ module _ (s : Cells) (f : ℕ → ℕ → Bool) (pair : (a b : ℕ) → T (f a b
       go : Neighbours s a b → First a b
       go (write_write l e x y n) = record { earlier = l; same = e; none = n; one = inl y }
       go (write_read l e x y n) = record { earlier = l; same = e; none = n; one = inr x }
-      go (read-write l e x y n) = record { earlier = l; same = e; none = n; one = inl y }
+      go (read_write l e x y n) = record { earlier = l; same = e; none = n; one = inl y }
 
   first-loose : (a b : ℕ) → T (f a b) → T (loose b a)
   unfolding Loose

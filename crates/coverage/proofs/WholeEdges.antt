@@ -9,7 +9,7 @@ use Rattle.coverage.specs.Below.{some, Listed}
 use Rattle.coverage.specs.Setting.{Setting, Laws}
 use Rattle.coverage.specs.Race.{before, Race}
 use Rattle.coverage.specs.Leading.{coveredb}
-use Rattle.coverage.specs.Neighbours.{Cells, conflicts, NoWrite, Neighbours, write_write, write_read, read-write, write_between}
+use Rattle.coverage.specs.Neighbours.{Cells, conflicts, NoWrite, Neighbours, write_write, write_read, read_write, write_between}
 use Rattle.coverage.specs.Lists.{all_races, short_list}
 use Rattle.coverage.specs.loops.Whole.{Whole, below, Edges, taken}
 use Rattle.slices.proofs.Tests.{both, and, decide}
@@ -93,7 +93,7 @@ module _ (t : Setting) (l : Laws t) where
     no_write : {c d : ℕ} → Neighbours s c d → NoWrite s c d
     no_write (write_write l e x y n) = n
     no_write (write_read l e x y n) = n
-    no_write (read-write l e x y n) = n
+    no_write (read_write l e x y n) = n
 
     conflict-parts : (x d : ℕ) → T (conflicts s x d) → T (s.is_access x) × (s.cell x ≡ s.cell d)
     unfolding conflicts

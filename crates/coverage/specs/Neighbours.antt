@@ -27,7 +27,7 @@ module _ (s : Cells) where
   pub data Neighbours (a b : ℕ) : Type 0 where
     write_write : a < b → s.cell a ≡ s.cell b → T (writes a) → T (writes b) → NoWrite a b → Neighbours a b
     write_read : a < b → s.cell a ≡ s.cell b → T (writes a) → T (reads b) → NoWrite a b → Neighbours a b
-    read-write : a < b → s.cell a ≡ s.cell b → T (reads a) → T (writes b) → NoWrite a b → Neighbours a b
+    read_write : a < b → s.cell a ≡ s.cell b → T (reads a) → T (writes b) → NoWrite a b → Neighbours a b
 
   -- the same, computed
   unfoldable pub write_between : ℕ → ℕ → Bool

@@ -25,7 +25,7 @@ fn no_pairs() -> [Pair; 4]
     }; 4]
 }
 
-// The list of all races where it has at most four entries, by value: a caller lends no structs, and needs no proof by hand.
+// The list of all races where it has at most four entries, by value: a caller lends no structs.
 pub(crate) fn all_races_few(
     bytes: &[u8],
     width: usize,

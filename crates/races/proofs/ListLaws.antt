@@ -166,8 +166,8 @@ module _ (tr : List Record) where
   -- The way to b by the last write of its cell.
   module _ (b kind : ℕ) (e : kind ≡ (at tr b).kind) where
     -- a read races with writes alone
-    read-write : eqb kind 5 ≡ true → (x : ℕ) → T (race x b) → T (writes tr (cell tr b) x)
-    read-write f x h = let r = racing tr x b h in and (eqb (cell tr x) (cell tr b)) (is_write (at tr x)) (eq→eqb (cell tr x) (cell tr b) r.same) (go r.one)
+    read_write : eqb kind 5 ≡ true → (x : ℕ) → T (race x b) → T (writes tr (cell tr b) x)
+    read_write f x h = let r = racing tr x b h in and (eqb (cell tr x) (cell tr b)) (is_write (at tr x)) (eq→eqb (cell tr x) (cell tr b) r.same) (go r.one)
       where
         go : T (is_write (at tr x)) ⊎ T (is_write (at tr b)) → T (is_write (at tr x))
         go (inl t) = t
@@ -186,7 +186,7 @@ module _ (tr : List Record) where
 
     way-ends : (r : Bool) → eqb kind 5 ≡ r → (short : Bool) → (firsts_from short last ≤ firsts_to kind last b) × (firsts_to kind last b ≤ b) × ((x : ℕ) → firsts_to kind last b ≤ x → x < b → T (race x b) → ⊥)
     unfolding firsts_to
-    way-ends true f s = rw f (from-before s last, last-high tr (cell tr b) b, λ x l k t. last-after tr (cell tr b) b x l k (read-write f x t))
+    way-ends true f s = rw f (from-before s last, last-high tr (cell tr b) b, λ x l k t. last-after tr (cell tr b) b x l k (read_write f x t))
     way-ends false f s = rw f (omega (arith, from-before s last, last-high tr (cell tr b) b), omega arith, λ x l k t. omega arith)
 
     pub way-found : (short : Bool) (from to : ℕ) → from ≡ firsts_from short (last_write tr (cell tr b) b) → to ≡ firsts_to kind (last_write tr (cell tr b) b) b → Ranges tr short b from to
