@@ -239,12 +239,12 @@ module _ (before : ℕ → ℕ → Bool) (m w : ℕ) (clocks₀ : List ℕ) wher
             rest = ap (drop (m * w)) e.clocks_are ∙ same_rest j;
           }
 
-    pub going_end : m ≤ u → MakesRows l m w clocks₀ clocks chosen u chains
+    pub going_end : m ≤ u → MakesRows l m w clocks₀ clocks chosen m chains
     going_end k =
         let n : u ≡ m = omega (arith, g.within) in
         let x = made-end l g.tells.forward m before g.tells.tests w g.narrow g.few (drop (m * w) clocks₀) state (rw n at g.made) in
         record {
-          rows_are = n ∙ sym ((needs-none (leq l) w m).1 (omega (arith, x.2, g.made.taken.chains_fit)));
+          rows_are = sym ((needs-none (leq l) w m).1 (omega (arith, x.2, g.made.taken.chains_fit)));
           clocks_are = λ z. x.0;
           chosen_are = λ z. x.1;
           chains_are = λ z. x.2;

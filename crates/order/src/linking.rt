@@ -85,12 +85,11 @@ pub(crate) fn pass_links(
         clocks.old hints.old clocks.new hints.new result }
 {
     let n = access::count(recs);
-    let mut i = access::skip_accesses(recs, from);
-    while i < n {
+    let first = access::skip_accesses(recs, from);
+    for i in first..n {
         if pass_record(recs, ranks, i, width, chains, clocks, hints) {
             return i;
         }
-        i += 1;
     }
-    i
+    first.max(n)
 }
