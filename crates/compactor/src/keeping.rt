@@ -62,15 +62,11 @@ pub(crate) fn pass(recs: &[u8], out: &mut [u8], writing: bool) -> usize
     let mut read = zeros::numbers_1025();
     let mut written = zeros::numbers_1025();
     let mut k = 0;
-    let mut i = 0;
-    while i < n {
-        if !keeps(recs, i, &mut read, &mut written) {
-            i += 1;
-            continue;
+    for i in 0..n {
+        if keeps(recs, i, &mut read, &mut written) {
+            put(recs, i, out, k, writing);
+            k += 1;
         }
-        put(recs, i, out, k, writing);
-        k += 1;
-        i += 1;
     }
     k
 }

@@ -104,10 +104,8 @@ fn copy_out(pairs: &mut [Pair], numbers: &[u16], n: usize)
     requires { (n ≤ length pairs.old) × (entry_numbers * n ≤ length numbers.now) }
     ensures { pairs.new ≡ puts pairs.old numbers.now n }
 {
-    let mut i = 0;
-    while i < n {
+    for i in 0..n {
         pairs[i] = pair_at(numbers, i);
-        i += 1;
     }
 }
 

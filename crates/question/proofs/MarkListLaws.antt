@@ -26,6 +26,13 @@ unfolding marks_down_in
 marks-down op zero ms h = absurd (omega arith)
 marks-down op (suc i) ms h = let e : suc i - 1 ≡ i = omega arith in rw e
 
+-- a record that says no link marks nothing
+pub unlinked : (o : Ordering) → ((p u : ℕ) → o ≡ Link p u → ⊥) → (ms : List ℕ) → mark_in o ms ≡ ms
+unfolding mark_in
+unlinked (Link p u) n ms = absurd (n p u refl)
+unlinked (Begin u) n ms = refl
+unlinked Nothing n ms = refl
+
 pub mark-in-length : (o : Ordering) (ms : List ℕ) → length (mark_in o ms) ≡ length ms
 unfolding mark_in
 mark-in-length (Link p v) ms = go (marked ms v)

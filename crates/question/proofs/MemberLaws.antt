@@ -35,6 +35,15 @@ use Rattle.order.proofs.RecordOrder.{records-make, ops-ordered}
 use Rattle.order.proofs.TraceOrder.{forward-links}
 use Rattle.order.proofs.PassLaws.{events_are, few, begun-below, begin-position}
 
+-- a record that says no begin leaves the members
+pub unbegun :
+    (ranks : List ℕ) (tr : List Record) (x y w i : ℕ) (o : Ordering) → ((u : ℕ) → o ≡ Begin u → ⊥) → (m : Members) →
+    turn_members ranks tr x y w i o m ≡ m
+unfolding turn_members
+unbegun ranks tr x y w i (Link p u) n m = refl
+unbegun ranks tr x y w i (Begin u) n m = absurd (n u refl)
+unbegun ranks tr x y w i Nothing n m = refl
+
 -- the marks go by what the records say, and so by whatever says the same
 down-same : (f g : ℕ → Ordering) → ((i : ℕ) → f i ≡ g i) → (i : ℕ) (ms : List ℕ) → marks_down_in f i ms ≡ marks_down_in g i ms
 unfolding marks_down_in
@@ -189,9 +198,9 @@ module _ (tr : List Record) (x y w : ℕ) (ranks : List ℕ) where
           let s = keeping-stop g.acceptable x y w g.narrow i _ h g.keeping ranks g.ranks_are g.no_sends (rw t.chains_are at l) in
           record { whole = λ e. absurd (s.0 e); short = λ n. s.1 }
 
-    pub going_end : length tr ≤ i → PassesChains tr x y w i first second
+    pub going_end : length tr ≤ i → PassesChains tr x y w (length tr) first second
     going_end h =
         let l = g.within in
         let e : i ≡ length tr = omega arith in
         let k = keeping-end g.acceptable x y w g.narrow _ (rw e at g.keeping) in
-        record { whole = λ z. (k.1, k.2, e); short = λ n. absurd (n k.0) }
+        record { whole = λ z. (k.1, k.2, refl); short = λ n. absurd (n k.0) }

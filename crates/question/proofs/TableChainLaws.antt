@@ -83,12 +83,12 @@ module _ (before : ℕ → ℕ → Bool) (m x y w : ℕ) where
             second_is = λ z. absurd (omega arith);
           }
 
-    pub going_end : m ≤ u → EntersRows l m x y w u fst snd
+    pub going_end : m ≤ u → EntersRows l m x y w m fst snd
     going_end k =
         let z : u ≡ m = omega (arith, g.within) in
         let o = rw z at g.holding in
         record {
-          rows_are = z ∙ sym ((needs-none (leq l) w m).1 (omega (arith, o.chains_are, o.chains_fit)));
+          rows_are = sym ((needs-none (leq l) w m).1 (omega (arith, o.chains_are, o.chains_fit)));
           first-is = λ q. o.first-is;
           second_is = λ q. o.second_is;
         }

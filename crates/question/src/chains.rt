@@ -20,15 +20,10 @@ fn is_marked(marks: &[u8], row: usize) -> bool
 fn mark_link(recs: &[u8], ranks: &[u16], i: usize, marks: &mut [u8])
     ensures { marks.new ≡ mark_in (said_by ranks.now (decode recs.now) i) marks.old }
 {
-    let said = ordering_at(recs, ranks, i);
-    match said {
-        Ordering::Link(from, to) => {
-            if is_marked(marks, to as usize) {
-                put(marks, from as usize, 1);
-            }
+    if let Ordering::Link(from, to) = ordering_at(recs, ranks, i) {
+        if is_marked(marks, to as usize) {
+            put(marks, from as usize, 1);
         }
-        Ordering::Begin(_) => {}
-        Ordering::Nothing => {}
     }
 }
 
@@ -38,9 +33,7 @@ fn mark_before(recs: &[u8], ranks: &[u16], i: usize, u: usize, marks: &mut [u8])
 {
     clear(marks, marks.len());
     put(marks, u, 1);
-    let mut j = i;
-    while 0 < j {
-        j -= 1;
+    for j in (0..i).rev() {
         mark_link(recs, ranks, j, marks);
     }
 }
@@ -50,14 +43,12 @@ fn marked_chain(marks: &[u8], lasts: &[u16], chains: usize) -> usize
     requires { chains ≤ length lasts.now }
     ensures { result ≡ marked_chain marks.now lasts.now chains }
 {
-    let mut c = 0;
-    while c < chains {
+    for c in 0..chains {
         if is_marked(marks, lasts[c] as usize) {
             return c;
         }
-        c += 1;
     }
-    c
+    chains
 }
 
 // The chains taken, more than the width where it has none left, and the chains of the two rows asked for: 0 before a row enters one.
@@ -137,17 +128,13 @@ fn turn(
         (record { lasts = lasts.old; chains = taken.chains; first = taken.first; second = taken.second }))
         lasts.new result.chains result.first result.second }
 {
-    let said = ordering_at(recs, ranks, i);
-    match said {
-        Ordering::Begin(row) => {
-            let u = row as usize;
-            mark_before(recs, ranks, i, u, marks);
-            let c = marked_chain(marks, lasts, taken.chains);
-            enter_chain(lasts, taken, x, y, width, u, c)
-        }
-        Ordering::Link(_, _) => taken,
-        Ordering::Nothing => taken,
-    }
+    let Ordering::Begin(row) = ordering_at(recs, ranks, i) else {
+        return taken;
+    };
+    let u = row as usize;
+    mark_before(recs, ranks, i, u, marks);
+    let c = marked_chain(marks, lasts, taken.chains);
+    enter_chain(lasts, taken, x, y, width, u, c)
 }
 
 // How far the pass came, the position of the begin that needs one chain more than the width has or the number of records; and the chains of the rows asked for.
@@ -171,8 +158,7 @@ pub(crate) fn chain_pass(recs: &[u8], ranks: &[u16], x: usize, y: usize, width: 
         first: 0,
         second: 0,
     };
-    let mut i = 0;
-    while i < n {
+    for i in 0..n {
         let next = turn(recs, ranks, i, &mut marks, &mut lasts, taken, x, y, width);
         if width < next.chains {
             return Passed {
@@ -182,10 +168,9 @@ pub(crate) fn chain_pass(recs: &[u8], ranks: &[u16], x: usize, y: usize, width: 
             };
         }
         taken = next;
-        i += 1;
     }
     Passed {
-        position: i,
+        position: n,
         first: taken.first,
         second: taken.second,
     }

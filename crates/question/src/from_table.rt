@@ -19,14 +19,12 @@ fn chain_before(table: &[u64], lasts: &[u16], chains: usize, u: usize) -> usize
     requires { chains ≤ length lasts.now }
     ensures { result ≡ bit_chain (bit_of table.now) lasts.now chains u }
 {
-    let mut c = 0;
-    while c < chains {
+    for c in 0..chains {
         if get(table, lasts[c] as usize, u) {
             return c;
         }
-        c += 1;
     }
-    c
+    chains
 }
 
 // Row u enters its chain.
@@ -68,8 +66,7 @@ fn enter_rows(table: &[u64], events: usize, x: usize, y: usize, width: usize) ->
         first: 0,
         second: 0,
     };
-    let mut u = 0;
-    while u < events {
+    for u in 0..events {
         let next = enter_row(table, &mut lasts, taken, x, y, width, u);
         if width < next.chains {
             return Entered {
@@ -79,10 +76,9 @@ fn enter_rows(table: &[u64], events: usize, x: usize, y: usize, width: usize) ->
             };
         }
         taken = next;
-        u += 1;
     }
     Entered {
-        rows: u,
+        rows: events,
         first: taken.first,
         second: taken.second,
     }

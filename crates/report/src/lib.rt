@@ -48,10 +48,8 @@ fn put_entries(list: &[u16], count: usize, text: &mut [u8], at: usize) -> usize
     ensures { Prints text.old at (entry_lines list.now 0 count) text.new result }
 {
     let mut next = at;
-    let mut i = 0;
-    while i < count {
+    for i in 0..count {
         next = put_entry(list, i, text, next);
-        i += 1;
     }
     next
 }

@@ -1,4 +1,4 @@
-use Prim.Native.Nat.{◌-◌, ◌≤◌}
+use Prim.Native.Nat.{◌≤◌}
 use Rattle.records.specs.Bytes.{decode}
 use Rattle.order.proofs.BeginLaws.{Seeking}
 use Rattle.order.proofs.from_table.begin_of.Given as goal

@@ -49,4 +49,4 @@ returns c =
     let at_count = c in
     let start = at_count in
     let more : length (decode start.args.recs.now) ≤ c.loop-i.i = omega (arith, at_count.count-n.ensures) in
-    going_end _ _ _ _ _ c.loop-i.invariant.0 more
+    rw at_count.count-n.ensures (going_end _ _ _ _ _ c.loop-i.invariant.0 more)

@@ -7,6 +7,3 @@ use Rattle.question.proofs.chains.chain_pass.Given as goal
 
 abbrev pub invariant-loop-i : goal.invariant-loop-i
 invariant-loop-i l = Going (decode l.recs) l.x l.y l.width l.ranks l.lasts l.taken.chains l.taken.first l.taken.second l.i × (length l.marks ≡ 1024)
-
-abbrev pub decreases-loop-i : goal.decreases-loop-i
-decreases-loop-i l = l.n - l.i

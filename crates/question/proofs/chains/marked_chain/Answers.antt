@@ -23,4 +23,6 @@ loop-c-preserved c =
     (omega arith, sym (first-miss _ _ _ (omega arith) (sym c.is_marked.ensures ∙ c.if-is_marked.false)) ∙ at-loop.loop-c.invariant.1)
 
 pub returns : goal.returns
-returns c = sym (first-over _ _ _ (omega arith)) ∙ c.loop-c.invariant.1
+returns c =
+    let e : c.args.chains ≡ c.loop-c.c = omega arith in
+    e ∙ (sym (first-over _ _ _ (omega arith)) ∙ c.loop-c.invariant.1)

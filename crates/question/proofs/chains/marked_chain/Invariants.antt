@@ -8,6 +8,3 @@ use Rattle.question.proofs.chains.marked_chain.Given as goal
 
 abbrev pub invariant-loop-c : goal.invariant-loop-c
 invariant-loop-c l = (l.c ≤ l.chains) × (first_from (λ k. marked l.marks (get_or l.lasts k 0)) l.c (l.chains - l.c) ≡ marked_chain l.marks l.lasts l.chains)
-
-abbrev pub decreases-loop-c : goal.decreases-loop-c
-decreases-loop-c l = l.chains - l.c

@@ -11,6 +11,3 @@ abbrev pub invariant-loop-u : goal.invariant-loop-u
 invariant-loop-u l =
     ((ls : Links) → Tells (bit_of l.table) l.events ls → Going (bit_of l.table) l.events l.x l.y l.width ls l.lasts l.taken.chains l.taken.first l.taken.second l.u)
     × (length l.lasts ≡ 1024)
-
-abbrev pub decreases-loop-u : goal.decreases-loop-u
-decreases-loop-u l = l.events - l.u
