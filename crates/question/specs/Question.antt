@@ -1,7 +1,7 @@
 -- The order question. "The order question takes trace, width and clocks, and compares t's entry at t's chain in both rows. t's chain is taken from
 -- the trace. It gives that comparison for any clock contents"; "The order question is to say one of four: same event action, first happens before
 -- second, second before first, unordered." Assumes nothing.
-use Rattle.std.specs.Prelude.{ℕ, ◌≡◌, Bool, not, ◌&&◌, List, ◌≢◌, ◌⊎◌, ◌↔◌, eqb, length}
+use Rattle.std.specs.Prelude.{ℕ, ◌≡◌, Bool, not, ◌&&◌, List, ◌≢◌, ◌↔◌, eqb, length}
 use Rattle.records.specs.declared.Record.{Record}
 use Rattle.trace.specs.Reply.{Reply, refused, gives, demand, then}
 use Rattle.trace.specs.Reading.{records_in, read_reply}

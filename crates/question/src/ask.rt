@@ -10,7 +10,7 @@ ghost use Rattle.question.specs.loops.ChainPass.{ReadyChains, PassesChains};
 ghost use Rattle.question.specs.Question.{order_paper, order_trace};
 
 use crate::Answer;
-use crate::chains::{Passed, chain_pass};
+use crate::chains::{Asked, Passed, chain_pass};
 use crate::from_table::table_pass;
 use clocks::{has_space, relate};
 use records::{EventId, Operation, access};
@@ -25,25 +25,23 @@ fn refused(number: u16, place: Operation) -> Answer
     })
 }
 
-// The chains of rows x and y: by links that deliver in order from the table, where a record is a send; else over the records.
+// The chains of the rows asked for: by links that deliver in order from the table, where a record is a send; else over the records.
 fn pass_chains(
     recs: &[u8],
     events: usize,
     sends: bool,
     ranks: &[u16],
-    x: u16,
-    y: u16,
-    width: usize,
+    asked: Asked,
     table: &[u64],
 ) -> Passed
-    requires { ReadyChains (decode recs.now) width ranks.now × (events ≡ events_in (decode recs.now)) × (sends ≡ has_send (decode recs.now)) ×
+    requires { ReadyChains (decode recs.now) asked.width ranks.now × (events ≡ events_in (decode recs.now)) × (sends ≡ has_send (decode recs.now)) ×
         (T sends → table.now ≡ (fill_all (decode recs.now)).words) }
-    ensures { PassesChains (decode recs.now) x y width result.position result.first result.second }
+    ensures { PassesChains (decode recs.now) asked.first asked.second asked.width result.position result.first result.second }
 {
     if sends {
-        return table_pass(recs, events, ranks, x as usize, y as usize, width, table);
+        return table_pass(recs, events, ranks, asked, table);
     }
-    chain_pass(recs, ranks, x as usize, y as usize, width)
+    chain_pass(recs, ranks, asked)
 }
 
 // Events t and u of an accepted trace, where a record is a send, as the table tells its order, or none is.
@@ -75,7 +73,12 @@ pub(crate) fn ask(
     }
     let x = first - 1;
     let y = second - 1;
-    let passed = pass_chains(recs, events, sends, &all, x, y, width, table);
+    let asked = Asked {
+        first: x as usize,
+        second: y as usize,
+        width: width,
+    };
+    let passed = pass_chains(recs, events, sends, &all, asked, table);
     if passed.position < access::count(recs) {
         return refused(trace::CHAINS, Operation((passed.position + 1) as u16));
     }

@@ -7,10 +7,7 @@ use Rattle.question.proofs.chains.marked_chain.Goals as goal
 
 pub loop-c-init : goal.loop-c-init
 unfolding marked_chain
-loop-c-init c = (omega arith, let e : c.args.chains - 0 ≡ c.args.chains = omega arith in rw e)
-
-pub overflow_cast-lasts : goal.overflow_cast-lasts
-overflow_cast-lasts c = omega (arith, c.type_inv.lasts c.loop-c.c)
+loop-c-init c = (omega arith, let e : c.args.members.now.chains - 0 ≡ c.args.members.now.chains = omega arith in rw e)
 
 pub returns-then-is_marked : goal.returns-then-is_marked
 returns-then-is_marked c =
@@ -24,5 +21,5 @@ loop-c-preserved c =
 
 pub returns : goal.returns
 returns c =
-    let e : c.args.chains ≡ c.loop-c.c = omega arith in
+    let e : c.args.members.now.chains ≡ c.loop-c.c = omega arith in
     e ∙ (sym (first-over _ _ _ (omega arith)) ∙ c.loop-c.invariant.1)
