@@ -9,7 +9,7 @@ use borrow.Author.Tests.{le-leb, lt-leb, eq-eqb, ne_eqb}
 use lib.Dec.{eqb}
 use lib.ListN.{length, get_or, set, replicate, length-set, length-append, length-replicate}
 use lib.Seq.{get_or-set_same, get_or-set_other}
-use Rattle.slices.specs.Slices.{zeros}
+use Rattle.slices.specs.Slices.{filled, zeros}
 use Rattle.slices.proofs.Cleared.{zeros-at, zeros-length}
 use Rattle.order.specs.Links.{Links, leq}
 use Rattle.order.specs.Chains.{lasts, chain, used}
@@ -54,7 +54,7 @@ module _ (l : Links) (x y w : ℕ) where
     pub second_is : s.second ≡ get_or (chains_of l u) y 0
 
   pub holding-start : Holding 0 no_members
-  unfolding zeros table
+  unfolding filled table
   holding-start = record {
     lasts_are = λ c k. absurd (omega (arith, used-zero le));
     lasts_size = zeros-length 1024;

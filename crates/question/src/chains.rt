@@ -7,8 +7,7 @@ ghost use Rattle.question.specs.loops.ChainPass.{marked_chain, own_chain, enter_
 
 use ranks::{Ordering, ordering_at};
 use records::access;
-use slices::bytes::{clear, get, put};
-use slices::zeros::{bytes_1024, numbers_1024};
+use slices::{clear, get, put, zeros};
 
 fn is_marked(marks: &[u8], row: usize) -> bool
     ensures { result ≡ marked marks.now row }
@@ -69,7 +68,7 @@ impl Members {
         ensures { result ≡ no_members }
     {
         Members {
-            lasts: numbers_1024(),
+            lasts: zeros::<u16, 1024>(),
             chains: 0,
             first: 0,
             second: 0,
@@ -134,7 +133,7 @@ pub(crate) fn chain_pass(recs: &[u8], ranks: &[u16], asked: Asked) -> Passed
     ensures { PassesChains (decode recs.now) asked.first asked.second asked.width result.position result.first result.second }
 {
     let n = access::count(recs);
-    let mut marks = bytes_1024();
+    let mut marks = zeros::<u8, 1024>();
     let mut members = Members::none();
     for i in 0..n {
         turn(recs, ranks, i, &mut marks, &mut members, asked);

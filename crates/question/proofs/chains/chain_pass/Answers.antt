@@ -8,7 +8,7 @@ use Prim.Native.Nat.{◌≤◌, ◌<◌}
 use Rattle.question.proofs.chains.chain_pass.Goals as goal
 
 pub loop-i-init : goal.loop-i-init
-loop-i-init c = (rw c.none-members.ensures (going_start _ _ _ _ _ c.requires.0 c.requires.1), ap length c.bytes_1024-marks.ensures ∙ zeros-length 1024)
+loop-i-init c = (rw c.none-members.ensures (going_start _ _ _ _ _ c.requires.0 c.requires.1), ap length c.zeros-marks.ensures ∙ zeros-length 1024)
 
 pub slice_bounds-turn-end : goal.slice_bounds-turn-end
 slice_bounds-turn-end c = sym c.loop-i.invariant.1
