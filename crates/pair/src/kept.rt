@@ -7,8 +7,7 @@ ghost use Rattle.pair.specs.loops.Kept.{Starts, Split, Block, Noted, clashes, On
 ghost use Rattle.pair.specs.loops.Kept.{Passing, Passes, PassesAll, Markable, MarksKept};
 
 use records::access;
-use slices::numbers::{clear, larger};
-use slices::zeros::bytes_1025;
+use slices::{clear, zeros};
 
 // The first record of the event action of record i.
 pub(crate) fn block_start(recs: &[u8], i: usize) -> usize
@@ -93,7 +92,7 @@ fn merge_part(part: &[u16], row: &mut [u16], chains: usize)
 {
     let mut c = 0;
     while c < chains {
-        row[c] = larger(row[c], part[c]);
+        row[c] = row[c].max(part[c]);
         c += 1;
     }
 }
@@ -181,7 +180,7 @@ pub(crate) fn mark_leading(
     requires { Markable (decode recs.now) chosen.now width chains clocks.now work.old row.old u b }
     ensures { MarksKept (decode recs.now) b work.old work.new }
 {
-    let mut cells = bytes_1025();
+    let mut cells = zeros::<u8, 1025>();
     clear(row, row.len());
     merge_into(clocks, u * width, row, chains);
     let lo = block_start(recs, b);
