@@ -13,38 +13,18 @@ ghost use Rattle.trace.specs.Reading.{read_reply};
 ghost use Rattle.order.specs.Fill.{no_chains};
 ghost use Rattle.order.specs.Prepare.{asked, within, read_within};
 ghost use Rattle.order.specs.loops.TablePass.{TellsLinks};
-ghost use Rattle.order.specs.Paper.{refusal_in, Fills, Prepares};
+ghost use Rattle.order.specs.Paper.{Fills, Prepares};
 
 use links::{no_bits, no_words};
 use records::{Operation, Trace, access};
 use slices::{clear, zeros};
-use trace::{Reading, Refusal};
+use trace::{Reason, Refusal};
 
-// What filling finds: the number of chains used, or why it is refused.
-#[derive(Clone, Copy)]
-pub enum Filling {
-    Filled(usize),
-    Refused(Refusal),
-}
-
-// Filling with the trace to go on with: the one that was read where the call passes 22, else one with no records.
+// What filling finds, the number of chains used or why it is refused, with the trace to go on with: the one that was read where the call passes 22, else one with no records.
 #[derive(Clone, Copy)]
 pub struct Prepared {
-    pub answer: Filling,
+    pub answer: Result<usize, Refusal>,
     pub trace: Trace,
-}
-
-// The refusal of a filling that is refused, for a list or the pair question to pass upward; one that was made has none, number 0.
-pub fn refusal_of(f: Filling) -> Refusal
-    ensures { result ≡ refusal_in f }
-{
-    match f {
-        Filling::Refused(why) => why,
-        Filling::Filled(_) => Refusal {
-            number: 0,
-            place: Operation(0),
-        },
-    }
 }
 
 // Are all records from the lowest to the highest asked about in a trace of that many records? From 1 to 0 none is asked about.
@@ -60,43 +40,32 @@ fn has_records(records: usize, lowest: u16, highest: u16) -> bool
 // A reading for a call that asks about those records and is lent `space` clocks and `room` bytes: 11 where a record is not in the trace, 21 where the
 // rows do not fit the clocks, 22 where there are more event actions than bytes.
 fn read_within(
-    reading: Reading,
+    reading: Result<Trace, Refusal>,
     lowest: u16,
     highest: u16,
     width: usize,
     space: usize,
     room: usize,
-) -> Reading
+) -> Result<Trace, Refusal>
     ensures { paper result ≡ within (paper reading) lowest highest width space room }
 {
-    let Reading::Accepted(t) = reading else {
-        return reading;
-    };
+    let t = reading?;
     if !has_records(t.records, lowest, highest) {
-        return Reading::Refused(Refusal {
-            number: trace::NOT_IN_TRACE,
-            place: Operation(0),
-        });
+        return Err(Reason::NotInTrace.at(Operation(0)));
     }
     if !clocks::has_space(width, t.events, space) {
-        return Reading::Refused(Refusal {
-            number: trace::CLOCK_SPACE,
-            place: Operation(0),
-        });
+        return Err(Reason::ClockSpace.at(Operation(0)));
     }
     if room < t.events {
-        return Reading::Refused(Refusal {
-            number: trace::WORK_SPACE,
-            place: Operation(0),
-        });
+        return Err(Reason::WorkSpace.at(Operation(0)));
     }
-    reading
+    Ok(t)
 }
 
 // Fills the lent clocks for a call whose reading is at hand; where a record is a send, from the table.
 fn fill_within(
     bytes: &[u8],
-    reading: Reading,
+    reading: Result<Trace, Refusal>,
     lowest: u16,
     highest: u16,
     width: usize,
@@ -111,8 +80,9 @@ fn fill_within(
         width clocks.old clocks.new chosen.new ranks.old ranks.new result.answer result.trace }
 {
     let ready = read_within(reading, lowest, highest, width, clocks.len(), room);
-    let Reading::Accepted(t) = ready else {
-        return rows::unfilled(trace::refusal_of(ready));
+    let t = match ready {
+        Ok(t) => t,
+        Err(why) => return rows::unfilled(why),
     };
     let answer = rows::fill_rows(
         access::records(bytes, t),
@@ -183,7 +153,7 @@ pub fn prepare(
 }
 
 // Fills the lent clocks with the clock rows of the trace. No trace has more event actions than 1,024.
-pub fn fill(bytes: &[u8], width: usize, clocks: &mut [u16]) -> Filling
+pub fn fill(bytes: &[u8], width: usize, clocks: &mut [u16]) -> Result<usize, Refusal>
     ensures { Fills bytes.now width clocks.old clocks.new result }
 {
     let mut chosen = zeros::<u16, 1024>();

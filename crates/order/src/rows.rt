@@ -1,5 +1,5 @@
 // All rows in one pass over the records: at a link the earlier row is merged into the later one, and at a begin the chain is read off the merged row.
-ghost use Rattle.std.specs.Prelude.{◌≡◌, true, false, ◌+◌, ◌*◌, ◌-◌, ◌≤◌, ◌<◌, min, T, eqb, length, get_or};
+ghost use Rattle.std.specs.Prelude.{◌≡◌, true, false, ◌+◌, ◌*◌, ◌-◌, ◌≤◌, ◌<◌, Err, min, T, eqb, length, get_or};
 ghost use Rattle.records.specs.Bytes.{decode};
 ghost use Rattle.records.specs.Kinds.{has_send};
 ghost use Rattle.links.specs.Fill.{fill_all};
@@ -15,11 +15,11 @@ ghost use Rattle.order.specs.loops.Pass.{Rows, choose_in, NoneFull, begin_row, R
 
 use crate::from_table::pass_table;
 use crate::linking::pass_links;
-use crate::{Filling, Prepared, merge};
+use crate::{Prepared, merge};
 use clocks::{add_one, clear_row, clear_rows};
 use records::{Operation, Trace, access};
 use slices::{clear, zeros};
-use trace::Refusal;
+use trace::{Reason, Refusal};
 
 // The chain of row u, by its hint: no chain below 1,024 less that has all its members in the row.
 fn choose_hinted(
@@ -146,10 +146,10 @@ fn pass_rows(
 
 // Refused before the clocks are filled.
 pub(crate) fn unfilled(why: Refusal) -> Prepared
-    ensures { (result.answer ≡ Filling.Refused why) × (result.trace ≡ no_trace) }
+    ensures { (result.answer ≡ Err why) × (result.trace ≡ no_trace) }
 {
     Prepared {
-        answer: Filling::Refused(why),
+        answer: Err(why),
         trace: Trace {
             start: 0,
             records: 0,
@@ -160,14 +160,11 @@ pub(crate) fn unfilled(why: Refusal) -> Prepared
 }
 
 // Refused at the begin at that position, whose chain has no place in the width.
-fn past_width(position: usize) -> Filling
+fn past_width(position: usize) -> Result<usize, Refusal>
     requires { position < 65535 }
     ensures { fill_paper result ≡ Reply.refused 23 (position + 1) }
 {
-    Filling::Refused(Refusal {
-        number: trace::CHAINS,
-        place: Operation((position + 1) as u16),
-    })
+    Err(Reason::Chains.at(Operation((position + 1) as u16)))
 }
 
 // The rows of an accepted trace that has the space for them, the chain of each row, all 0 after 23, and the ranks of all events; where a record is a
@@ -181,7 +178,7 @@ pub(crate) fn fill_rows(
     ranks: &mut [u16; 1025],
     sends: bool,
     table: &[u64],
-) -> Filling
+) -> Result<usize, Refusal>
     requires { Acceptable (decode recs.now) × (events ≡ events_in (decode recs.now))
         × (space_for width events (length clocks.old) ≡ true) × (chosen.old ≡ no_chains) × (sends ≡ has_send (decode recs.now))
         × (T sends → table.now ≡ (fill_all (decode recs.now)).words) }
@@ -200,5 +197,5 @@ pub(crate) fn fill_rows(
         clear(chosen, 1024);
         return past_width(position);
     }
-    Filling::Filled(passed.chains)
+    Ok(passed.chains)
 }

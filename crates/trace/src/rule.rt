@@ -3,9 +3,9 @@ ghost use Rattle.std.specs.Prelude.{◌≡◌, false, cond, not, eqb};
 ghost use Rattle.trace.specs.Place.{place};
 ghost use Rattle.trace.specs.Rule.{numbered, well_formed, misplaced, again, early, judge};
 ghost use Rattle.trace.specs.Reply.{gives, or_else};
-ghost use Rattle.trace.specs.Paper.{checked_paper};
+ghost use Rattle.trace.specs.Paper.{code, checked_paper};
 
-use crate::{Checked, Refusal, place};
+use crate::{Reason, Refusal, place};
 use records::{EventId, Operation, Record};
 
 pub(crate) fn is_numbered(x: u16) -> bool
@@ -47,39 +47,39 @@ fn is_misplaced(next: u8, situation: u8, owner: EventId, r: Record) -> bool
     r.first != owner.0
 }
 
-// The first of refusals 4 to 6 that applies to record r, or 0, where next is the place rule's reply for it.
-pub(crate) fn place_fault(next: u8, situation: u8, owner: EventId, r: Record) -> u16
+// The first of refusals 4 to 6 that applies to record r, where next is the place rule's reply for it.
+pub(crate) fn place_fault(next: u8, situation: u8, owner: EventId, r: Record) -> Result<(), Reason>
     requires { next ≡ place situation r.kind }
-    ensures { result ≡ cond (eqb (place situation r.kind) 3) 4 (cond (not (well_formed r)) 5 (cond (misplaced situation owner.0 r) 6 0)) }
+    ensures { code result ≡ cond (eqb (place situation r.kind) 3) 4 (cond (not (well_formed r)) 5 (cond (misplaced situation owner.0 r) 6 0)) }
 {
     if next == 3 {
-        return crate::UNKNOWN_KIND;
+        return Err(Reason::UnknownKind);
     }
     if !is_well_formed(r) {
-        return crate::IDENTIFIER;
+        return Err(Reason::Identifier);
     }
     if is_misplaced(next, situation, owner, r) {
-        return crate::OUT_OF_PLACE;
+        return Err(Reason::OutOfPlace);
     }
-    0
+    Ok(())
 }
 
-// The first of refusals 7 and 8 that applies to record r, or 0.
+// The first of refusals 7 and 8 that applies to record r.
 pub(crate) fn order_fault(
     r: Record,
     first_begun: bool,
     second_begun: bool,
     second_ended: bool,
-) -> u16
-    ensures { result ≡ cond (again r first_begun second_begun) 7 (cond (early r second_ended) 8 0) }
+) -> Result<(), Reason>
+    ensures { code result ≡ cond (again r first_begun second_begun) 7 (cond (early r second_ended) 8 0) }
 {
     if is_again(r, first_begun, second_begun) {
-        return crate::BEGUN_ALREADY;
+        return Err(Reason::BegunAlready);
     }
     if is_early(r, second_ended) {
-        return crate::NOT_ENDED;
+        return Err(Reason::NotEnded);
     }
-    0
+    Ok(())
 }
 
 fn is_again(r: Record, first_begun: bool, second_begun: bool) -> bool
@@ -113,7 +113,7 @@ fn is_early(r: Record, second_ended: bool) -> bool
     !second_ended
 }
 
-// The number of the first of refusals 4 to 8 that applies to record r, or 0, where next is the place rule's reply for it. The three facts: its first has
+// The first of refusals 4 to 8 that applies to record r, where next is the place rule's reply for it. The three facts: its first has
 // begun, its second has begun, its second has ended.
 fn fault(
     next: u8,
@@ -123,14 +123,11 @@ fn fault(
     first_begun: bool,
     second_begun: bool,
     second_ended: bool,
-) -> u16
+) -> Result<(), Reason>
     requires { next ≡ place situation r.kind }
-    ensures { result ≡ judge situation owner.0 r first_begun second_begun second_ended false }
+    ensures { code result ≡ judge situation owner.0 r first_begun second_begun second_ended false }
 {
-    let misplaced = place_fault(next, situation, owner, r);
-    if misplaced != 0 {
-        return misplaced;
-    }
+    place_fault(next, situation, owner, r)?;
     order_fault(r, first_begun, second_begun, second_ended)
 }
 
@@ -143,12 +140,12 @@ pub fn check(
     first_begun: bool,
     second_begun: bool,
     second_ended: bool,
-) -> Checked
+) -> Result<u8, Refusal>
     ensures { checked_paper result
         ≡ or_else (judge situation owner.0 r first_begun second_begun second_ended false) op.0 (gives (place situation r.kind)) }
 {
     let next = place::next(situation, r.kind);
-    let number = fault(
+    match fault(
         next,
         situation,
         owner,
@@ -156,12 +153,8 @@ pub fn check(
         first_begun,
         second_begun,
         second_ended,
-    );
-    if number != 0 {
-        return Checked::Refused(Refusal {
-            number: number,
-            place: op,
-        });
+    ) {
+        Ok(()) => Ok(next),
+        Err(reason) => Err(reason.at(op)),
     }
-    Checked::Next(next)
 }
