@@ -3,6 +3,7 @@
 use Prim.Native.Nat.{ℕ}
 use mathlib.Core.Path.{◌≡◌, sym, ap, ◌∙◌, subst}
 use mathlib.Core.List.{List}
+use mathlib.Core.Bool.{false}
 use lib.ListN.{length}
 use Rattle.records.specs.declared.Trace.{Trace}
 use Rattle.records.specs.Bytes.{decode, part}
@@ -34,3 +35,8 @@ module _ (b : List ℕ) (t : Trace) (e : Accepts b t) (recs : List ℕ) (r : rec
 
   pub read_count : length (decode recs) ≡ t.records
   read_count = rw records-are (accepts b t e).counts
+
+pub no-send : (b : List ℕ) (t : Trace) → Accepts b t → t.sends ≡ false → has_send (records_in b t) ≡ false
+no-send b t e s =
+    let p = accepts b t e in
+    sym (subst (λ (n : ℕ). has_send (past (records_in b t) n) ≡ has_send (records_in b t)) p.counts (past-sends (records_in b t))) ∙ p.sent ∙ s

@@ -8,6 +8,7 @@ pub mod merging;
 mod rows;
 
 ghost use Rattle.std.specs.Prelude.{◌≡◌, length};
+ghost use Rattle.std.specs.Option.{option_copied};
 ghost use Rattle.trace.specs.Paper.{paper};
 ghost use Rattle.trace.specs.Reading.{read_reply};
 ghost use Rattle.order.specs.Fill.{no_chains};
@@ -15,7 +16,7 @@ ghost use Rattle.order.specs.Prepare.{asked, within, read_within};
 ghost use Rattle.order.specs.loops.TablePass.{TellsLinks};
 ghost use Rattle.order.specs.Paper.{Fills, Prepares};
 
-use links::{no_bits, no_words};
+use links::no_bits;
 use records::{Operation, Trace, access};
 use slices::{clear, zeros};
 use trace::{Reason, Refusal};
@@ -62,7 +63,7 @@ fn read_within(
     Ok(t)
 }
 
-// Fills the lent clocks for a call whose reading is at hand; where a record is a send, from the table.
+// Fills the lent clocks for a call whose reading is at hand; where there is a table of what happens before what, from that.
 fn fill_within(
     bytes: &[u8],
     reading: Result<Trace, Refusal>,
@@ -73,9 +74,9 @@ fn fill_within(
     clocks: &mut [u16],
     chosen: &mut [u16],
     ranks: &mut [u16; 1025],
-    table: &[u64],
+    table: Option<&[u64]>,
 ) -> Prepared
-    requires { (paper reading ≡ read_reply bytes.now) × (chosen.old ≡ no_chains) × TellsLinks bytes.now table.now }
+    requires { (paper reading ≡ read_reply bytes.now) × (chosen.old ≡ no_chains) × TellsLinks bytes.now (option_copied table) }
     ensures { Prepares bytes.now (read_within bytes.now lowest highest width (length clocks.old) room)
         width clocks.old clocks.new chosen.new ranks.old ranks.new result.answer result.trace }
 {
@@ -91,7 +92,6 @@ fn fill_within(
         clocks,
         chosen,
         ranks,
-        t.sends,
         table,
     );
     Prepared {
@@ -120,7 +120,7 @@ fn prepare_linked(
     let mut table = no_bits();
     let reading = trace::read_linked(bytes, &mut read_ranks, &mut table);
     fill_within(
-        bytes, reading, lowest, highest, width, room, clocks, chosen, ranks, &table,
+        bytes, reading, lowest, highest, width, room, clocks, chosen, ranks, Some(&table),
     )
 }
 
@@ -146,9 +146,8 @@ pub fn prepare(
         return prepare_linked(bytes, low.0, high.0, width, room, clocks, chosen, ranks);
     }
     let reading = first.reading;
-    let none = no_words();
     fill_within(
-        bytes, reading, low.0, high.0, width, room, clocks, chosen, ranks, &none,
+        bytes, reading, low.0, high.0, width, room, clocks, chosen, ranks, None,
     )
 }
 
@@ -164,7 +163,6 @@ pub fn fill(bytes: &[u8], width: usize, clocks: &mut [u16]) -> Result<usize, Ref
         return prepared.answer;
     }
     let reading = first.reading;
-    let none = no_words();
     let prepared = fill_within(
         bytes,
         reading,
@@ -175,7 +173,7 @@ pub fn fill(bytes: &[u8], width: usize, clocks: &mut [u16]) -> Result<usize, Ref
         clocks,
         &mut chosen,
         &mut ranks,
-        &none,
+        None,
     );
     prepared.answer
 }

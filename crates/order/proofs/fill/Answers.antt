@@ -1,6 +1,6 @@
 use Rattle.order.proofs.PrepareLaws.{fills}
-use mathlib.Core.Path.{sym, ◌∙◌, subst}
-use lib.Dec.{T}
+use mathlib.Core.Path.{sym, ◌∙◌}
+use Rattle.order.proofs.EntryLaws.{no-send}
 use Rattle.order.proofs.fill.Goals as goal
 
 pub returns-then-first : goal.returns-then-first
@@ -13,7 +13,7 @@ fill_within-prepared-requires c =
     let e = at_read.read_plain-first.ensures in (
       e.enough at-if.if-first.false,
       at_read.zeros-chosen.ensures,
-      λ t a s. absurd (subst T (sym (e.tells t (a ∙ sym (e.enough at-if.if-first.false))) ∙ at-if.if-first.false) s),
+      λ t a. no-send _ t a (sym (e.tells t (a ∙ sym (e.enough at-if.if-first.false))) ∙ at-if.if-first.false),
     )
 
 pub returns : goal.returns

@@ -1,10 +1,7 @@
 use Rattle.order.proofs.PrepareLaws.{stopped, within-reading, fitting, passed}
-use Rattle.order.proofs.EntryLaws.{records-are, read-acceptable, read-events, read-sends}
+use Rattle.order.proofs.EntryLaws.{records-are, read-acceptable, read-events}
 use Rattle.order.specs.Paper.{fill_paper}
-use Rattle.records.specs.declared.Record.{Record}
-use Rattle.links.specs.Fill.{fill_all}
 use Rattle.trace.specs.Paper.{paper}
-use mathlib.Core.List.{List}
 use mathlib.Core.Path.{sym, ap, ◌∙◌}
 use Rattle.order.proofs.fill_within.Goals as goal
 
@@ -28,8 +25,7 @@ fill_rows-answer-requires c =
       read-events b t r _ w,
       (fitting b _ _ _ _ _ t e).has-space,
       start.requires.1,
-      read-sends b t r _ w,
-      λ s. start.requires.2 t r s ∙ ap (λ (tr : List Record). (fill_all tr).words) (sym (records-are b t r _ w)),
+      rw (records-are b t r _ w) (start.requires.2 t r),
     )
 
 pub returns : goal.returns

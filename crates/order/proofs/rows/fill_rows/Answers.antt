@@ -20,7 +20,6 @@ pass_rows-passed-requires c =
           a.requires.3,
       a.requires.1,
       a.requires.4,
-      a.requires.5,
     )
 
 pub past_width-requires : goal.past_width-requires
