@@ -28,10 +28,8 @@ pub(crate) fn put_times(
     second: u16,
 ) -> usize {
     let mut n = at;
-    let mut i = 0;
-    while i < times {
+    for i in 0..times {
         n = put_record(bytes, n, kind, first, second);
-        i += 1;
     }
     n
 }

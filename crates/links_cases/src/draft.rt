@@ -100,9 +100,7 @@ pub(crate) fn count(text: &[u8]) -> usize {
 }
 
 pub(crate) fn put_text(bytes: &mut [u8], text: &[u8], x: usize) {
-    let mut at = 0;
-    while at < 512 {
+    for at in (0..512).step_by(4) {
         put_next(bytes, text, at, x);
-        at += 4;
     }
 }

@@ -159,39 +159,33 @@ pub(crate) fn at_most(n: usize, most: usize) -> usize
 }
 
 fn clocks_agree(c: Case, table: &[usize], clocks: &[u16]) -> bool {
-    let mut i = 0;
-    while i < 1100 {
+    for i in 0..1100 {
         let unfilled = pick(i < c.zeros, 0, 7);
         let expected = pick(i < c.rows, chains::clock(table, c.width, i), unfilled);
         if get_short(clocks, i) != expected {
             return false;
         }
-        i += 1;
     }
     true
 }
 
 fn work_agrees(c: Case, work: &[u8]) -> bool {
-    let mut i = 0;
-    while i < 64 {
+    for i in 0..64 {
         if byte_at(work, i) != pick(i < c.cleared, 0, 3) {
             return false;
         }
-        i += 1;
     }
     true
 }
 
 fn list_agrees(c: Case, recs: &[u8], table: &[usize], list: &[u16]) -> bool {
     let n = c.list;
-    let mut i = 0;
-    while i < n {
+    for i in 0..n {
         let number = definitions::number_in_list(recs, table, c.call == ALL_RACES, i);
         let expected = pick(i < c.listed, number, 9);
         if get_short(list, i) != expected {
             return false;
         }
-        i += 1;
     }
     true
 }

@@ -71,12 +71,10 @@ fn compare_at(
 fn compare_all(bytes: &[u8], recs: &[u8], table: &[usize], k: Known, before: Counts) -> Counts {
     let n = plus(plus(28, k.races), k.records);
     let mut tally = before;
-    let mut x = 0;
-    while x < n {
+    for x in 0..n {
         if is_asked(k, x) {
             tally = compare_at(bytes, recs, table, k, x, tally);
         }
-        x += 1;
     }
     tally
 }
@@ -130,11 +128,9 @@ fn compare_refused(bytes: &[u8], number: usize, place: usize, before: Counts) ->
     let k = known::nothing();
     let none = [0usize; 1];
     let mut tally = before;
-    let mut call = 0;
-    while call < 4 {
+    for call in 0..4 {
         let c = expectations::refused(k, call, number, place);
         tally = compare_case(bytes, bytes, &none, k, c, tally);
-        call += 1;
     }
     tally
 }

@@ -67,11 +67,9 @@ fn choose(d: Draft, seed: usize, way: usize) -> Change {
 
 // Writes record p over record q.
 fn repeat(bytes: &mut [u8], p: usize, q: usize) {
-    let mut i = 0;
-    while i < 5 {
+    for i in 0..5 {
         let b = get_byte(bytes, plus(p, i));
         put_byte(bytes, plus(q, i), b);
-        i += 1;
     }
 }
 

@@ -102,10 +102,8 @@ pub(crate) fn byte(x: usize) -> u8 {
 // Puts the bytes of a part at a place; where it ends.
 fn put_part(bytes: &mut [u8], at: usize, part: &[u8]) -> usize {
     let n = part.len();
-    let mut i = 0;
-    while i < n {
+    for i in 0..n {
         put_byte(bytes, plus(at, i), get_byte(part, i));
-        i += 1;
     }
     plus(at, n)
 }
@@ -196,11 +194,9 @@ fn rank(s: Shape, event: usize) -> usize {
 fn highest(recs: &[u8], s: Shape, kind: u8, lowest: usize) -> usize {
     let n = access::count(recs);
     let mut most = lowest;
-    let mut i = 0;
-    while i < n {
+    for i in 0..n {
         let t = rank(s, target_of(recs, i));
         most = pick(is_kind(recs, i, kind) & (most < t), t, most);
-        i += 1;
     }
     most
 }
@@ -232,12 +228,10 @@ fn second_of(bytes: &[u8], s: Shape, x: Action, at: usize, kind: u8) -> u16 {
 fn put_action(bytes: &mut [u8], s: Shape, x: Action) -> usize {
     let n = plus(plus(x.joins, x.body), 2);
     let mut at = x.from;
-    let mut r = 0;
-    while r < n {
+    for r in 0..n {
         let kind = kind_of(s, x, at, r);
         let second = second_of(bytes, s, x, at, kind);
         at = put_record(bytes, at, kind, number(s, x.j), second);
-        r += 1;
     }
     at
 }
@@ -245,10 +239,8 @@ fn put_action(bytes: &mut [u8], s: Shape, x: Action) -> usize {
 fn put_actions(bytes: &mut [u8], s: Shape) -> usize {
     let n = s.events;
     let mut at = s.before;
-    let mut j = 0;
-    while j < n {
+    for j in 0..n {
         at = put_action(bytes, s, action_at(s, at, j));
-        j += 1;
     }
     at
 }

@@ -63,10 +63,8 @@ fn put_next(bytes: &mut [u8], text: &[u8], i: usize, x: usize) {
 // Trace x of a frame of so many event actions, without its trailer.
 pub(crate) fn put_frame(bytes: &mut [u8], text: &[u8], events: usize, x: usize) -> Draft {
     let n = text.len() / 4;
-    let mut i = 0;
-    while i < n {
+    for i in 0..n {
         put_next(bytes, text, i, x);
-        i += 1;
     }
     Draft {
         start: 0,

@@ -20,12 +20,10 @@ fn found(number: usize, place: usize) -> Verdict {
 
 // The first of n records that has the kind and the event, or n.
 pub(crate) fn find(recs: &[u8], n: usize, kind: u8, event: usize) -> usize {
-    let mut i = 0;
-    while i < n {
+    for i in 0..n {
         if is_kind(recs, i, kind) & (event_of(recs, i) == event) {
             return i;
         }
-        i += 1;
     }
     n
 }
@@ -86,12 +84,10 @@ fn refusal_at(recs: &[u8], i: usize) -> usize {
 
 // The first record that is refused, or as many as there are.
 fn first_refused(recs: &[u8], n: usize) -> usize {
-    let mut i = 0;
-    while i < n {
+    for i in 0..n {
         if refusal_at(recs, i) != 0 {
             return i;
         }
-        i += 1;
     }
     n
 }
@@ -100,11 +96,9 @@ fn first_refused(recs: &[u8], n: usize) -> usize {
 pub(crate) fn count_kinds(recs: &[u8], low: u8, high: u8) -> usize {
     let n = access::count(recs);
     let mut count = 0;
-    let mut i = 0;
-    while i < n {
+    for i in 0..n {
         let kind = access::kind_at(recs, i);
         count = plus(count, pick((low <= kind) & (kind <= high), 1, 0));
-        i += 1;
     }
     count
 }

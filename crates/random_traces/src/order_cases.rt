@@ -65,8 +65,7 @@ fn compare_questions(
 ) -> Counts {
     let n = plus(k.events, 1);
     let mut tally = before;
-    let mut x = 0;
-    while x < 1024 {
+    for x in 0..1024 {
         if (x / 32 < n) & (x % 32 < n) {
             tally = compare_question(
                 bytes,
@@ -78,7 +77,6 @@ fn compare_questions(
                 tally,
             );
         }
-        x += 1;
     }
     tally
 }

@@ -87,10 +87,8 @@ fn put_begin(recs: &[u8], table: &mut [usize], found: usize, i: usize) -> usize 
 pub(crate) fn find_begins(recs: &[u8], table: &mut [usize]) -> usize {
     let n = access::count(recs);
     let mut found = 0;
-    let mut i = 0;
-    while i < n {
+    for i in 0..n {
         found = put_begin(recs, table, found, i);
-        i += 1;
     }
     found
 }
@@ -131,13 +129,11 @@ fn is_new(recs: &[u8], table: &mut [usize], i: usize) -> bool {
 pub(crate) fn find_paths(recs: &[u8], table: &mut [usize]) {
     let n = access::count(recs);
     let mut old = 0;
-    let mut x = 0;
-    while x < 1000000 {
+    for x in 0..1000000 {
         if n <= old {
             return;
         }
         let new = is_new(recs, table, remainder(x, n));
         old = pick(new, 0, plus(old, 1));
-        x += 1;
     }
 }

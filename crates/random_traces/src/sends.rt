@@ -17,11 +17,9 @@ fn is_ahead(recs: &[u8], table: &[usize], a: usize, b: usize) -> bool {
 pub(crate) fn find_ahead(recs: &[u8], table: &[usize], b: usize) -> usize {
     let n = pick(is_send(recs, b), access::count(recs), 0);
     let mut set = 0;
-    let mut a = 0;
-    while a < n {
+    for a in 0..n {
         let those = before(table, rank(table, target_of(recs, a)));
         set = set | pick(is_ahead(recs, table, a, b), those, 0);
-        a += 1;
     }
     set
 }
@@ -29,12 +27,10 @@ pub(crate) fn find_ahead(recs: &[u8], table: &[usize], b: usize) -> usize {
 // A link puts the event "behind another target not yet begun".
 fn is_behind(recs: &[u8], table: &[usize], event: usize) -> bool {
     let n = access::count(recs);
-    let mut b = 0;
-    while b < n {
+    for b in 0..n {
         if (target_of(recs, b) == event) & is_in(find_ahead(recs, table, b), 0) {
             return true;
         }
-        b += 1;
     }
     false
 }

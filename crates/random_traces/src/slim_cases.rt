@@ -180,9 +180,7 @@ fn repeating(x: usize, before: Counts) -> Counts {
 
 pub(crate) fn run(before: Counts) -> Counts {
     let mut tally = before;
-    let mut x = 500;
-    while 0 < x {
-        x -= 1;
+    for x in (0..500).rev() {
         tally = repeating(x, tally);
     }
     tally

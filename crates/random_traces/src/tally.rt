@@ -127,10 +127,8 @@ fn show_byte(tally: Counts, k: usize, b: u8) -> usize {
 
 fn show_text(tally: Counts, from: usize, text: &[u8]) -> usize {
     let mut k = from;
-    let mut i = 0;
-    while i < text.len() {
+    for i in 0..text.len() {
         k = show_byte(tally, k, get_byte(text, i));
-        i += 1;
     }
     k
 }

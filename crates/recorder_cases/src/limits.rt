@@ -38,8 +38,7 @@ pub(crate) fn step_of_t(i: usize) -> Record {
 // Steps until one is refused.
 fn steps(bytes: &mut [u8], first: Recorder) -> Run {
     let mut r = first;
-    let mut i = 0;
-    while i < 12 {
+    for i in 0..12 {
         let next = recorder::step_on(bytes, r, step_of_t(i));
         let answer = next.answer;
         if let Stepped::Refused(f) = answer {
@@ -51,7 +50,6 @@ fn steps(bytes: &mut [u8], first: Recorder) -> Run {
         }
         let after = next.recorder;
         r = after;
-        i += 1;
     }
     Run {
         recorder: r,
@@ -83,9 +81,7 @@ fn over(bytes: &mut [u8], space: usize) {
 }
 
 pub(crate) fn all(bytes: &mut [u8]) {
-    let mut space = 0;
-    while space < 75 {
+    for space in 0..75 {
         over(bytes, space);
-        space += 1;
     }
 }

@@ -111,10 +111,8 @@ fn turn(bytes: &mut [u8], log: &mut [u8], t: Totals) -> Totals {
 
 fn turns(bytes: &mut [u8], log: &mut [u8], start: Totals) -> Totals {
     let mut t = start;
-    let mut i: usize = 0;
-    while i < 400 {
+    for i in 0..400 {
         t = turn(bytes, log, t);
-        i += 1;
     }
     t
 }
@@ -184,9 +182,7 @@ fn run(bytes: &mut [u8], log: &mut [u8], seed: u64) {
 }
 
 pub(crate) fn all(bytes: &mut [u8], log: &mut [u8]) {
-    let mut seed: u64 = 0;
-    while seed < 40 {
+    for seed in 0..40 {
         run(bytes, log, seed);
-        seed += 1;
     }
 }

@@ -57,10 +57,8 @@ fn matched(found: u64, a: &[u8], b: &[u8], i: usize) -> u64 {
 // How many of the first n bytes are the same.
 pub(crate) fn same(a: &[u8], b: &[u8], n: usize) -> u64 {
     let mut found = 0;
-    let mut i = 0;
-    while i < n {
+    for i in 0..n {
         found = matched(found, a, b, i);
-        i += 1;
     }
     found
 }

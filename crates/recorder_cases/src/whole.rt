@@ -41,14 +41,12 @@ fn counted(n: u64, a: Stepped) -> u64 {
 fn steps(bytes: &mut [u8], first: Recorder) -> Run {
     let mut r = first;
     let mut taken = 0;
-    let mut i = 0;
-    while i < 4096 {
+    for i in 0..4096 {
         let next = recorder::step_on(bytes, r, step_at(i));
         let answer = next.answer;
         taken = counted(taken, answer);
         let after = next.recorder;
         r = after;
-        i += 1;
     }
     Run {
         recorder: r,
@@ -66,10 +64,8 @@ fn matched(n: u64, a: Record, b: Record) -> u64 {
 // How many of the records read are the steps.
 fn agree(recs: &[u8]) -> u64 {
     let mut same = 0;
-    let mut i = 0;
-    while i < 4096 {
+    for i in 0..4096 {
         same = matched(same, access::record_at(recs, i), step_at(i));
-        i += 1;
     }
     same
 }

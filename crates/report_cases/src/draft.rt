@@ -28,10 +28,8 @@ pub(crate) fn put_times(
     second: u16,
 ) -> usize {
     let mut n = at;
-    let mut i = 0;
-    while i < times {
+    for i in 0..times {
         n = put_record(bytes, n, kind, first, second);
-        i += 1;
     }
     n
 }
@@ -47,10 +45,8 @@ pub(crate) fn put_action(bytes: &mut [u8], at: usize, e: u16, kind: u8, x: u16, 
 // Event actions that only read, from that event to event 33.
 pub(crate) fn put_unordered(bytes: &mut [u8], at: usize, from: u16) -> usize {
     let mut n = at;
-    let mut e = from;
-    while e <= 33 {
+    for e in from..=33 {
         n = put_action(bytes, n, e, 5, 1, 1);
-        e += 1;
     }
     n
 }

@@ -67,10 +67,8 @@ fn put_event(bytes: &mut [u8], at: usize, e: u16) -> usize {
 
 fn put_events(bytes: &mut [u8]) -> usize {
     let mut n = 0;
-    let mut e: u16 = 1;
-    while e <= 1024 {
+    for e in 1..=1024 {
         n = put_event(bytes, n, e);
-        e += 1;
     }
     close(bytes, 0, n, 1024)
 }

@@ -25,12 +25,10 @@ fn stands_for(recs: &[u8], list: &[u16], entry: usize, i: usize) -> bool {
 // The records for which the first k entries stand, k at most 8.
 fn kept_records(recs: &[u8], list: &[u16], k: usize) -> usize {
     let mut set = 0;
-    let mut x = 0;
-    while x < 512 {
+    for x in 0..512 {
         if (x / 64 < k) & stands_for(recs, list, x / 64, x % 64) {
             set = set | bit(x % 64);
         }
-        x += 1;
     }
     set
 }
@@ -60,13 +58,11 @@ fn count_all(table: &[usize], found: usize, a: usize, b: usize, kept: usize) -> 
         fewest: 64,
         alike: 0,
     };
-    let mut r = 0;
-    while r < found {
+    for r in 0..found {
         let run = arrangements::arrangement(table, r);
         if is_in(run, b) & !is_in(run, a) {
             t = count_one(t, run, kept);
         }
-        r += 1;
     }
     t
 }
@@ -134,12 +130,10 @@ fn ask(bytes: &[u8], recs: &[u8], table: &[usize], found: usize, a: usize, b: us
 
 // Every race, ordered by second record, then first.
 fn ask_each(bytes: &[u8], recs: &[u8], table: &[usize], found: usize) {
-    let mut x = 0;
-    while x < 4096 {
+    for x in 0..4096 {
         if is_in(paths::races(table, x / 64), x % 64) {
             ask(bytes, recs, table, found, x % 64, x / 64);
         }
-        x += 1;
     }
 }
 

@@ -48,12 +48,10 @@ fn joined(recs: &[u8], table: &[usize], i: usize) -> usize {
 
 // "a path of forks (from starter to started) and joins (from waited-for to waiting)": eight rounds over all records.
 pub(crate) fn find_paths(recs: &[u8], table: &mut [usize]) {
-    let mut x = 0;
-    while x < 512 {
+    for x in 0..512 {
         let set = joined(recs, table, x % 64);
         let u = later(recs, x % 64);
         put(table, u, set);
-        x += 1;
     }
 }
 
@@ -84,8 +82,7 @@ fn is_race(recs: &[u8], table: &[usize], a: usize, b: usize) -> bool {
 }
 
 pub(crate) fn find_before(recs: &[u8], table: &mut [usize]) {
-    let mut x = 0;
-    while x < 4096 {
+    for x in 0..4096 {
         let old = before(table, x / 64);
         let set = pick(
             is_before(recs, table, x % 64, x / 64),
@@ -93,17 +90,14 @@ pub(crate) fn find_before(recs: &[u8], table: &mut [usize]) {
             old,
         );
         put(table, plus(BEFORE, x / 64), set);
-        x += 1;
     }
 }
 
 pub(crate) fn find_races(recs: &[u8], table: &mut [usize]) {
-    let mut x = 0;
-    while x < 4096 {
+    for x in 0..4096 {
         let old = races(table, x / 64);
         let set = pick(is_race(recs, table, x % 64, x / 64), old | bit(x % 64), old);
         put(table, plus(RACES, x / 64), set);
-        x += 1;
     }
 }
 

@@ -12,9 +12,7 @@ pub(crate) fn number(n: usize) {
 
 // The first n of them.
 pub(crate) fn numbers(list: &[u16], n: usize) {
-    let mut i = 0;
-    while i < n {
+    for i in 0..n {
         number(get_short(list, i));
-        i += 1;
     }
 }

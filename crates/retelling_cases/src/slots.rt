@@ -54,12 +54,10 @@ pub(crate) fn has_all(set: usize, part: usize) -> bool {
 // How many are in it.
 pub(crate) fn size(set: usize) -> usize {
     let mut n = 0;
-    let mut t = 0;
-    while t < 62 {
+    for t in 0..62 {
         if is_in(set, t) {
             n = plus(n, 1);
         }
-        t += 1;
     }
     n
 }

@@ -42,10 +42,8 @@ fn put_event(bytes: &mut [u8], at: usize, e: u16) -> usize {
 
 fn put_events(bytes: &mut [u8]) -> usize {
     let mut at = 0;
-    let mut e: u16 = 1;
-    while e <= 1024 {
+    for e in 1..=1024 {
         at = put_event(bytes, at, e);
-        e += 1;
     }
     at
 }

@@ -18,10 +18,8 @@ fn agreements(group: u8, cases: usize) -> usize
     ensures { result ≤ cases }
 {
     let mut agree = 0;
-    let mut i = 0;
-    while i < cases {
+    for i in 0..cases {
         agree += agrees_at(group, i);
-        i += 1;
     }
     agree
 }
