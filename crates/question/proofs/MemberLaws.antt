@@ -9,12 +9,11 @@ use native.Mathlib.Omega.{arith}
 use native.Mathlib.Numerals.{add-one}
 use lib.ListN.{length, get_or}
 use Rattle.records.specs.declared.Record.{Record}
-use Rattle.records.specs.Records.{at}
 use Rattle.records.specs.Kinds.{has_send}
 use Rattle.trace.specs.Reading.{Acceptable}
 use Rattle.records.proofs.Positions.{lt-or-ge}
 use Rattle.order.specs.Links.{leq}
-use Rattle.order.specs.Chains.{lasts, chain, used, needs, first}
+use Rattle.order.specs.Chains.{lasts, chain, used, needs}
 use Rattle.order.specs.loops.Standing.{begins}
 use Rattle.question.specs.loops.Marking.{marked, marks_in, marks_down_in, mark_in}
 use Rattle.ranks.specs.declared.Ordering.{Ordering}

@@ -10,7 +10,7 @@ use lib.ListN.{length, get_or}
 use Rattle.slices.proofs.Tests.{decide-lt}
 use Rattle.records.specs.declared.Record.{Record}
 use Rattle.order.specs.Links.{Links, leq}
-use Rattle.order.specs.Chains.{first, lasts, chain, used}
+use Rattle.order.specs.Chains.{lasts, chain, used}
 use Rattle.order.specs.HappensBefore.{trace_links}
 use Rattle.order.specs.Fill.{events_in, begin_position, row_past_width, chain_table}
 use Rattle.order.specs.loops.FromTable.{Tells}

@@ -5,25 +5,14 @@ ghost use Rattle.records.specs.Kinds.{has_send};
 ghost use Rattle.links.specs.Fill.{fill_all};
 ghost use Rattle.trace.specs.Reading.{Acceptable};
 ghost use Rattle.order.specs.Fill.{events_in};
-ghost use Rattle.trace.specs.Reply.{Reply};
 ghost use Rattle.question.specs.loops.ChainPass.{ReadyChains, PassesChains};
 ghost use Rattle.question.specs.Question.{order_paper, order_trace};
 
-use crate::Answer;
 use crate::chains::{Passed, chain_pass};
 use crate::from_table::table_pass;
-use clocks::{has_space, relate};
+use clocks::{Relation, has_space, relate};
 use records::{EventId, Operation, access};
-use trace::Refusal;
-
-fn refused(number: u16, place: Operation) -> Answer
-    ensures { order_paper result ≡ Reply.refused number place.0 }
-{
-    Answer::Refused(Refusal {
-        number: number,
-        place: place,
-    })
-}
+use trace::{Reason, Refusal};
 
 // The chains of rows x and y: by links that deliver in order from the table, where a record is a send; else over the records.
 fn pass_chains(
@@ -56,7 +45,7 @@ pub(crate) fn ask(
     t: EventId,
     u: EventId,
     table: &[u64],
-) -> Answer
+) -> Result<Relation, Refusal>
     requires { Acceptable (decode recs.now) × (events ≡ events_in (decode recs.now)) × (sends ≡ has_send (decode recs.now)) ×
         (T sends → table.now ≡ (fill_all (decode recs.now)).words) }
     ensures { order_paper result ≡ order_trace (decode recs.now) events width clocks.now t.0 u.0 }
@@ -65,19 +54,19 @@ pub(crate) fn ask(
     let first = ranks::rank_of(&all, t);
     let second = ranks::rank_of(&all, u);
     if first == 0 {
-        return refused(trace::NOT_IN_TRACE, Operation(0));
+        return Err(Reason::NotInTrace.at(Operation(0)));
     }
     if second == 0 {
-        return refused(trace::NOT_IN_TRACE, Operation(0));
+        return Err(Reason::NotInTrace.at(Operation(0)));
     }
     if !has_space(width, events, clocks.len()) {
-        return refused(trace::CLOCK_SPACE, Operation(0));
+        return Err(Reason::ClockSpace.at(Operation(0)));
     }
     let x = first - 1;
     let y = second - 1;
     let passed = pass_chains(recs, events, sends, &all, x, y, width, table);
     if passed.position < access::count(recs) {
-        return refused(trace::CHAINS, Operation((passed.position + 1) as u16));
+        return Err(Reason::Chains.at(Operation((passed.position + 1) as u16)));
     }
-    Answer::Related(relate(clocks, width as u16, x, passed.first, y, passed.second))
+    Ok(relate(clocks, width as u16, x, passed.first, y, passed.second))
 }

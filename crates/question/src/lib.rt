@@ -13,33 +13,24 @@ ghost use Rattle.question.specs.Question.{order_paper, order_reply};
 
 use clocks::Relation;
 use links::{no_bits, no_words};
-use records::{EventId, access};
+use records::{EventId, Trace, access};
 use slices::zeros;
-use trace::{Reading, Refusal};
-
-// What the order question finds: which way round the two event actions stand, as the clocks have it.
-#[derive(Clone, Copy)]
-pub enum Answer {
-    Related(Relation),
-    Refused(Refusal),
-}
+use trace::Refusal;
 
 // The order question over a trace whose reading is at hand; where a record is a send, by the table.
 fn ask_read(
     bytes: &[u8],
-    reading: Reading,
+    reading: Result<Trace, Refusal>,
     width: usize,
     clocks: &[u16],
     t: EventId,
     u: EventId,
     table: &[u64],
-) -> Answer
+) -> Result<Relation, Refusal>
     requires { (paper reading ≡ read_reply bytes.now) × TellsLinks bytes.now table.now }
     ensures { order_paper result ≡ order_reply bytes.now width clocks.now t.0 u.0 }
 {
-    let Reading::Accepted(read) = reading else {
-        return Answer::Refused(trace::refusal_of(reading));
-    };
+    let read = reading?;
     ask::ask(
         access::records(bytes, read),
         read.events,
@@ -61,7 +52,7 @@ fn ask_linked(
     clocks: &[u16],
     t: EventId,
     u: EventId,
-) -> Answer
+) -> Result<Relation, Refusal>
     requires { passed ≤ 4096 }
     ensures { order_paper result ≡ order_reply bytes.now width clocks.now t.0 u.0 }
 {
@@ -75,7 +66,13 @@ fn ask_linked(
 }
 
 // The order question: over clocks that filling left, which of the events' actions happens before the other; over any others, the comparison of their rows.
-pub fn ask_order(bytes: &[u8], width: usize, clocks: &[u16], t: EventId, u: EventId) -> Answer
+pub fn ask_order(
+    bytes: &[u8],
+    width: usize,
+    clocks: &[u16],
+    t: EventId,
+    u: EventId,
+) -> Result<Relation, Refusal>
     ensures { order_paper result ≡ order_reply bytes.now width clocks.now t.0 u.0 }
 {
     let first = trace::read_plain(bytes);

@@ -4,7 +4,7 @@ use Rattle.records.specs.Bytes.{decode}
 use lib.ListN.{length}
 use native.Mathlib.Omega.{arith}
 use mathlib.Core.Path.{sym, ap, ◌∙◌}
-use Prim.Native.Nat.{◌-◌, ◌≤◌, ◌<◌}
+use Prim.Native.Nat.{◌≤◌, ◌<◌}
 use Rattle.question.proofs.chains.chain_pass.Goals as goal
 
 pub loop-i-init : goal.loop-i-init

@@ -3,7 +3,6 @@ use Rattle.question.specs.loops.Marking.{marks_down_in}
 use Rattle.records.specs.Bytes.{decode}
 use lib.ListN.{length}
 use mathlib.Core.Path.{◌≡◌}
-use Prim.Native.Nat.{◌-◌}
 use Rattle.question.proofs.chains.mark_before.Given as goal
 
 abbrev pub invariant-loop-j : goal.invariant-loop-j
