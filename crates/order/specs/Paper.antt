@@ -1,18 +1,17 @@
 -- Document 01's numbers and values for each case of the answers, and the promises of the public functions. Assumes nothing.
-use Rattle.std.specs.Prelude.{ℕ, ◌≡◌, List, Result, Ok, Err, length}
+use Rattle.std.specs.Prelude.{ℕ, ◌≡◌, List, Result, length}
 use Rattle.records.specs.declared.Trace.{Trace}
 use Rattle.trace.specs.declared.Refusal.{Refusal}
 use Rattle.ranks.specs.Ranks.{ranks_of}
-use Rattle.trace.specs.Reply.{Reply, refused, gives, unless}
-use Rattle.trace.specs.Paper.{number_of}
+use Rattle.trace.specs.Reply.{Reply, gives, unless}
+use Rattle.trace.specs.Paper.{paper}
 use Rattle.trace.specs.Reading.{records_in}
 use Rattle.order.specs.Fill.{chains_used, no_chains}
 use Rattle.order.specs.Lent.{on_clocks, clocks_after, chains_filled, fill_ready, fill_reply}
 use Rattle.order.specs.Prepare.{no_trace}
 
 abbrev pub fill_paper : Result ℕ Refusal → Reply ℕ
-fill_paper (Ok k) = gives k
-fill_paper (Err f) = refused (number_of f.reason) f.place.0
+fill_paper = paper
 
 -- filling: the answer and the lent clocks
 pub record Fills (b : List ℕ) (width : ℕ) (clocks clocks' : List ℕ) (r : Result ℕ Refusal) : Type 0 where

@@ -21,7 +21,8 @@ use records::{Operation, Trace, access};
 use slices::{clear, zeros};
 use trace::{Reason, Refusal};
 
-// What filling finds, the number of chains used or why it is refused, with the trace to go on with: the one that was read where the call passes 22, else one with no records.
+// What filling finds, the number of chains used or why it is refused, with the trace to go on with: the one that was read where the call passes 22,
+// else one with no records.
 #[derive(Clone, Copy)]
 pub struct Prepared {
     pub answer: Result<usize, Refusal>,

@@ -9,7 +9,7 @@ use borrow.Author.Tests.{le-leb, lt-leb, eq-eqb, ne_eqb}
 use lib.Dec.{eqb}
 use lib.ListN.{length, get_or, set, replicate, length-set, length-append, length-replicate}
 use lib.Seq.{get_or-set_same, get_or-set_other}
-use Rattle.slices.specs.Slices.{filled, zeros}
+use Rattle.slices.specs.Slices.{filled}
 use Rattle.slices.proofs.Cleared.{zeros-at, zeros-length}
 use Rattle.order.specs.Links.{Links, leq}
 use Rattle.order.specs.Chains.{lasts, chain, used}

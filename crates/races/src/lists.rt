@@ -5,9 +5,8 @@ ghost use Rattle.records.specs.Bytes.{decode};
 ghost use Rattle.records.specs.Records.{at};
 ghost use Rattle.records.specs.Kinds.{has_send};
 ghost use Rattle.order.specs.Fill.{events_in, chains_used};
-ghost use Rattle.trace.specs.Reply.{Reply};
 ghost use Rattle.races.specs.Lists.{entry_numbers, shape_of};
-ghost use Rattle.races.specs.Paper.{list_paper, Lists};
+ghost use Rattle.races.specs.Paper.{Lists};
 ghost use Rattle.races.specs.loops.ListsFilled.{ListsFilled};
 ghost use Rattle.races.specs.loops.ListPass.{listed_below, raw, Second, OneRoom, OneWrites, RoomIf, Writes, WritesAll, Ample, Counts, ListsAll};
 ghost use Rattle.races.specs.loops.Candidates.{Range};
@@ -15,13 +14,12 @@ ghost use Rattle.races.specs.loops.FilledClocks.{FilledClocks, OwnIs};
 
 use crate::candidates::{Firsts, take_access};
 use crate::racing::{Own, own_of, relation};
-use crate::{ENTRY_NUMBERS, Listing, Summary, raising};
+use crate::{ENTRY_NUMBERS, Summary, raising};
 use clocks::is_unordered;
-use order::Filling;
 use ranks::row_at;
 use records::{Operation, access, search};
 use slices::{clear, zeros};
-use trace::Refusal;
+use trace::{Reason, Refusal};
 
 // 1 for ww, 2 for wr, 3 for rw.
 fn shape_of(recs: &[u8], a: usize, b: usize) -> u16
@@ -234,26 +232,6 @@ fn write_all(
     found
 }
 
-fn refused(number: u16) -> Listing
-    ensures { list_paper result ≡ Reply.refused number 0 }
-{
-    Listing::Refused(Refusal {
-        number: number,
-        place: Operation(0),
-    })
-}
-
-fn listed(events: usize, records: usize, chains: usize, count: usize) -> Listing
-    ensures { list_paper result ≡ Reply.gives (record { events = events; records = records; chains = chains; count = count }) }
-{
-    Listing::Listed(Summary {
-        events: events,
-        records: records,
-        chains: chains,
-        count: count,
-    })
-}
-
 // The list of a trace whose clocks are filled.
 fn list_filled(
     recs: &[u8],
@@ -266,7 +244,7 @@ fn list_filled(
     list: &mut [u16],
     short: bool,
     sends: bool,
-) -> Listing
+) -> Result<Summary, Refusal>
     requires { FilledClocks (decode recs.now) ranks.now chosen.now width clocks.old × (events ≡ events_in (decode recs.now)) ×
         (chains ≡ chains_used (decode recs.now)) × (sends ≡ has_send (decode recs.now)) }
     ensures { ListsFilled short (decode recs.now) events clocks.old clocks.new list.old
@@ -274,16 +252,26 @@ fn list_filled(
 {
     let counted = count_all(recs, ranks, chosen, width, clocks, list, short);
     if list.len() / ENTRY_NUMBERS < counted {
-        return refused(trace::LIST_SPACE);
+        return Err(Reason::ListSpace.at(Operation(0)));
     }
     let records = access::count(recs);
     if counted == 0 {
-        return listed(events, records, chains, 0);
+        return Ok(Summary {
+            events,
+            records,
+            chains,
+            count: 0,
+        });
     }
     let found = write_all(
         recs, ranks, chosen, events, width, clocks, list, short, sends,
     );
-    listed(events, records, chains, found)
+    Ok(Summary {
+        events,
+        records,
+        chains,
+        count: found,
+    })
 }
 
 // The short list, or the list of all races.
@@ -294,7 +282,7 @@ pub(crate) fn list_races(
     work: &mut [u8],
     list: &mut [u16],
     short: bool,
-) -> Listing
+) -> Result<Summary, Refusal>
     ensures { Lists short bytes.now width clocks.old clocks.new work.old work.new
         list.old list.new result }
 {
@@ -313,10 +301,7 @@ pub(crate) fn list_races(
     let t = prepared.trace;
     let events = t.events;
     clear(work, events);
-    let answer = prepared.answer;
-    let Filling::Filled(chains) = answer else {
-        return Listing::Refused(order::refusal_of(answer));
-    };
+    let chains = prepared.answer?;
     let recs = access::records(bytes, t);
     list_filled(
         recs, events, width, clocks, &chosen, &ranks, chains, list, short, t.sends,

@@ -12,7 +12,7 @@ ghost use Rattle.recorder.specs.Recording.{of_kind, before, judged};
 use crate::Recorder;
 use links::begin_blocked;
 use records::{EventId, Operation, Record, access};
-use trace::{Checked, Refusal, rule};
+use trace::{Reason, Refusal, rule};
 
 // Is one of the records of that kind, for event e?
 fn seen(recs: &[u8], kind: u8, e: EventId) -> bool
@@ -66,27 +66,24 @@ fn forks(kind: u8) -> bool
 }
 
 // 31 for a begin that passes 4 to 8.
-fn with_links(recs: &[u8], op: Operation, rec: Record, checked: Checked) -> Checked
+fn with_links(
+    recs: &[u8],
+    op: Operation,
+    rec: Record,
+    checked: Result<u8, Refusal>,
+) -> Result<u8, Refusal>
     ensures { checked_paper result ≡ then (checked_paper checked)
         (λ s. demand (not (eqb rec.kind 1 && begin_blocked (decode recs.now) rec.first)) 31 op.0 (gives s)) }
 {
-    let Checked::Next(_) = checked else {
-        return checked;
-    };
-    if rec.kind != 1 {
-        return checked;
+    let next = checked?;
+    if rec.kind == 1 && begin_blocked(recs, EventId(rec.first)) {
+        return Err(Reason::Behind.at(op));
     }
-    if !begin_blocked(recs, EventId(rec.first)) {
-        return checked;
-    }
-    Checked::Refused(Refusal {
-        number: trace::BEHIND,
-        place: op,
-    })
+    Ok(next)
 }
 
 // The check of a record after the first n; what has begun and ended is looked for only where the rules ask.
-pub(crate) fn check(bytes: &[u8], n: usize, r: Recorder, rec: Record) -> Checked
+pub(crate) fn check(bytes: &[u8], n: usize, r: Recorder, rec: Record) -> Result<u8, Refusal>
     requires { n ≤ 4096 }
     ensures { checked_paper result ≡ or_else (judged bytes.now n r rec) (n + 1) (gives (place r.situation rec.kind)) }
 {

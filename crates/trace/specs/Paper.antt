@@ -1,7 +1,6 @@
 -- Document 01's number and place for each case of the answers.
 -- Assumes nothing.
 use Rattle.std.specs.Prelude.{ℕ, Result, Ok, Err}
-use Rattle.records.specs.declared.Trace.{Trace}
 use Rattle.trace.specs.declared.Reason.{Reason}
 use Rattle.trace.specs.declared.Reason.TheVariants.{
   NoTrailer,
@@ -46,14 +45,13 @@ number_of Closed = 26
 number_of Behind = 31
 
 -- "A refusal gives its number and a record number"
-abbrev pub paper : Result Trace Refusal → Reply Trace
-paper (Ok t) = gives t
+abbrev pub paper : {A : Type 0} → Result A Refusal → Reply A
+paper (Ok x) = gives x
 paper (Err f) = refused (number_of f.reason) f.place.0
 
 -- one record's check: the next situation
 abbrev pub checked_paper : Result ℕ Refusal → Reply ℕ
-checked_paper (Ok s) = gives s
-checked_paper (Err f) = refused (number_of f.reason) f.place.0
+checked_paper = paper
 
 -- the number of a rule's refusal, or 0 where the record passes
 abbrev pub code : Result Unit Reason → ℕ

@@ -12,7 +12,7 @@ pub slice_bounds-ask_read-end : goal.slice_bounds-ask_read-end
 slice_bounds-ask_read-end t c = sym c.read_linked-reading.ensures.1.long
 
 pub ask_read-requires : goal.ask_read-requires
-ask_read-requires t c = let e = c.read_linked-reading.ensures in (e.0, λ x a s. (e.1.accepted x a).1)
+ask_read-requires t c = let e = c.read_linked-reading.ensures in (e.0, λ x a. (e.1.accepted x a).1)
 
 pub returns : goal.returns
 returns t c = c.ask_read.ensures
