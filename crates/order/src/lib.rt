@@ -29,36 +29,35 @@ pub struct Prepared {
     pub trace: Trace,
 }
 
-// Are all records from the lowest to the highest asked about in a trace of that many records? From 1 to 0 none is asked about.
-fn has_records(records: usize, lowest: u16, highest: u16) -> bool
-    ensures { result ≡ asked lowest highest records }
-{
-    if lowest < 1 {
-        return false;
-    }
-    (highest as usize) <= records
+// What a call asks about and is lent: the records from the lowest to the highest, from 1 to 0 none; the width of its clocks; the bytes of its work space.
+#[derive(Clone, Copy)]
+pub struct Call {
+    pub lowest: Operation,
+    pub highest: Operation,
+    pub width: usize,
+    pub room: usize,
 }
 
-// A reading for a call that asks about those records and is lent `space` clocks and `room` bytes: 11 where a record is not in the trace, 21 where the
+// Are all records that are asked about in a trace of that many records?
+fn has_records(call: Call, records: usize) -> bool
+    ensures { result ≡ asked call.lowest.0 call.highest.0 records }
+{
+    1 <= call.lowest.0 && (call.highest.0 as usize) <= records
+}
+
+// A reading for a call that is lent `space` clocks: 11 where a record is not in the trace, 21 where the
 // rows do not fit the clocks, 22 where there are more event actions than bytes.
-fn read_within(
-    reading: Result<Trace, Refusal>,
-    lowest: u16,
-    highest: u16,
-    width: usize,
-    space: usize,
-    room: usize,
-) -> Result<Trace, Refusal>
-    ensures { paper result ≡ within (paper reading) lowest highest width space room }
+fn read_within(reading: Result<Trace, Refusal>, call: Call, space: usize) -> Result<Trace, Refusal>
+    ensures { paper result ≡ within (paper reading) call.lowest.0 call.highest.0 call.width space call.room }
 {
     let t = reading?;
-    if !has_records(t.records, lowest, highest) {
+    if !has_records(call, t.records) {
         return Err(Reason::NotInTrace.at(Operation(0)));
     }
-    if !clocks::has_space(width, t.events, space) {
+    if !clocks::has_space(call.width, t.events, space) {
         return Err(Reason::ClockSpace.at(Operation(0)));
     }
-    if room < t.events {
+    if call.room < t.events {
         return Err(Reason::WorkSpace.at(Operation(0)));
     }
     Ok(t)
@@ -68,20 +67,17 @@ fn read_within(
 fn fill_within(
     bytes: &[u8],
     reading: Result<Trace, Refusal>,
-    lowest: u16,
-    highest: u16,
-    width: usize,
-    room: usize,
+    call: Call,
     clocks: &mut [u16],
     chosen: &mut [u16],
     ranks: &mut [u16; 1025],
     table: Option<&[u64]>,
 ) -> Prepared
     requires { (paper reading ≡ read_reply bytes.now) × (chosen.old ≡ no_chains) × TellsLinks bytes.now (option_copied table) }
-    ensures { Prepares bytes.now (read_within bytes.now lowest highest width (length clocks.old) room)
-        width clocks.old clocks.new chosen.new ranks.old ranks.new result.answer result.trace }
+    ensures { Prepares bytes.now (read_within bytes.now call.lowest.0 call.highest.0 call.width (length clocks.old) call.room)
+        call.width clocks.old clocks.new chosen.new ranks.old ranks.new result.answer result.trace }
 {
-    let ready = read_within(reading, lowest, highest, width, clocks.len(), room);
+    let ready = read_within(reading, call, clocks.len());
     let t = match ready {
         Ok(t) => t,
         Err(why) => return rows::unfilled(why),
@@ -89,7 +85,7 @@ fn fill_within(
     let answer = rows::fill_rows(
         access::records(bytes, t),
         t.events,
-        width,
+        call.width,
         clocks,
         chosen,
         ranks,
@@ -105,51 +101,40 @@ fn fill_within(
 // stack.
 fn prepare_linked(
     bytes: &[u8],
-    lowest: u16,
-    highest: u16,
-    width: usize,
-    room: usize,
+    call: Call,
     clocks: &mut [u16],
     chosen: &mut [u16],
     ranks: &mut [u16; 1025],
 ) -> Prepared
     requires { chosen.old ≡ no_chains }
-    ensures { Prepares bytes.now (read_within bytes.now lowest highest width (length clocks.old) room)
-        width clocks.old clocks.new chosen.new ranks.old ranks.new result.answer result.trace }
+    ensures { Prepares bytes.now (read_within bytes.now call.lowest.0 call.highest.0 call.width (length clocks.old) call.room)
+        call.width clocks.old clocks.new chosen.new ranks.old ranks.new result.answer result.trace }
 {
     let mut read_ranks = zeros::<u16, 1025>();
     let mut table = no_bits();
     let reading = trace::read_linked(bytes, &mut read_ranks, &mut table);
-    fill_within(
-        bytes, reading, lowest, highest, width, room, clocks, chosen, ranks, Some(&table),
-    )
+    fill_within(bytes, reading, call, clocks, chosen, ranks, Some(&table))
 }
 
-// Reads the trace once and fills the lent clocks, for a call that asks about the records from `low` to `high` and has a work space of `room`
-// bytes: 11 comes before 21, and 22 between 21 and 23. Gives the chain of each row in `chosen`, and the ranks of all events in `ranks` where the call
-// passes 22.
+// Reads the trace once and fills the lent clocks, for a call: 11 comes before 21, and 22 between 21 and 23. Gives the chain of each row in `chosen`,
+// and the ranks of all events in `ranks` where the call passes 22.
 pub fn prepare(
     bytes: &[u8],
-    low: Operation,
-    high: Operation,
-    width: usize,
-    room: usize,
+    call: Call,
     clocks: &mut [u16],
     chosen: &mut [u16; 1024],
     ranks: &mut [u16; 1025],
 ) -> Prepared
-    ensures { Prepares bytes.now (read_within bytes.now low.0 high.0 width (length clocks.old) room)
-        width clocks.old clocks.new chosen.new ranks.old ranks.new result.answer result.trace }
+    ensures { Prepares bytes.now (read_within bytes.now call.lowest.0 call.highest.0 call.width (length clocks.old) call.room)
+        call.width clocks.old clocks.new chosen.new ranks.old ranks.new result.answer result.trace }
 {
     clear(chosen, 1024);
     let first = trace::read_plain(bytes);
     if first.sends {
-        return prepare_linked(bytes, low.0, high.0, width, room, clocks, chosen, ranks);
+        return prepare_linked(bytes, call, clocks, chosen, ranks);
     }
     let reading = first.reading;
-    fill_within(
-        bytes, reading, low.0, high.0, width, room, clocks, chosen, ranks, None,
-    )
+    fill_within(bytes, reading, call, clocks, chosen, ranks, None)
 }
 
 // Fills the lent clocks with the clock rows of the trace. No trace has more event actions than 1,024.
@@ -158,23 +143,18 @@ pub fn fill(bytes: &[u8], width: usize, clocks: &mut [u16]) -> Result<usize, Ref
 {
     let mut chosen = zeros::<u16, 1024>();
     let mut ranks = zeros::<u16, 1025>();
+    let call = Call {
+        lowest: Operation(1),
+        highest: Operation(0),
+        width: width,
+        room: 1024,
+    };
     let first = trace::read_plain(bytes);
     if first.sends {
-        let prepared = prepare_linked(bytes, 1, 0, width, 1024, clocks, &mut chosen, &mut ranks);
+        let prepared = prepare_linked(bytes, call, clocks, &mut chosen, &mut ranks);
         return prepared.answer;
     }
     let reading = first.reading;
-    let prepared = fill_within(
-        bytes,
-        reading,
-        1,
-        0,
-        width,
-        1024,
-        clocks,
-        &mut chosen,
-        &mut ranks,
-        None,
-    );
+    let prepared = fill_within(bytes, reading, call, clocks, &mut chosen, &mut ranks, None);
     prepared.answer
 }

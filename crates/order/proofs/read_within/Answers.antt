@@ -29,15 +29,15 @@ returns-then-not-has_space c =
     let space = sym c.has_space.ensures ∙ c.if-not-has_space.true in
     rw (c.at-then-not-has_space.ensures, ← e, records, space)
 
-pub returns-then-room-t : goal.returns-then-room-t
+pub returns-then-call-t : goal.returns-then-call-t
 unfolding within spaced spaces then demand
-returns-then-room-t c =
+returns-then-call-t c =
     let at-space = c in
     let at_records = at-space in
     let e = sym (ap paper at_records.in_ok-t.was) in
     let records = sym at_records.has_records.ensures ∙ at-space.if-not-has_records.false in
     let space = sym at-space.has_space.ensures ∙ c.if-not-has_space.false in
-    rw (c.at-then-room-t.ensures, ← e, records, space, lt-leb _ _ c.if-room-t.true)
+    rw (c.at-then-call-t.ensures, ← e, records, space, lt-leb _ _ c.if-call-t.true)
 
 pub returns : goal.returns
 unfolding within spaced spaces then demand
@@ -47,4 +47,4 @@ returns c =
     let e = sym (ap paper at_records.in_ok-t.was) in
     let records = sym at_records.has_records.ensures ∙ at-space.if-not-has_records.false in
     let space = sym at-space.has_space.ensures ∙ c.if-not-has_space.false in
-    rw (← e, records, space, le-leb _ _ c.if-room-t.false)
+    rw (← e, records, space, le-leb _ _ c.if-call-t.false)
