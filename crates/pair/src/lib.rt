@@ -8,33 +8,31 @@ mod racing;
 ghost use Rattle.std.specs.Prelude.{◌≡◌, ◌+◌, ◌*◌, ◌≤◌, ◌<◌, length, get_or, set};
 ghost use Rattle.records.specs.Bytes.{decode};
 ghost use Rattle.ranks.specs.Ranks.{ranks_of};
-ghost use Rattle.trace.specs.Reply.{Reply};
 ghost use Rattle.order.specs.Fill.{chains_used};
 ghost use Rattle.order.specs.Paper.{Prepares};
 ghost use Rattle.coverage.specs.Race.{raceb};
 ghost use Rattle.coverage.specs.Leading.{entries};
 ghost use Rattle.races.specs.Traces.{setting_of};
 ghost use Rattle.races.specs.loops.FilledClocks.{FilledClocks, rows, Clear};
-ghost use Rattle.pair.specs.Pair.{entry_numbers, pair_paper, with_entries, kept_entries, pair_ready, PairPromise};
+ghost use Rattle.pair.specs.Pair.{entry_numbers, with_entries, kept_entries, pair_ready, PairPromise};
 ghost use Rattle.pair.specs.loops.Answers.{AnswersFilled};
 ghost use Rattle.pair.specs.loops.PairSearch.{PutsEnd};
 ghost use Rattle.pair.specs.loops.Leading.{Marks};
 
-use order::{Filling, Prepared};
+use order::Prepared;
 use ranks::row_at;
 use records::{Operation, access};
 use slices::{clear, zeros};
-use trace::Refusal;
+use trace::{Reason, Refusal};
 
 // An entry's numbers: an event and its last record, or a race's two records.
 pub const ENTRY_NUMBERS: usize = 2;
 
-// What the pair question finds: open or covered, with the number of entries given, or why it is refused.
-#[derive(Clone, Copy)]
-pub enum PairAnswer {
+// What the pair question finds of a race, with the number of entries given.
+#[derive(Clone, Copy, PartialEq, Eq)]
+pub enum Verdict {
     Open(usize),
     Covered(usize),
-    Refused(Refusal),
 }
 
 // Writes entry k of the list space.
@@ -97,15 +95,6 @@ fn is_race_in_order(
     racing::is_race(recs, ranks, chosen, width, clocks, a, b)
 }
 
-fn refused(number: u16) -> PairAnswer
-    ensures { pair_paper result ≡ Reply.refused number 0 }
-{
-    PairAnswer::Refused(Refusal {
-        number: number,
-        place: Operation(0),
-    })
-}
-
 // Records a and b of an accepted trace whose clocks are filled, over a work space that is 0 for its event actions. The table of ranks is lent for what leads
 // to b, and filled again before a cover is looked for.
 fn ask_filled(
@@ -120,17 +109,17 @@ fn ask_filled(
     list: &mut [u16],
     a: usize,
     b: usize,
-) -> PairAnswer
+) -> Result<Verdict, Refusal>
     requires filled_clocks { FilledClocks (decode recs.now) ranks.old chosen.now width clocks.now × (chains ≡ chains_used (decode recs.now))
         × (b < length (decode recs.now)) }
     requires clear { Clear (decode recs.now) events work.old }
     ensures { AnswersFilled (decode recs.now) events a b list.old list.new result × (work.new ≡ work.old) }
 {
     if !is_race_in_order(recs, ranks, chosen, width, clocks, a, b) {
-        return refused(trace::NO_RACE);
+        return Err(Reason::NoRace.at(Operation(0)));
     }
     if list.len() / ENTRY_NUMBERS < events {
-        return refused(trace::LIST_SPACE);
+        return Err(Reason::ListSpace.at(Operation(0)));
     }
     let t = row_at(recs, ranks, a);
     let u = row_at(recs, ranks, b);
@@ -139,11 +128,11 @@ fn ask_filled(
         ranks::fill_ranks(recs, ranks);
         let count = cover::put_cover(recs, ranks, chosen, width, clocks, work, list, a, b);
         clear(work, events);
-        return PairAnswer::Covered(count);
+        return Ok(Verdict::Covered(count));
     }
     let count = put_kept(recs, work, b, list);
     clear(work, events);
-    PairAnswer::Open(count)
+    Ok(Verdict::Open(count))
 }
 
 // Reads the trace and fills the clocks, for a question about records a and b.
@@ -174,7 +163,7 @@ pub fn ask_pair(
     list: &mut [u16],
     a: Operation,
     b: Operation,
-) -> PairAnswer
+) -> Result<Verdict, Refusal>
     ensures { PairPromise bytes.now width clocks.old clocks.new
         work.old work.new list.old list.new a.0 b.0 result }
 {
@@ -185,10 +174,7 @@ pub fn ask_pair(
     let t = prepared.trace;
     let events = t.events;
     clear(work, events);
-    let answer = prepared.answer;
-    let Filling::Filled(chains) = answer else {
-        return PairAnswer::Refused(order::refusal_of(answer));
-    };
+    let chains = prepared.answer?;
     let i = (a.0 - 1) as usize;
     let j = (b.0 - 1) as usize;
     ask_filled(

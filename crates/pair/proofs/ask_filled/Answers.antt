@@ -7,12 +7,12 @@ use Rattle.pair.proofs.ask_filled.Goals as goal
 pub returns-then-not-is_race_in_order : goal.returns-then-not-is_race_in_order
 returns-then-not-is_race_in_order c =
     let s = c in
-    (no_race (decode s.args.recs.now) s.args.events s.args.a s.args.b s.args.list.now c.refused.result (sym c.is_race_in_order.ensures ∙ c.if-not-is_race_in_order.true) c.refused.ensures, refl)
+    (no_race (decode s.args.recs.now) s.args.events s.args.a s.args.b s.args.list.now _ (sym c.is_race_in_order.ensures ∙ c.if-not-is_race_in_order.true) (rw c.at.ensures), refl)
 
 pub returns-then-list-events : goal.returns-then-list-events
 returns-then-list-events c =
     let s = c in
-    (no-list (decode s.args.recs.now) s.args.events s.args.a s.args.b s.args.list.now c.refused-then-list-events.result (sym c.is_race_in_order.ensures ∙ c.if-not-is_race_in_order.false) c.if-list-events.true c.refused-then-list-events.ensures, refl)
+    (no-list (decode s.args.recs.now) s.args.events s.args.a s.args.b s.args.list.now _ (sym c.is_race_in_order.ensures ∙ c.if-not-is_race_in_order.false) c.if-list-events.true (rw c.at-then-list-events.ensures), refl)
 
 pub mark_leading-requires : goal.mark_leading-requires
 mark_leading-requires c =
