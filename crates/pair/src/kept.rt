@@ -15,14 +15,12 @@ pub(crate) fn block_start(recs: &[u8], i: usize) -> usize
     ensures { Starts (decode recs.now) result i }
 {
     let e = access::event_at(recs, i);
-    let mut lo = i;
-    while 0 < lo {
-        if access::event_at(recs, lo - 1).0 != e.0 {
-            return lo;
+    for before in (0..i).rev() {
+        if access::event_at(recs, before).0 != e.0 {
+            return before + 1;
         }
-        lo -= 1;
     }
-    lo
+    0
 }
 
 // A cell's byte is 2 where a kept access writes it, 1 where kept accesses only read it.
@@ -47,13 +45,11 @@ fn note(recs: &[u8], lo: usize, hi: usize, cells: &mut [u8])
     if access::count(recs) < hi {
         return;
     }
-    let mut i = lo;
-    while i < hi {
+    for i in lo..hi {
         let kind = access::base_kind_at(recs, i);
         if 4 < kind {
             note_access(cells, kind, access::cell_at(recs, i).0 as usize);
         }
-        i += 1;
     }
 }
 
@@ -77,24 +73,15 @@ fn have_conflict(recs: &[u8], lo: usize, hi: usize, cells: &[u8]) -> bool
     if access::count(recs) < hi {
         return false;
     }
-    let mut i = lo;
-    while i < hi {
-        if has_conflict(recs, cells, i) {
-            return true;
-        }
-        i += 1;
-    }
-    false
+    (lo..hi).any(|i| has_conflict(recs, cells, i))
 }
 
 fn merge_part(part: &[u16], row: &mut [u16], chains: usize)
     requires { (chains ≤ length part.now) × (chains ≤ length row.old) }
     ensures { Merged part.now 0 chains row.old row.new }
 {
-    let mut c = 0;
-    while c < chains {
+    for c in 0..chains {
         row[c] = larger(row[c], part[c]);
-        c += 1;
     }
 }
 
@@ -154,10 +141,8 @@ fn pass_down(
     ensures { PassesAll (decode recs.now) chosen.now width chains clocks.now u end
         work.old row.old cells.old work.new row.new cells.new }
 {
-    let mut t = u;
     let mut hi = end;
-    while 0 < t {
-        t -= 1;
+    for t in (0..u).rev() {
         let lo = block_start(recs, hi - 1);
         pass_row(
             recs, chosen, width, chains, clocks, work, row, cells, t, lo, hi,

@@ -68,13 +68,11 @@ fn put_kept(recs: &[u8], work: &[u8], b: usize, list: &mut [u16]) -> usize
 {
     let mut k = 0;
     let mut t = 0;
-    let mut i = 0;
-    while i < b {
+    for i in 0..b {
         if access::kind_at(recs, i) == 2 {
             k = put_end(recs, work, t, i, list, k);
             t += 1;
         }
-        i += 1;
     }
     put_entry(list, k, access::event_at(recs, b).0, (b + 1) as u16);
     k + 1

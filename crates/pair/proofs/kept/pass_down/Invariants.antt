@@ -6,6 +6,3 @@ use Rattle.pair.proofs.kept.pass_down.Given as goal
 
 abbrev pub invariant-loop-t : goal.invariant-loop-t
 invariant-loop-t l = Passes (decode l.recs) l.chosen l.width l.chains l.clocks l.u l.end l.t l.hi l.initial.work l.initial.row l.initial.cells l.work l.row l.cells × Split (decode l.recs) l.t l.hi × (l.t ≤ rows (decode l.recs))
-
-abbrev pub decreases-loop-t : goal.decreases-loop-t
-decreases-loop-t l = l.t
