@@ -2,6 +2,7 @@
 #![tactic(auto)]
 
 mod cover;
+mod filled;
 mod kept;
 mod racing;
 
@@ -11,7 +12,6 @@ ghost use Rattle.ranks.specs.Ranks.{ranks_of};
 ghost use Rattle.trace.specs.Reply.{Reply};
 ghost use Rattle.order.specs.Fill.{chains_used};
 ghost use Rattle.order.specs.Paper.{Prepares};
-ghost use Rattle.coverage.specs.Race.{raceb};
 ghost use Rattle.coverage.specs.Leading.{entries};
 ghost use Rattle.races.specs.Traces.{setting_of};
 ghost use Rattle.races.specs.loops.FilledClocks.{FilledClocks, rows, Clear};
@@ -20,6 +20,7 @@ ghost use Rattle.pair.specs.loops.Answers.{AnswersFilled};
 ghost use Rattle.pair.specs.loops.PairSearch.{PutsEnd};
 ghost use Rattle.pair.specs.loops.Leading.{Marks};
 
+use crate::filled::{Filled, Rows};
 use order::{Filling, Prepared};
 use ranks::row_at;
 use records::{Operation, access};
@@ -78,25 +79,6 @@ fn put_kept(recs: &[u8], work: &[u8], b: usize, list: &mut [u16]) -> usize
     k + 1
 }
 
-// Are records a and b a race, first then second?
-fn is_race_in_order(
-    recs: &[u8],
-    ranks: &[u16],
-    chosen: &[u16],
-    width: usize,
-    clocks: &[u16],
-    a: usize,
-    b: usize,
-) -> bool
-    requires { FilledClocks (decode recs.now) ranks.now chosen.now width clocks.now × (b < length (decode recs.now)) }
-    ensures { result ≡ raceb (setting_of (decode recs.now)) a b }
-{
-    if b <= a {
-        return false;
-    }
-    racing::is_race(recs, ranks, chosen, width, clocks, a, b)
-}
-
 fn refused(number: u16) -> PairAnswer
     ensures { pair_paper result ≡ Reply.refused number 0 }
 {
@@ -111,22 +93,21 @@ fn refused(number: u16) -> PairAnswer
 fn ask_filled(
     recs: &[u8],
     ranks: &mut [u16; 1025],
-    chosen: &[u16],
+    rows: Rows<'_>,
     events: usize,
-    width: usize,
     chains: usize,
-    clocks: &[u16],
     work: &mut [u8],
     list: &mut [u16],
     a: usize,
     b: usize,
 ) -> PairAnswer
-    requires filled_clocks { FilledClocks (decode recs.now) ranks.old chosen.now width clocks.now × (chains ≡ chains_used (decode recs.now))
+    requires filled_clocks { FilledClocks (decode recs.now) ranks.old rows.chosen.now rows.width rows.clocks.now × (chains ≡ chains_used (decode recs.now))
         × (b < length (decode recs.now)) }
     requires clear { Clear (decode recs.now) events work.old }
     ensures { AnswersFilled (decode recs.now) events a b list.old list.new result × (work.new ≡ work.old) }
 {
-    if !is_race_in_order(recs, ranks, chosen, width, clocks, a, b) {
+    let filled = Filled { recs, ranks, rows };
+    if !filled.is_race(a, b) {
         return refused(trace::NO_RACE);
     }
     if list.len() / ENTRY_NUMBERS < events {
@@ -134,10 +115,10 @@ fn ask_filled(
     }
     let t = row_at(recs, ranks, a);
     let u = row_at(recs, ranks, b);
-    kept::mark_leading(recs, chosen, width, chains, clocks, work, ranks, u, b);
+    kept::mark_leading(recs, rows, chains, work, ranks, u, b);
     if work[t] == 1 {
         ranks::fill_ranks(recs, ranks);
-        let count = cover::put_cover(recs, ranks, chosen, width, clocks, work, list, a, b);
+        let count = cover::put_cover(Filled { recs, ranks, rows }, work, list, a, b);
         clear(work, events);
         return PairAnswer::Covered(count);
     }
@@ -194,11 +175,13 @@ pub fn ask_pair(
     ask_filled(
         access::records(bytes, t),
         &mut ranks,
-        &chosen,
+        Rows {
+            chosen: &chosen,
+            width,
+            clocks,
+        },
         events,
-        width,
         chains,
-        clocks,
         work,
         list,
         i,
