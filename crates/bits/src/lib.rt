@@ -1,20 +1,10 @@
 // A table of bits, a triangle of 1,024 rows, and four sets of numbers below 1,024, in words of 64 bits.
 #![tactic(auto)]
 
-ghost use Rattle.std.specs.Prelude.{◌≡◌, ◌+◌, ◌≤◌, ◌<◌, length, get_or};
+ghost use Rattle.std.specs.Prelude.{◌≡◌, ◌+◌, ◌≤◌, ◌<◌, length};
 ghost use Rattle.slices.specs.Slices.{zeros};
 ghost use Rattle.bits.specs.Words.{bit_at, with_bit, or_from, or_others};
 ghost use Rattle.bits.specs.Table.{row_start, bit_of, put_bit, or_row, member, or_set};
-
-// The word at a place; past the end 0.
-fn word(words: &[u64], at: usize) -> u64
-    ensures { result ≡ get_or words.now at 0 }
-{
-    if at < words.len() {
-        return words[at];
-    }
-    0
-}
 
 // Is bit k of a word set?
 fn bit(w: u64, k: usize) -> bool
@@ -70,12 +60,7 @@ fn row_start(u: usize) -> usize
 pub fn clear(words: &mut [u64])
     ensures { words.new ≡ zeros (length words.old) }
 {
-    let n = words.len();
-    let mut i = 0;
-    while i < n {
-        words[i] = 0;
-        i += 1;
-    }
+    words.fill(0);
 }
 
 // Is p in row u?
@@ -90,7 +75,7 @@ pub fn get(table: &[u64], p: usize, u: usize) -> bool
     }
     let at = row_start(u) + p / 64;
     if table.len() < 8704 {
-        return bit(word(table, at), p % 64);
+        return bit(slices::get(table, at), p % 64);
     }
     bit(table[at], p % 64)
 }
@@ -137,7 +122,7 @@ pub fn has(sets: &[u64], l: usize, x: usize) -> bool
     if 1024 <= x {
         return false;
     }
-    let w = word(sets, 16 * l + x / 64);
+    let w = slices::get(sets, 16 * l + x / 64);
     bit(w, x % 64)
 }
 

@@ -5,7 +5,7 @@ ghost use Rattle.std.specs.Prelude.{◌≡◌, ◌&&◌, ◌+◌, ◌*◌, ◌<�
 ghost use Rattle.clocks.specs.Rows.{space_for, has_row, reach, merge_row, one_more, span, copy_row, clear_row, clear_rows};
 ghost use Rattle.clocks.specs.WayRound.{relation_paper, relate_entries, relate_in, says_unordered, says_before};
 
-use slices::numbers::{clear, get, larger};
+use slices::{clear, get};
 
 // Whether the width is in range and that many rows fit the clock space.
 pub fn has_space(width: usize, events: usize, space: usize) -> bool
@@ -93,7 +93,7 @@ fn raise(row: &mut [u16], c: usize, value: u16)
     requires { c < length row.old }
     ensures { row.new ≡ set row.old c (max (get_or row.old c 0) value) }
 {
-    row[c] = larger(row[c], value);
+    row[c] = row[c].max(value);
 }
 
 // One entry of a row becomes the value.

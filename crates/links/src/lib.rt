@@ -13,8 +13,7 @@ ghost use Rattle.links.specs.Begin.{send_to, last_send, Mayed, may, table_blocke
 use bits::{clear, get, has, or_row, or_set, put};
 use ranks::{fill_ranks, rank_of, ranks};
 use records::{EventId, RECORD_BYTES, access};
-use slices::numbers;
-use slices::zeros::numbers_1025;
+use slices::zeros;
 
 // The event of rank u comes behind that of rank t; true where that has not begun.
 fn put_behind(table: &mut [u64], t: u16, u: u16) -> bool
@@ -112,18 +111,11 @@ fn link_walk(
     false
 }
 
-// Four empty sets.
-fn no_sets() -> [u64; 64]
-    ensures { result ≡ zeros 64 }
-{
-    [0; 64]
-}
-
 fn link_rule(recs: &[u8], ranks: &[u16], from: usize, e: EventId, u: u16, table: &mut [u64]) -> bool
     ensures { Leaves (walk (decode recs.now) (rank_in ranks.now) e.0 u from
         table.old (zeros 64)) result table.new }
 {
-    let mut sets = no_sets();
+    let mut sets = zeros::<u64, 64>();
     link_walk(recs, ranks, from, e, u, table, &mut sets)
 }
 
@@ -169,7 +161,7 @@ fn fill_record(recs: &[u8], ranks: &[u16], i: usize, table: &mut [u64], last: &m
     let kind = access::kind_at(recs, i);
     let e = access::event_at(recs, i);
     if kind == 1 {
-        let from = numbers::get(last, e.0 as usize);
+        let from = slices::get(last, e.0 as usize);
         return begin_row(recs, ranks, from as usize, e, table);
     }
     let target = access::target_at(recs, i);
@@ -188,7 +180,7 @@ fn fill_record(recs: &[u8], ranks: &[u16], i: usize, table: &mut [u64], last: &m
         return false;
     }
     link_events(ranks, e, target, table);
-    numbers::put(last, target.0 as usize, ((i + 1) % 65536) as u16);
+    slices::put(last, target.0 as usize, ((i + 1) % 65536) as u16);
     false
 }
 
@@ -214,7 +206,7 @@ pub fn fill(recs: &[u8], ranks: &[u16], table: &mut [u64]) -> usize
         table.old (zeros 1025)) result table.new }
 {
     let n = access::count(recs);
-    let mut last = numbers_1025();
+    let mut last = zeros::<u16, 1025>();
     fill_rows(recs, ranks, n, table, &mut last)
 }
 
@@ -231,14 +223,14 @@ pub fn fill_all(recs: &[u8], ranks: &mut [u16; 1025], table: &mut [u64; 8704]) -
 pub fn no_bits() -> [u64; 8704]
     ensures { result ≡ zeros 8704 }
 {
-    [0; 8704]
+    zeros::<u64, 8704>()
 }
 
 // No table, for a trace without sends.
 pub fn no_words() -> [u64; 1]
     ensures { result ≡ zeros 1 }
 {
-    [0; 1]
+    zeros::<u64, 1>()
 }
 
 // The position of the first begin that 31 refuses, or the number of records, with a table of its own. Bytes past the last whole record count for nothing:
@@ -301,13 +293,13 @@ fn may_turn(recs: &[u8], ranks: &[u16], j: usize, e: EventId, sent: &mut [u16]) 
     }
     let target = access::target_at(recs, j);
     if target.0 == e.0 {
-        numbers::put(sent, (kind - 16) as usize, 1);
+        slices::put(sent, (kind - 16) as usize, 1);
         return false;
     }
     if rank_of(ranks, target) != 0 {
         return false;
     }
-    if numbers::get(sent, (kind - 16) as usize) == 1 {
+    if slices::get(sent, (kind - 16) as usize) == 1 {
         return true;
     }
     false
@@ -326,18 +318,11 @@ fn may_walk(recs: &[u8], ranks: &[u16], from: usize, e: EventId, sent: &mut [u16
     false
 }
 
-// No link marked.
-fn no_links() -> [u16; 4]
-    ensures { result ≡ zeros 4 }
-{
-    [0; 4]
-}
-
 // A link sends to another event that has not begun, before one of the first `from` records sends to e on it. Where not, no order needs to be known.
 fn may_block(recs: &[u8], ranks: &[u16], from: usize, e: EventId) -> bool
     ensures { result ≡ may (decode recs.now) (rank_in ranks.now) e.0 from (zeros 4) }
 {
-    let mut sent = no_links();
+    let mut sent = zeros::<u16, 4>();
     may_walk(recs, ranks, from, e, &mut sent)
 }
 

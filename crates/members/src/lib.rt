@@ -8,15 +8,6 @@ ghost use Rattle.members.specs.Members.{member, with_member, bytes_for, ones, co
 // The bytes whose ones a usize surely holds.
 const MOST: usize = 1152921504606846976;
 
-fn smaller(x: usize, y: usize) -> usize
-    ensures { result ≡ min x y }
-{
-    if x < y {
-        return x;
-    }
-    y
-}
-
 // The ones of a byte.
 fn ones_in(byte: u8) -> u32
     ensures { result ≡ Count.ones byte }
@@ -59,7 +50,7 @@ pub fn bytes_for(events: usize) -> usize
 pub fn count(work: &[u8], n: usize) -> usize
     ensures { result ≡ ones work.now (counted n) }
 {
-    let end = smaller(smaller(n, MOST), work.len());
+    let end = n.min(MOST).min(work.len());
     let mut total: usize = 0;
     let mut i = 0;
     while i < end {

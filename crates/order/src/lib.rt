@@ -17,8 +17,7 @@ ghost use Rattle.order.specs.Paper.{refusal_in, Fills, Prepares};
 
 use links::{no_bits, no_words};
 use records::{Operation, Trace, access};
-use slices::numbers::clear;
-use slices::zeros::{numbers_1024, numbers_1025};
+use slices::{clear, zeros};
 use trace::{Reading, Refusal};
 
 // What filling finds: the number of chains used, or why it is refused.
@@ -147,7 +146,7 @@ fn prepare_linked(
     ensures { Prepares bytes.now (read_within bytes.now lowest highest width (length clocks.old) room)
         width clocks.old clocks.new chosen.new ranks.old ranks.new result.answer result.trace }
 {
-    let mut read_ranks = numbers_1025();
+    let mut read_ranks = zeros::<u16, 1025>();
     let mut table = no_bits();
     let reading = trace::read_linked(bytes, &mut read_ranks, &mut table);
     fill_within(
@@ -187,8 +186,8 @@ pub fn prepare(
 pub fn fill(bytes: &[u8], width: usize, clocks: &mut [u16]) -> Filling
     ensures { Fills bytes.now width clocks.old clocks.new result }
 {
-    let mut chosen = numbers_1024();
-    let mut ranks = numbers_1025();
+    let mut chosen = zeros::<u16, 1024>();
+    let mut ranks = zeros::<u16, 1025>();
     let first = trace::read_plain(bytes);
     if first.sends {
         let prepared = prepare_linked(bytes, 1, 0, width, 1024, clocks, &mut chosen, &mut ranks);

@@ -8,7 +8,7 @@ ghost use Rattle.order.specs.loops.Walk.{ordering_by, TakesLink, FillWalks};
 use clocks::{copy_row, merge_row};
 use ranks::Ordering;
 use records::access;
-use slices::numbers::get;
+use slices::get;
 
 fn hint_of(c: u16) -> u16
     ensures { result ≡ 1024 - c }

@@ -18,8 +18,7 @@ use crate::linking::pass_links;
 use crate::{Filling, Prepared, merge};
 use clocks::{add_one, clear_row, clear_rows};
 use records::{Operation, Trace, access};
-use slices::numbers::clear;
-use slices::zeros::numbers_1024;
+use slices::{clear, zeros};
 use trace::Refusal;
 
 // The chain of row u, by its hint: no chain below 1,024 less that has all its members in the row.
@@ -191,7 +190,7 @@ pub(crate) fn fill_rows(
 {
     let rows = events as u16;
     ranks::fill_ranks(recs, ranks);
-    let mut sizes = numbers_1024();
+    let mut sizes = zeros::<u16, 1024>();
     let passed = pass_rows(
         recs, events, sends, ranks, table, clocks, width, &mut sizes, chosen,
     );

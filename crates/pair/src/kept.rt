@@ -8,8 +8,7 @@ ghost use Rattle.pair.specs.loops.Kept.{Passing, Passes, PassesAll, Markable, Ma
 
 use crate::filled::Rows;
 use records::access;
-use slices::numbers::{clear, larger};
-use slices::zeros::bytes_1025;
+use slices::{clear, zeros};
 
 // The first record of the event action of record i.
 pub(crate) fn block_start(recs: &[u8], i: usize) -> usize
@@ -82,7 +81,7 @@ fn merge_part(part: &[u16], row: &mut [u16], chains: usize)
     ensures { Merged part.now 0 chains row.old row.new }
 {
     for c in 0..chains {
-        row[c] = larger(row[c], part[c]);
+        row[c] = row[c].max(part[c]);
     }
 }
 
@@ -159,7 +158,7 @@ pub(crate) fn mark_leading(
     requires { Markable (decode recs.now) rows.chosen.now rows.width chains rows.clocks.now work.old row.old u b }
     ensures { MarksKept (decode recs.now) b work.old work.new }
 {
-    let mut cells = bytes_1025();
+    let mut cells = zeros::<u8, 1025>();
     clear(row, row.len());
     merge_into(rows.clocks, u * rows.width, row, chains);
     let lo = block_start(recs, b);

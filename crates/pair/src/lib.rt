@@ -24,9 +24,7 @@ use crate::filled::{Filled, Rows};
 use order::{Filling, Prepared};
 use ranks::row_at;
 use records::{Operation, access};
-use slices::bytes::clear;
-use slices::numbers::{larger, smaller};
-use slices::zeros::{numbers_1024, numbers_1025};
+use slices::{clear, zeros};
 use trace::Refusal;
 
 // An entry's numbers: an event and its last record, or a race's two records.
@@ -141,8 +139,8 @@ fn prepare_pair(
     ensures { Prepares bytes.now (pair_ready bytes.now width (length clocks.old) room a.0 b.0) width
         clocks.old clocks.new chosen.new ranks.old ranks.new result.answer result.trace }
 {
-    let lowest = Operation(smaller(a.0, b.0));
-    let highest = Operation(larger(a.0, b.0));
+    let lowest = Operation(a.0.min(b.0));
+    let highest = Operation(a.0.max(b.0));
     order::prepare(bytes, lowest, highest, width, room, clocks, chosen, ranks)
 }
 
@@ -159,8 +157,8 @@ pub fn ask_pair(
     ensures { PairPromise bytes.now width clocks.old clocks.new
         work.old work.new list.old list.new a.0 b.0 result }
 {
-    let mut chosen = numbers_1024();
-    let mut ranks = numbers_1025();
+    let mut chosen = zeros::<u16, 1024>();
+    let mut ranks = zeros::<u16, 1025>();
     let room = work.len();
     let prepared = prepare_pair(bytes, a, b, width, room, clocks, &mut chosen, &mut ranks);
     let t = prepared.trace;

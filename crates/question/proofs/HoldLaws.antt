@@ -9,7 +9,7 @@ use borrow.Author.Tests.{le-leb, lt-leb, eq-eqb, ne_eqb}
 use lib.Dec.{eqb}
 use lib.ListN.{length, get_or, set, replicate, length-set, length-append, length-replicate}
 use lib.Seq.{get_or-set_same, get_or-set_other}
-use Rattle.slices.specs.Slices.{zeros}
+use Rattle.slices.specs.Slices.{filled, zeros}
 use Rattle.slices.proofs.Cleared.{zeros-at}
 use Rattle.order.specs.Links.{Links, leq}
 use Rattle.order.specs.Chains.{lasts, chain, used}
@@ -58,7 +58,7 @@ module _ (l : Links) (x y w : ℕ) where
     pub second_is : s.second ≡ get_or (chains_of l u) y 0
 
   pub holding-start : (ls : List ℕ) → length ls ≡ 1024 → Holding 0 (record { lasts = ls; chains = 0; first = 0; second = 0 })
-  unfolding zeros table
+  unfolding filled table
   holding-start ls h = record {
     lasts_are = λ c k. absurd (omega (arith, used-zero le));
     lasts_size = h;

@@ -7,8 +7,7 @@ ghost use Rattle.question.specs.loops.ChainPass.{marked_chain, own_chain, enter_
 
 use ranks::{Ordering, ordering_at};
 use records::access;
-use slices::bytes::{clear, get, put};
-use slices::zeros::{bytes_1024, numbers_1024};
+use slices::{clear, get, put, zeros};
 
 fn is_marked(marks: &[u8], row: usize) -> bool
     ensures { result ≡ marked marks.now row }
@@ -164,8 +163,8 @@ pub(crate) fn chain_pass(recs: &[u8], ranks: &[u16], x: usize, y: usize, width: 
     ensures { PassesChains (decode recs.now) x y width result.position result.first result.second }
 {
     let n = access::count(recs);
-    let mut marks = bytes_1024();
-    let mut lasts = numbers_1024();
+    let mut marks = zeros::<u8, 1024>();
+    let mut lasts = zeros::<u16, 1024>();
     let mut taken = Taken {
         chains: 0,
         first: 0,

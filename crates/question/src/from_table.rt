@@ -12,7 +12,7 @@ ghost use Rattle.question.specs.loops.TableChains.{bit_chain, ReadyRows, EntersR
 use crate::chains::{Passed, Taken, enter_chain};
 use bits::get;
 use order::from_table::begin_of;
-use slices::zeros::numbers_1024;
+use slices::zeros;
 
 // The lowest chain whose last member is before row u, or a new one.
 fn chain_before(table: &[u64], lasts: &[u16], chains: usize, u: usize) -> usize
@@ -62,7 +62,7 @@ fn enter_rows(table: &[u64], events: usize, x: usize, y: usize, width: usize) ->
     requires { ReadyRows (bit_of table.now) events width }
     ensures { (l : Links) → Tells (bit_of table.now) events l → EntersRows l events x y width result.rows result.first result.second }
 {
-    let mut lasts = numbers_1024();
+    let mut lasts = zeros::<u16, 1024>();
     let mut taken = Taken {
         chains: 0,
         first: 0,

@@ -14,7 +14,7 @@ ghost use Rattle.question.specs.Question.{order_paper, order_reply};
 use clocks::Relation;
 use links::{no_bits, no_words};
 use records::{EventId, access};
-use slices::zeros::numbers_1025;
+use slices::zeros;
 use trace::{Reading, Refusal};
 
 // What the order question finds: which way round the two event actions stand, as the clocks have it.
@@ -68,7 +68,7 @@ fn ask_linked(
     if 4096 < passed {
         return ask_linked(bytes, 4096, width, clocks, t, u);
     }
-    let mut ranks = numbers_1025();
+    let mut ranks = zeros::<u16, 1025>();
     let mut table = no_bits();
     let reading = trace::read_linked(bytes, &mut ranks, &mut table);
     ask_read(bytes, reading, width, clocks, t, u, &table)

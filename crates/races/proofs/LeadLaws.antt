@@ -12,7 +12,7 @@ use borrow.Author.Tests.{eq-eqb, ne_eqb, le-leb, lt-leb, leb-true, ltb-false}
 use lib.Dec.{T, eqb, leb, ltb}
 use lib.ListN.{length, get_or, set, length-set, length-replicate}
 use lib.Seq.{get_or-set_same, get_or-set_other}
-use Rattle.slices.specs.Slices.{zeros}
+use Rattle.slices.specs.Slices.{filled, zeros}
 use Rattle.slices.proofs.Tests.{decide_eq}
 use Rattle.clocks.specs.Rows.{rows_if, merge_row, clear_row}
 use Rattle.order.specs.Links.{Links, Forward, ◌⊢◌≼◌}
@@ -35,7 +35,7 @@ module _ (w t : ℕ) (clocks : List ℕ) where
   kept_next c a kept e z = rw (add-one c, e, z) refl
 
   pub kept-length : (n : ℕ) → length (kept_to w t clocks n) ≡ 1024
-  unfolding kept_to zeros
+  unfolding kept_to filled
   kept-length zero = length-replicate {A = ℕ} 1024 0
   kept-length (suc c) = length-set (kept_to w t clocks c) c (get_or clocks (t * w + c) 0) ∙ kept-length c
 

@@ -6,8 +6,7 @@ ghost use Rattle.races.specs.loops.FilledClocks.{RowsIn};
 ghost use Rattle.races.specs.loops.Leading.{kept_to, leads_in, lead_from, lead_down, raise_to, lead_in, MayLead};
 
 use clocks::{clear_row, merge_row};
-use slices::numbers::larger;
-use slices::zeros::numbers_1024;
+use slices::zeros;
 
 // The entries of row t are kept apart.
 fn keep_entries(clocks: &[u16], width: usize, t: usize, kept: &mut [u16])
@@ -77,7 +76,7 @@ fn raise_to(clocks: &mut [u16], place: usize, value: u16)
     requires { place < length clocks.old }
     ensures { clocks.new ≡ raise_to place value clocks.old }
 {
-    clocks[place] = larger(clocks[place], value);
+    clocks[place] = clocks[place].max(value);
 }
 
 // Row t anew, of the rows before it and its own entry.
@@ -87,7 +86,7 @@ pub(crate) fn lead_in(chosen: &[u16], width: usize, chains: usize, clocks: &mut 
 {
     let place = t * width + (chosen[t] as usize);
     let own = clocks[place];
-    let mut kept = numbers_1024();
+    let mut kept = zeros::<u16, 1024>();
     keep_entries(clocks, width, t, &mut kept);
     clear_row(clocks, width, t as u16);
     lead_down(chosen, width, chains, clocks, &kept, t);

@@ -20,8 +20,7 @@ use clocks::is_unordered;
 use order::Filling;
 use ranks::row_at;
 use records::{Operation, access, search};
-use slices::bytes::clear;
-use slices::zeros::{numbers_1024, numbers_1025};
+use slices::{clear, zeros};
 use trace::Refusal;
 
 // 1 for ww, 2 for wr, 3 for rw.
@@ -143,8 +142,8 @@ fn list_all(
     ensures { WritesAll writing (decode recs.now) short list.old list.new result }
 {
     let n = access::count(recs);
-    let mut seen = numbers_1025();
-    let mut writes = numbers_1025();
+    let mut seen = zeros::<u16, 1025>();
+    let mut writes = zeros::<u16, 1025>();
     let mut k = 0;
     let mut begun = 0;
     let mut b = 0;
@@ -299,8 +298,8 @@ pub(crate) fn list_races(
     ensures { Lists short bytes.now width clocks.old clocks.new work.old work.new
         list.old list.new result }
 {
-    let mut chosen = numbers_1024();
-    let mut ranks = numbers_1025();
+    let mut chosen = zeros::<u16, 1024>();
+    let mut ranks = zeros::<u16, 1025>();
     let prepared = order::prepare(
         bytes,
         Operation(1),

@@ -10,8 +10,7 @@ ghost use Rattle.ranks.specs.Ranks.{with_rank, rank_if, ranks_upto, ranks_of};
 ghost use Rattle.ranks.specs.loops.RanksTo.{RanksTo};
 
 use records::{EventId, access};
-use slices::numbers::{clear, get, put};
-use slices::zeros::numbers_1025;
+use slices::{clear, get, put, zeros};
 
 // What a record says of links and begins, between rows.
 #[derive(Clone, Copy)]
@@ -92,7 +91,7 @@ pub fn fill_ranks(recs: &[u8], ranks: &mut [u16; 1025])
 pub fn ranks(recs: &[u8]) -> [u16; 1025]
     ensures { result ≡ ranks_of (decode recs.now) }
 {
-    let mut ranks = numbers_1025();
+    let mut ranks = zeros::<u16, 1025>();
     fill_ranks(recs, &mut ranks);
     ranks
 }

@@ -6,14 +6,13 @@ ghost use Rattle.records.specs.Records.{at, past, begins, leading};
 ghost use Rattle.records.specs.Kinds.{base_kind};
 
 use crate::{EventId, RECORD_BYTES, Record, Trace, Var};
-use slices::bytes::pair;
 
 // Two bytes as a number, low byte first.
 fn two_bytes(bytes: &[u8], at: usize) -> u16
     requires { at + 2 ≤ length bytes.now }
     ensures { result ≡ two_bytes bytes.now at }
 {
-    pair(bytes[at], bytes[at + 1])
+    u16::from_le_bytes([bytes[at], bytes[at + 1]])
 }
 
 // The bytes of that many records that start there; where the bytes hold fewer, those.

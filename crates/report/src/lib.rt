@@ -3,27 +3,14 @@
 
 ghost use Rattle.std.specs.Prelude.{◌≡◌, ◌*◌, ◌≤◌};
 ghost use Rattle.listing.specs.Lines.{Printed};
-ghost use Rattle.report.specs.Text.{entry_line, entry_lines, Prints, lines_of, no_clocks, no_list};
+ghost use Rattle.report.specs.Text.{entry_line, entry_lines, Prints, lines_of};
 
 use races::{ENTRY_NUMBERS, Listing};
 use records::{Operation, Var};
-use slices::numbers::get;
-use slices::zeros::bytes_1024;
+use slices::{get, zeros};
 
 // At most that many bytes of input; more is refusal 13.
 pub const LONGEST: usize = 32768;
-
-fn no_clocks() -> [u16; 32768]
-    ensures { result ≡ no_clocks }
-{
-    [0; 32768]
-}
-
-fn no_list() -> [u16; 40960]
-    ensures { result ≡ no_list }
-{
-    [0; 40960]
-}
 
 // The line of entry i of the list.
 fn put_entry(list: &[u16], i: usize, text: &mut [u8], at: usize) -> usize
@@ -63,9 +50,9 @@ pub fn report(input: &[u8], text: &mut [u8]) -> usize
     if LONGEST < input.len() {
         return listing::put_refusal(text, 0, 13, Operation(0));
     }
-    let mut clocks = no_clocks();
-    let mut work = bytes_1024();
-    let mut list = no_list();
+    let mut clocks = zeros::<u16, 32768>();
+    let mut work = zeros::<u8, 1024>();
+    let mut list = zeros::<u16, 40960>();
     let found = races::short_list(input, 32, &mut clocks, &mut work, &mut list);
     match found {
         Listing::Listed(s) => {

@@ -8,7 +8,7 @@ ghost use Rattle.trace.specs.Paper.{paper};
 
 use crate::{Reading, accept, refuse};
 use records::{RECORD_BYTES, TRAILER_BYTES};
-use slices::bytes::two;
+use slices::two;
 
 // The distance from the trailer's start, at, back to record 1.
 fn distance_at(bytes: &[u8], at: usize) -> usize

@@ -12,7 +12,7 @@ ghost use Rattle.trace.specs.Paper.{paper};
 use crate::{Reading, Scanned, accept, place, refuse, rule, status};
 use records::access::{count, record_at};
 use records::{EventId, Record};
-use slices::zeros::bytes_1025;
+use slices::zeros;
 
 // The trace ends after that many records, `found` of them begins, in that situation; a send is among them or not.
 fn finish(
@@ -137,7 +137,7 @@ pub(crate) fn scan(recs: &[u8], start: usize, events: usize) -> Scanned
     ensures { Scans (decode recs.now) start events result }
 {
     let records = count(recs);
-    let mut status = bytes_1025();
+    let mut status = zeros::<u8, 1025>();
     let mut now_in: u8 = 0;
     let mut owner: u16 = 0;
     let mut found = 0;

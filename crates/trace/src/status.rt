@@ -2,7 +2,7 @@
 ghost use Rattle.std.specs.Prelude.{◌≡◌, set};
 ghost use Rattle.trace.specs.loops.Status.{has_begun, has_ended};
 
-use slices::bytes::{get, put};
+use slices::{get, put};
 
 pub(crate) const BEGUN: u8 = 1;
 

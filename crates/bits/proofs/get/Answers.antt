@@ -17,7 +17,7 @@ overflow_add-at c = let k = c.args in
 pub returns-then-table-lt8704 : goal.returns-then-table-lt8704
 returns-then-table-lt8704 c = let s = c in
     let k = s.args in
-    c.bit.ensures ∙ rw (c.word.ensures, s.row_start.ensures) (sym (bit_is _ _ _ (inside k.p k.u (omega arith) (omega arith))))
+    c.bit.ensures ∙ rw (c.get.ensures, s.row_start.ensures) (sym (bit_is _ _ _ (inside k.p k.u (omega arith) (omega arith))))
 
 pub offset_bounds-table-at : goal.offset_bounds-table-at
 offset_bounds-table-at c = let s = c in

@@ -11,4 +11,4 @@ pub returns-then-x-ge1024 : goal.returns-then-x-ge1024
 returns-then-x-ge1024 c = member-none _ _ _ (rw (lt-ltb _ _ c.if-l-ge4.false, le-ltb _ _ c.if-x-ge1024.true))
 
 pub returns : goal.returns
-returns c = c.bit.ensures ∙ rw c.word-w.ensures (sym (member_is _ _ _ (omega arith) (omega arith)))
+returns c = c.bit.ensures ∙ rw c.get-w.ensures (sym (member_is _ _ _ (omega arith) (omega arith)))

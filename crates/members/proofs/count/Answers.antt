@@ -1,11 +1,11 @@
-use mathlib.Core.Path.{refl, ◌∙◌}
+use Rattle.std.proofs.Common.{rules}
 use native.Mathlib.Omega.{arith}
 use lib.Count as Count
 use Rattle.members.proofs.CountLaws.{counting-none, counting-next, counting-all}
 use Rattle.members.proofs.count.Goals as goal
 
 pub loop-i-init : goal.loop-i-init
-loop-i-init c = counting-none c.args.work.now (c.smaller-end.ensures ∙ rw c.smaller.ensures refl)
+loop-i-init c = counting-none c.args.work.now (search rules)
 
 pub bounds-work-i : goal.bounds-work-i
 bounds-work-i c = omega (arith, c.loop-i.invariant.to)

@@ -12,7 +12,7 @@ fill_within-prepared-requires c =
     let at_read = at-if in
     let e = at_read.read_plain-first.ensures in (
       e.enough at-if.if-first.false,
-      at_read.numbers_1024-chosen.ensures,
+      at_read.zeros-chosen.ensures,
       λ t a s. absurd (subst T (sym (e.tells t (a ∙ sym (e.enough at-if.if-first.false))) ∙ at-if.if-first.false) s),
     )
 

@@ -9,19 +9,19 @@ returns-then-input-gt-LONGEST c = rw (long-input c.args.input.now (omega arith))
 
 pub put_entries-requires : goal.put_entries-requires
 put_entries-requires c =
-    let zeros = over_zeros c.no_clocks-clocks.ensures c.bytes_1024-work.ensures c.no_list-list.ensures in
+    let zeros = over_zeros c.zeros-clocks.ensures c.zeros-work.ensures c.zeros-list.ensures in
     let lists = zeros c.short_list-found.ensures in
     listed-few c.args.input.now _ _ _ _ (omega arith) lists _ (ap list_paper c.in-Listed.is)
 
 pub returns-in-Listed : goal.returns-in-Listed
 returns-in-Listed c =
-    let zeros = over_zeros c.no_clocks-clocks.ensures c.bytes_1024-work.ensures c.no_list-list.ensures in
+    let zeros = over_zeros c.zeros-clocks.ensures c.zeros-work.ensures c.zeros-list.ensures in
     let lists = zeros c.short_list-found.ensures in
     rw (listed-lines c.args.input.now _ _ _ _ (omega arith) lists _ (ap list_paper c.in-Listed.is))
     (prints-then c.put_header-at.ensures c.put_entries.ensures)
 
 pub returns-in-Refused : goal.returns-in-Refused
 returns-in-Refused c =
-    let zeros = over_zeros c.no_clocks-clocks.ensures c.bytes_1024-work.ensures c.no_list-list.ensures in
+    let zeros = over_zeros c.zeros-clocks.ensures c.zeros-work.ensures c.zeros-list.ensures in
     let lists = zeros c.short_list-found.ensures in
     rw (refused-lines c.args.input.now _ _ _ _ (omega arith) lists _ _ (ap list_paper c.in-Refused.is)) (prints-one c.put_refusal-in-Refused.ensures)

@@ -11,7 +11,7 @@ pub loop-i-init : goal.loop-i-init
 loop-i-init c =
     let start = c in
     let a = start.args in
-    (rw (c.numbers_1025-written.ensures, c.numbers_1025-read.ensures) (stamps-start start.requires.0), written_start _ a.writing _, omega arith)
+    (rw (c.zeros-written.ensures, c.zeros-read.ensures) (stamps-start start.requires.0), written_start _ a.writing _, omega arith)
 
 pub slice_bounds-keeps-end : goal.slice_bounds-keeps-end
 slice_bounds-keeps-end c = sym c.loop-i.invariant.0.reads.size

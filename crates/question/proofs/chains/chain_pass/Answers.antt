@@ -10,8 +10,8 @@ use Rattle.question.proofs.chains.chain_pass.Goals as goal
 pub loop-i-init : goal.loop-i-init
 loop-i-init c =
     let start = c in
-    let size = ap length c.numbers_1024-lasts.ensures ∙ zeros-length 1024 in
-    (going_start _ _ _ _ _ _ size start.requires.0 start.requires.1, ap length c.bytes_1024-marks.ensures ∙ zeros-length 1024)
+    let size = ap length c.zeros-lasts.ensures ∙ zeros-length 1024 in
+    (going_start _ _ _ _ _ _ size start.requires.0 start.requires.1, ap length c.zeros-marks.ensures ∙ zeros-length 1024)
 
 pub slice_bounds-turn-end : goal.slice_bounds-turn-end
 slice_bounds-turn-end c = sym c.loop-i.invariant.1

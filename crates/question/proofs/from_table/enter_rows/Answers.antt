@@ -8,7 +8,7 @@ use Rattle.question.proofs.from_table.enter_rows.Goals as goal
 
 pub loop-u-init : goal.loop-u-init
 loop-u-init c =
-    let size = ap length c.numbers_1024-lasts.ensures ∙ zeros-length 1024 in
+    let size = ap length c.zeros-lasts.ensures ∙ zeros-length 1024 in
     (going_start _ _ _ _ _ c.requires _ size, size)
 
 pub slice_bounds-enter_row-end : goal.slice_bounds-enter_row-end

@@ -13,7 +13,7 @@ pub loop-b-init : goal.loop-b-init
 loop-b-init c =
     let start = c in
     let a = start.args in
-    (listing_start _ _ _ _, rw (c.numbers_1025-seen.ensures, c.numbers_1025-writes.ensures) (tables-none (decode a.recs.now) a.short), sym (counted-zero (decode a.recs.now)))
+    (listing_start _ _ _ _, rw (c.zeros-seen.ensures, c.zeros-writes.ensures) (tables-none (decode a.recs.now) a.short), sym (counted-zero (decode a.recs.now)))
 
 pub begun_after-begun-requires : goal.begun_after-begun-requires
 begun_after-begun-requires c =

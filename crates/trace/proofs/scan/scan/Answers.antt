@@ -11,7 +11,7 @@ pub loop-i-init : goal.loop-i-init
 loop-i-init c =
     let start = c in
     let a = start.args in
-    rw c.bytes_1025-status.ensures (going_start (decode a.recs.now) a.start a.events)
+    rw c.zeros-status.ensures (going_start (decode a.recs.now) a.start a.events)
 
 pub place_fault-misplaced-requires : goal.place_fault-misplaced-requires
 place_fault-misplaced-requires c = c.next-next.ensures
