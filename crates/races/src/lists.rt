@@ -28,12 +28,12 @@ fn shape_of(recs: &[u8], a: usize, b: usize) -> u16
     ensures { result ≡ shape_of (decode recs.now) a b }
 {
     if access::kind_at(recs, a) != 6 {
-        return 3;
+        3
+    } else if access::kind_at(recs, b) == 6 {
+        1
+    } else {
+        2
     }
-    if access::kind_at(recs, b) == 6 {
-        return 1;
-    }
-    2
 }
 
 // Entry k of the list: the race of records a and b, its mark still 0.
@@ -106,6 +106,7 @@ fn list_firsts(
     let least = search::least_kind(access::kind_at(recs, b));
     let mut e = k;
     let mut a = search::next_access(recs, firsts.from, firsts.to, c, least);
+    // By `while`: from each access the search goes on to the next.
     while a < firsts.to {
         e = list_race(
             recs, ranks, chosen, width, clocks, a, b, own, list, e, writing,
@@ -120,10 +121,7 @@ fn begun_after(kind: u8, begun: usize) -> usize
     requires { begun < 4096 }
     ensures { result ≡ cond (eqb kind 1) (begun + 1) begun }
 {
-    if kind == 1 {
-        return begun + 1;
-    }
-    begun
+    if kind == 1 { begun + 1 } else { begun }
 }
 
 // All entries, written or only counted; their number.
@@ -146,12 +144,10 @@ fn list_all(
     let mut writes = zeros::<u16, 1025>();
     let mut k = 0;
     let mut begun = 0;
-    let mut b = 0;
-    while b < n {
+    for b in 0..n {
         let kind = access::base_kind_at(recs, b);
         if kind < 5 {
             begun = begun_after(kind, begun);
-            b += 1;
             continue;
         }
         let u = begun - 1;
@@ -169,7 +165,6 @@ fn list_all(
         k = list_firsts(
             recs, ranks, chosen, width, clocks, firsts, b, u, list, k, writing,
         );
-        b += 1;
     }
     k
 }
@@ -186,9 +181,10 @@ fn is_ample(short: bool, records: usize, space: usize) -> bool
         return false;
     }
     if short {
-        return records <= space / ENTRY_NUMBERS / 2;
+        records <= space / ENTRY_NUMBERS / 2
+    } else {
+        records * records / 2 <= space / ENTRY_NUMBERS
     }
-    records * records / 2 <= space / ENTRY_NUMBERS
 }
 
 // How many entries there are, or 1 where there is space for them in any case.
