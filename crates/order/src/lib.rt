@@ -146,7 +146,7 @@ pub fn fill(bytes: &[u8], width: usize, clocks: &mut [u16]) -> Result<usize, Ref
     let call = Call {
         lowest: Operation(1),
         highest: Operation(0),
-        width: width,
+        width,
         room: 1024,
     };
     let first = trace::read_plain(bytes);

@@ -2,6 +2,7 @@
 #![tactic(auto)]
 
 mod cover;
+mod filled;
 mod kept;
 mod racing;
 
@@ -10,7 +11,6 @@ ghost use Rattle.records.specs.Bytes.{decode};
 ghost use Rattle.ranks.specs.Ranks.{ranks_of};
 ghost use Rattle.order.specs.Fill.{chains_used};
 ghost use Rattle.order.specs.Paper.{Prepares};
-ghost use Rattle.coverage.specs.Race.{raceb};
 ghost use Rattle.coverage.specs.Leading.{entries};
 ghost use Rattle.races.specs.Traces.{setting_of};
 ghost use Rattle.races.specs.loops.FilledClocks.{FilledClocks, rows, Clear};
@@ -19,7 +19,8 @@ ghost use Rattle.pair.specs.loops.Answers.{AnswersFilled};
 ghost use Rattle.pair.specs.loops.PairSearch.{PutsEnd};
 ghost use Rattle.pair.specs.loops.Leading.{Marks};
 
-use order::Prepared;
+use crate::filled::{Filled, Rows};
+use order::{Call, Prepared};
 use ranks::row_at;
 use records::{Operation, access};
 use slices::{clear, zeros};
@@ -64,35 +65,14 @@ fn put_kept(recs: &[u8], work: &[u8], b: usize, list: &mut [u16]) -> usize
 {
     let mut k = 0;
     let mut t = 0;
-    let mut i = 0;
-    while i < b {
+    for i in 0..b {
         if access::kind_at(recs, i) == 2 {
             k = put_end(recs, work, t, i, list, k);
             t += 1;
         }
-        i += 1;
     }
     put_entry(list, k, access::event_at(recs, b).0, (b + 1) as u16);
     k + 1
-}
-
-// Are records a and b a race, first then second?
-fn is_race_in_order(
-    recs: &[u8],
-    ranks: &[u16],
-    chosen: &[u16],
-    width: usize,
-    clocks: &[u16],
-    a: usize,
-    b: usize,
-) -> bool
-    requires { FilledClocks (decode recs.now) ranks.now chosen.now width clocks.now × (b < length (decode recs.now)) }
-    ensures { result ≡ raceb (setting_of (decode recs.now)) a b }
-{
-    if b <= a {
-        return false;
-    }
-    racing::is_race(recs, ranks, chosen, width, clocks, a, b)
 }
 
 // Records a and b of an accepted trace whose clocks are filled, over a work space that is 0 for its event actions. The table of ranks is lent for what leads
@@ -100,22 +80,21 @@ fn is_race_in_order(
 fn ask_filled(
     recs: &[u8],
     ranks: &mut [u16; 1025],
-    chosen: &[u16],
+    rows: Rows<'_>,
     events: usize,
-    width: usize,
     chains: usize,
-    clocks: &[u16],
     work: &mut [u8],
     list: &mut [u16],
     a: usize,
     b: usize,
 ) -> Result<Verdict, Refusal>
-    requires filled_clocks { FilledClocks (decode recs.now) ranks.old chosen.now width clocks.now × (chains ≡ chains_used (decode recs.now))
+    requires filled_clocks { FilledClocks (decode recs.now) ranks.old rows.chosen.now rows.width rows.clocks.now × (chains ≡ chains_used (decode recs.now))
         × (b < length (decode recs.now)) }
     requires clear { Clear (decode recs.now) events work.old }
     ensures { AnswersFilled (decode recs.now) events a b list.old list.new result × (work.new ≡ work.old) }
 {
-    if !is_race_in_order(recs, ranks, chosen, width, clocks, a, b) {
+    let filled = Filled { recs, ranks, rows };
+    if !filled.is_race(a, b) {
         return Err(Reason::NoRace.at(Operation(0)));
     }
     if list.len() / ENTRY_NUMBERS < events {
@@ -123,10 +102,10 @@ fn ask_filled(
     }
     let t = row_at(recs, ranks, a);
     let u = row_at(recs, ranks, b);
-    kept::mark_leading(recs, chosen, width, chains, clocks, work, ranks, u, b);
+    kept::mark_leading(recs, rows, chains, work, ranks, u, b);
     if work[t] == 1 {
         ranks::fill_ranks(recs, ranks);
-        let count = cover::put_cover(recs, ranks, chosen, width, clocks, work, list, a, b);
+        let count = cover::put_cover(Filled { recs, ranks, rows }, work, list, a, b);
         clear(work, events);
         return Ok(Verdict::Covered(count));
     }
@@ -149,9 +128,13 @@ fn prepare_pair(
     ensures { Prepares bytes.now (pair_ready bytes.now width (length clocks.old) room a.0 b.0) width
         clocks.old clocks.new chosen.new ranks.old ranks.new result.answer result.trace }
 {
-    let lowest = Operation(a.0.min(b.0));
-    let highest = Operation(a.0.max(b.0));
-    order::prepare(bytes, lowest, highest, width, room, clocks, chosen, ranks)
+    let call = Call {
+        lowest: Operation(a.0.min(b.0)),
+        highest: Operation(a.0.max(b.0)),
+        width,
+        room,
+    };
+    order::prepare(bytes, call, clocks, chosen, ranks)
 }
 
 // The pair question: clocks are filled on the way, and entries are two numbers each in the list space.
@@ -180,11 +163,13 @@ pub fn ask_pair(
     ask_filled(
         access::records(bytes, t),
         &mut ranks,
-        &chosen,
+        Rows {
+            chosen: &chosen,
+            width,
+            clocks,
+        },
         events,
-        width,
         chains,
-        clocks,
         work,
         list,
         i,

@@ -32,16 +32,11 @@ fn seen_after(ordered: bool, short: bool, kind: u8, u: usize) -> u16
     requires { u < 1024 }
     ensures { result ≡ seen_after ordered short kind u }
 {
-    if ordered {
-        return (u + 1) as u16;
+    if ordered || (short && kind == 6) {
+        (u + 1) as u16
+    } else {
+        1025
     }
-    if !short {
-        return 1025;
-    }
-    if kind == 6 {
-        return (u + 1) as u16;
-    }
-    1025
 }
 
 // The access b of row u, of cell c, is taken into account.
@@ -69,23 +64,14 @@ fn note_access(
 fn firsts_from(short: bool, last: usize) -> usize
     ensures { result ≡ firsts_from short last }
 {
-    if !short {
-        return 0;
-    }
-    if last == 0 {
-        return 0;
-    }
-    last - 1
+    if short { last.saturating_sub(1) } else { 0 }
 }
 
 // Up to where those of an access b of that kind are looked for: a read races with none past the last write.
 fn firsts_to(kind: u8, last: usize, b: usize) -> usize
     ensures { result ≡ firsts_to kind last b }
 {
-    if kind == 5 {
-        return last;
-    }
-    b
+    if kind == 5 { last } else { b }
 }
 
 // Where the first accesses that may race with a second access are looked for: from one record on, before another.

@@ -34,10 +34,8 @@ fn keep_row(
     requires { MayKeep chosen.now events width clocks.now × (u < events) × Kept chosen.now width clocks.now u 0 table.old }
     ensures { Kept chosen.now width clocks.now (u + 1) 0 table.new }
 {
-    let mut t = 0;
-    while t < u {
+    for t in 0..u {
         keep_bit(chosen, width, clocks, t, u, table);
-        t += 1;
     }
 }
 
@@ -52,10 +50,8 @@ pub(crate) fn keep_rows(
     requires { MayKeep chosen.now events width clocks.now × (table.old ≡ zeros 8704) }
     ensures { Kept chosen.now width clocks.now events 0 table.new }
 {
-    let mut u = 0;
-    while u < events {
+    for u in 0..events {
         keep_row(chosen, width, clocks, u, events, table);
-        u += 1;
     }
 }
 
@@ -75,10 +71,8 @@ fn take_before(table: &[u64], chosen: &[u16], width: usize, clocks: &mut [u16], 
     requires { RoomToTake width u clocks.old chosen.now }
     ensures { clocks.new ≡ take_before (λ t. bit_of table.now t u) width u chosen.now u clocks.old }
 {
-    let mut t = 0;
-    while t < u {
+    for t in 0..u {
         take_own(table, chosen, width, clocks, t, u);
-        t += 1;
     }
 }
 
@@ -94,11 +88,9 @@ pub(crate) fn restore_rows(
     ensures { (f : Restorable (bit_of table.now) events width chosen.now clocks.old)
         → clocks.new ≡ clocks_of f.links width events ++ drop (events * width) clocks.old }
 {
-    let mut u = 0;
-    while u < events {
+    for u in 0..events {
         clear_row(clocks, width, u as u16);
         take_before(table, chosen, width, clocks, u);
         add_to_row(clocks, width, u, chosen[u] as usize);
-        u += 1;
     }
 }

@@ -14,10 +14,8 @@ fn keep_entries(clocks: &[u16], width: usize, t: usize, kept: &mut [u16])
     ensures { kept.new ≡ kept_to width t clocks.now width }
 {
     let a = t * width;
-    let mut c = 0usize;
-    while c < width {
+    for c in 0..width {
         kept[c] = clocks[a + c];
-        c += 1;
     }
 }
 
@@ -28,10 +26,7 @@ fn leads_in(chosen: &[u16], width: usize, clocks: &[u16], kept: &[u16], t: usize
 {
     let c = chosen[p] as usize;
     let own = clocks[p * width + c];
-    if kept[c] < own {
-        return false;
-    }
-    clocks[t * width + c] < own
+    own <= kept[c] && clocks[t * width + c] < own
 }
 
 // Row p is merged into row t where it is such a one.
@@ -64,9 +59,7 @@ fn lead_down(
     requires { MayLead chosen.now width clocks.old t × (1024 ≤ length kept.now) }
     ensures { clocks.new ≡ lead_down chosen.now width kept.now t chains t clocks.old }
 {
-    let mut p = t;
-    while 0 < p {
-        p -= 1;
+    for p in (0..t).rev() {
         lead_from(chosen, width, chains, clocks, kept, t, p);
     }
 }

@@ -16,6 +16,7 @@ use crate::candidates::{Firsts, take_access};
 use crate::racing::{Own, own_of, relation};
 use crate::{ENTRY_NUMBERS, Summary, raising};
 use clocks::is_unordered;
+use order::Call;
 use ranks::row_at;
 use records::{Operation, access, search};
 use slices::{clear, zeros};
@@ -26,12 +27,12 @@ fn shape_of(recs: &[u8], a: usize, b: usize) -> u16
     ensures { result ≡ shape_of (decode recs.now) a b }
 {
     if access::kind_at(recs, a) != 6 {
-        return 3;
+        3
+    } else if access::kind_at(recs, b) == 6 {
+        1
+    } else {
+        2
     }
-    if access::kind_at(recs, b) == 6 {
-        return 1;
-    }
-    2
 }
 
 // Entry k of the list: the race of records a and b, its mark still 0.
@@ -104,6 +105,7 @@ fn list_firsts(
     let least = search::least_kind(access::kind_at(recs, b));
     let mut e = k;
     let mut a = search::next_access(recs, firsts.from, firsts.to, c, least);
+    // By `while`: from each access the search goes on to the next.
     while a < firsts.to {
         e = list_race(
             recs, ranks, chosen, width, clocks, a, b, own, list, e, writing,
@@ -118,10 +120,7 @@ fn begun_after(kind: u8, begun: usize) -> usize
     requires { begun < 4096 }
     ensures { result ≡ cond (eqb kind 1) (begun + 1) begun }
 {
-    if kind == 1 {
-        return begun + 1;
-    }
-    begun
+    if kind == 1 { begun + 1 } else { begun }
 }
 
 // All entries, written or only counted; their number.
@@ -144,12 +143,10 @@ fn list_all(
     let mut writes = zeros::<u16, 1025>();
     let mut k = 0;
     let mut begun = 0;
-    let mut b = 0;
-    while b < n {
+    for b in 0..n {
         let kind = access::base_kind_at(recs, b);
         if kind < 5 {
             begun = begun_after(kind, begun);
-            b += 1;
             continue;
         }
         let u = begun - 1;
@@ -167,7 +164,6 @@ fn list_all(
         k = list_firsts(
             recs, ranks, chosen, width, clocks, firsts, b, u, list, k, writing,
         );
-        b += 1;
     }
     k
 }
@@ -184,9 +180,10 @@ fn is_ample(short: bool, records: usize, space: usize) -> bool
         return false;
     }
     if short {
-        return records <= space / ENTRY_NUMBERS / 2;
+        records <= space / ENTRY_NUMBERS / 2
+    } else {
+        records * records / 2 <= space / ENTRY_NUMBERS
     }
-    records * records / 2 <= space / ENTRY_NUMBERS
 }
 
 // How many entries there are, or 1 where there is space for them in any case.
@@ -288,16 +285,13 @@ pub(crate) fn list_races(
 {
     let mut chosen = zeros::<u16, 1024>();
     let mut ranks = zeros::<u16, 1025>();
-    let prepared = order::prepare(
-        bytes,
-        Operation(1),
-        Operation(0),
+    let call = Call {
+        lowest: Operation(1),
+        highest: Operation(0),
         width,
-        work.len(),
-        clocks,
-        &mut chosen,
-        &mut ranks,
-    );
+        room: work.len(),
+    };
+    let prepared = order::prepare(bytes, call, clocks, &mut chosen, &mut ranks);
     let t = prepared.trace;
     let events = t.events;
     clear(work, events);

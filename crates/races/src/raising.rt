@@ -37,9 +37,10 @@ fn mark_of(chosen: &[u16], width: usize, clocks: &[u16], t: usize, u: usize) -> 
     ensures { result ≡ mark_in chosen.now width clocks.now t u }
 {
     if comes_before(chosen, width, clocks, t, u) {
-        return 0;
+        0
+    } else {
+        1
     }
-    1
 }
 
 // Marks the entries of one second access of row u, from k on; the entry after them.
@@ -58,16 +59,14 @@ fn mark_second(
     ensures { MarksSecond (decode recs.now) list.old list.new k count result }
 {
     let second = list[ENTRY_NUMBERS * k + 1];
-    let mut e = k;
-    while e < count {
+    for e in k..count {
         if list[ENTRY_NUMBERS * e + 1] != second {
             return e;
         }
         let t = row_at(recs, ranks, (list[ENTRY_NUMBERS * e] - 1) as usize);
         list[ENTRY_NUMBERS * e + 4] = mark_of(chosen, width, clocks, t, u);
-        e += 1;
     }
-    e
+    count
 }
 
 // Raises row u by entry j, where that is open.
@@ -108,9 +107,7 @@ fn raise(
     ensures { clocks.new
         ≡ raise_down (decode recs.now) ranks.now width chains u list.now k (e - k) clocks.old }
 {
-    let mut j = e;
-    while k < j {
-        j -= 1;
+    for j in (k..e).rev() {
         raise_by(recs, ranks, width, chains, clocks, u, list, j);
         if list[ENTRY_NUMBERS * j + 3] != 3 {
             return;
@@ -123,11 +120,7 @@ fn more_chains(chosen: &[u16], chains: usize, u: usize) -> usize
     requires { u < length chosen.now }
     ensures { result ≡ max chains (get_or chosen.now u 0 + 1) }
 {
-    let c = chosen[u] as usize;
-    if chains <= c {
-        return c + 1;
-    }
-    chains
+    chains.max(chosen[u] as usize + 1)
 }
 
 // Where raising stands: at that row, and the chains taken by it and those before. Without a send, position is that of the row's begin.
@@ -152,16 +145,14 @@ fn walk_on(
     ensures { Went (by_records chosen.now width (decode recs.now) ranks.now) s.row s.position s.chains
         clocks.old u result.row result.position result.chains clocks.new }
 {
-    let mut t = s.row;
     let mut i = s.position;
     let mut chains = s.chains;
-    while t < u {
+    for t in s.row..u {
         i = merge_links(recs, ranks, width, chains, clocks, i + 1);
-        t += 1;
-        chains = more_chains(chosen, chains, t);
+        chains = more_chains(chosen, chains, t + 1);
     }
     Stand {
-        row: t,
+        row: u,
         position: i,
         chains: chains,
     }
@@ -173,15 +164,13 @@ fn lead_on(chosen: &[u16], width: usize, clocks: &mut [u16], s: Stand, u: usize)
     ensures { Went (by_clocks chosen.now width) s.row s.position s.chains
         clocks.old u result.row result.position result.chains clocks.new }
 {
-    let mut t = s.row;
     let mut chains = s.chains;
-    while t < u {
-        t += 1;
-        lead_in(chosen, width, chains, clocks, t);
-        chains = more_chains(chosen, chains, t);
+    for t in s.row..u {
+        lead_in(chosen, width, chains, clocks, t + 1);
+        chains = more_chains(chosen, chains, t + 1);
     }
     Stand {
-        row: t,
+        row: u,
         position: s.position,
         chains: chains,
     }
@@ -229,6 +218,7 @@ fn mark_all(
         chains: 1,
     };
     let mut k = 0;
+    // By `while`: from each second access it goes on to the next one's entries.
     while k < count {
         let u = row_at(recs, ranks, (list[ENTRY_NUMBERS * k + 1] - 1) as usize);
         s = go_on(recs, ranks, chosen, width, clocks, s, u, sends);

@@ -7,7 +7,6 @@ ghost use Rattle.races.specs.loops.Refilling.{Refillable};
 
 use clocks::{add_one, clear_rows};
 use order::merging::merge_links;
-use records::access;
 
 // One more at entry c of row u.
 pub(crate) fn add_to_row(clocks: &mut [u16], width: usize, u: usize, c: usize)
@@ -33,17 +32,12 @@ pub(crate) fn refill(
         ≡ trace_clocks (decode recs.now) width ++ drop (events_in (decode recs.now) * width) clocks.old }
 {
     clear_rows(clocks, width, events as u16);
-    let n = access::count(recs);
     let mut chains = 0;
-    let mut u = 0;
     let mut i = 0;
-    while i < n {
+    for u in 0..events {
         let c = chosen[u] as usize;
         add_to_row(clocks, width, u, c);
-        if chains <= c {
-            chains = c + 1;
-        }
+        chains = chains.max(c + 1);
         i = merge_links(recs, ranks, width, chains, clocks, i + 1);
-        u += 1;
     }
 }

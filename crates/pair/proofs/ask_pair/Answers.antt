@@ -44,6 +44,17 @@ slice_bounds-ask_filled-end c =
     p at_clear.clear.ensures _ (ap fill_paper at-answer.in_ok-chains.was) _ c.records.ensures in
     sym (chosen-length l.filled)
 
+pub invariant_of-ask_filled : goal.invariant_of-ask_filled
+invariant_of-ask_filled c =
+    let at-answer = c in
+    let at_clear = at-answer in
+    let at-prepare = at_clear in
+    let s = at-prepare in
+    let p = at-prepare.prepare_pair-prepared.ensures in
+    let l = askable s.args.bytes.now s.args.a.0 s.args.b.0 s.args.width s.args.clocks.now _ s.args.work.now _ _ s.args.list.now _ _
+    p at_clear.clear.ensures _ (ap fill_paper at-answer.in_ok-chains.was) _ c.records.ensures in
+    record { narrow = l.filled.narrow; chains = chosen-length l.filled }
+
 pub ask_filled-requires : goal.ask_filled-requires
 ask_filled-requires c =
     let at_records = c in

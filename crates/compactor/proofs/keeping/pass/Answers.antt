@@ -45,11 +45,11 @@ loop-i-preserved c =
     let l = c.loop-i.invariant.1 in
     let more : suc c.loop-i.i ≤ length (decode c.args.recs.now) = omega arith in
     elim c.if-keeps.branch [
-      then-keeps w ↦
-        let y = is_kept k.result k.ensures.0 w.if-keeps.true in
-        let room = written-room _ c.args.writing l _ (few-kept c.requires.0 (suc c.loop-i.i) more).1 y c.requires.1 in
-        rw (w.k-is, w.out-is) (k.ensures.1, written-kept _ c.args.writing l y room w.put.ensures, omega arith)
-    | else-keeps w ↦ rw (w.k-is, w.out-is) (k.ensures.1, written-dropped _ l (not-kept k.result k.ensures.0 w.if-keeps.false), omega arith)
+      | then-keeps w ↦
+          let y = is_kept k.result k.ensures.0 w.if-keeps.true in
+          let room = written-room _ c.args.writing l _ (few-kept c.requires.0 (suc c.loop-i.i) more).1 y c.requires.1 in
+          rw (w.k-is, w.out-is) (k.ensures.1, written-kept _ c.args.writing l y room w.put.ensures, omega arith)
+      | else-keeps w ↦ rw (w.k-is, w.out-is) (k.ensures.1, written-dropped _ l (not-kept k.result k.ensures.0 w.if-keeps.false), omega arith)
     ]
 
 pub shape_of-out : goal.shape_of-out

@@ -1,4 +1,3 @@
-use Prim.Native.Nat.{◌-◌}
 use mathlib.Core.Path.{◌≡◌}
 use lib.ListN.{length}
 use Rattle.bits.specs.Table.{bit_of}
@@ -10,6 +9,3 @@ abbrev pub invariant-loop-u : goal.invariant-loop-u
 invariant-loop-u l =
     Restorable (bit_of l.table) l.events l.width l.chosen l.initial.clocks × ((f : Restorable (bit_of l.table) l.events l.width l.chosen l.initial.clocks) → Restoring f l.u l.clocks)
     × (length l.clocks ≡ length l.initial.clocks)
-
-abbrev pub decreases-loop-u : goal.decreases-loop-u
-decreases-loop-u l = l.events - l.u

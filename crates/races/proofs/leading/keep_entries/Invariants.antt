@@ -1,5 +1,5 @@
 use mathlib.Core.Path.{◌≡◌}
-use Prim.Native.Nat.{◌+◌, ◌*◌, ◌-◌, ◌≤◌}
+use Prim.Native.Nat.{◌+◌, ◌*◌, ◌≤◌}
 use lib.ListN.{length}
 use Rattle.races.specs.loops.Leading.{kept_to}
 use Rattle.races.proofs.leading.keep_entries.Given as goal
@@ -7,6 +7,3 @@ use Rattle.races.proofs.leading.keep_entries.Given as goal
 abbrev pub invariant-loop-c : goal.invariant-loop-c
 invariant-loop-c l =
     (l.a ≡ l.t * l.width) × (l.t * l.width + l.width ≤ length l.clocks) × (l.width ≤ 1024) × (l.c ≤ l.width) × (l.kept ≡ kept_to l.width l.t l.clocks l.c)
-
-abbrev pub decreases-loop-c : goal.decreases-loop-c
-decreases-loop-c l = l.width - l.c

@@ -22,15 +22,6 @@ begun_after-begun-requires c =
     let s = n in
     omega (arith, l.loop-b.invariant.2, counted-le (decode s.args.recs.now) l.loop-b.b, n.count-n.ensures, c.loop-b-test.true, s.requires.0.acceptable.few)
 
-pub overflow_add-b : goal.overflow_add-b
-overflow_add-b c =
-    let n = c in
-    let s = n in
-    omega (arith, c.loop-b-test.true, n.count-n.ensures, s.requires.0.acceptable.few)
-
-pub loop-b-smaller-then-kind-lt5 : goal.loop-b-smaller-then-kind-lt5
-loop-b-smaller-then-kind-lt5 c = omega (arith, c.loop-b-test.true)
-
 pub loop-b-preserved-then-kind-lt5 : goal.loop-b-preserved-then-kind-lt5
 loop-b-preserved-then-kind-lt5 c =
     let l = c in
@@ -77,16 +68,6 @@ list_firsts-k-requires c =
     let t = kind-access (at (decode s.args.recs.now) l.loop-b.b) (omega (arith, i.base_kind_at-kind.ensures, i.if-kind-lt5.false)) in
     let r = w.take_access-firsts.ensures.ranges in
     record { second = (second_at s.requires.0 h t l.loop-b.invariant.2, r.range); room_if = way-room r (listing-room l.loop-b.invariant.0 s.requires.0.acceptable.few h s.requires.1) }
-
-pub overflow_add-b-in-loop-b : goal.overflow_add-b-in-loop-b
-overflow_add-b-in-loop-b c =
-    let i = c in
-    let n = i in
-    let s = n in
-    omega (arith, i.loop-b-test.true, n.count-n.ensures, s.requires.0.acceptable.few)
-
-pub loop-b-smaller : goal.loop-b-smaller
-loop-b-smaller c = let t = c in omega (arith, t.loop-b-test.true)
 
 pub loop-b-preserved : goal.loop-b-preserved
 loop-b-preserved c =
