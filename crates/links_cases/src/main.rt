@@ -3,16 +3,14 @@
 #![tactic(auto)]
 
 mod cases;
-mod chance;
 mod draft;
 mod random;
 mod rules;
 mod show;
-mod slots;
 
+use trials::line::word;
 use cases::Counts;
 use records::access;
-use show::word;
 
 fn count_text(text: &[u8], x: usize, before: Counts) -> Counts {
     let mut bytes = draft::space();

@@ -1,8 +1,8 @@
 // Traces put together by chance: event actions in begin order, each with joins of earlier ones, and forks and sends to later ones or to two that never
 // begin. Acceptable but for 31.
-use crate::chance::roll;
+use trials::numbers::{pick, plus};
+use trials::chance::roll;
 use crate::draft::put_record;
-use crate::slots::{pick, plus, wide};
 use records::access;
 
 // What a seed settles: how many event actions, at most how many forks and sends each (less 1), how often it joins, forks and sends to any target (of 8),
@@ -89,7 +89,7 @@ fn kind_of(s: Shape, x: Action, at: usize, r: usize) -> u8 {
 fn highest(bytes: &[u8], s: Shape, n: usize, kind: u8, lowest: usize) -> usize {
     let mut most = lowest;
     for i in 0..n {
-        let t = rank(s, wide(access::target_at(bytes, i).0));
+        let t = rank(s, usize::from(access::target_at(bytes, i).0));
         if (access::kind_at(bytes, i) == kind) & (most < t) {
             most = t;
         }

@@ -1,6 +1,9 @@
 // Happens-before by its rules, and refusal 31 by its words, of at most 128 records whose events are numbered below 32. Records are known by position,
 // from 0.
-use crate::slots::{bit, get, is_in, pick, plus, put, wide};
+use trials::sets::{bit, is_in};
+use slices::{get, put};
+use trials::numbers::{pick, plus};
+use trials::recs::{event_of, is_kind, target_of};
 use records::access;
 
 // What is found stands in one table: of each event u the set of the t ≼ u, then the set of those that begin, then of each event its row.
@@ -10,18 +13,6 @@ const ROWS: usize = 33;
 
 pub(crate) fn space() -> [usize; 65] {
     [0; 65]
-}
-
-fn is_kind(recs: &[u8], i: usize, kind: u8) -> bool {
-    access::kind_at(recs, i) == kind
-}
-
-fn event_of(recs: &[u8], i: usize) -> usize {
-    wide(access::event_at(recs, i).0)
-}
-
-fn target_of(recs: &[u8], i: usize) -> usize {
-    wide(access::target_at(recs, i).0)
 }
 
 fn is_send(recs: &[u8], i: usize) -> bool {

@@ -1,9 +1,11 @@
 // One call of the product, with what it must answer and leave in lent memory.
 ghost use Rattle.std.specs.Prelude.{◌≤◌};
 
+use slices::get;
+use trials::numbers::{pick, plus};
 use crate::judge::byte_at;
 use crate::known::Known;
-use crate::slots::{get_short, narrow, pick, plus, wide};
+use crate::slots::narrow;
 use crate::{chains, definitions, pair_answers};
 use order::Filling;
 use pair::PairAnswer;
@@ -64,8 +66,8 @@ pub(crate) struct Outcome {
 
 fn refused(f: Refusal) -> Reply {
     Reply {
-        number: wide(f.number),
-        place: wide(f.place.0),
+        number: usize::from(f.number),
+        place: usize::from(f.place.0),
         events: 0,
         records: 0,
         chains: 0,
@@ -162,7 +164,7 @@ fn clocks_agree(c: Case, table: &[usize], clocks: &[u16]) -> bool {
     for i in 0..1100 {
         let unfilled = pick(i < c.zeros, 0, 7);
         let expected = pick(i < c.rows, chains::clock(table, c.width, i), unfilled);
-        if get_short(clocks, i) != expected {
+        if usize::from(get(clocks, i)) != expected {
             return false;
         }
     }
@@ -183,7 +185,7 @@ fn list_agrees(c: Case, recs: &[u8], table: &[usize], list: &[u16]) -> bool {
     for i in 0..n {
         let number = definitions::number_in_list(recs, table, c.call == ALL_RACES, i);
         let expected = pick(i < c.listed, number, 9);
-        if get_short(list, i) != expected {
+        if usize::from(get(list, i)) != expected {
             return false;
         }
     }

@@ -1,10 +1,10 @@
 // One trace: read it, and compare every answer.
+use trials::numbers::{pick, plus};
+use trials::chance::roll;
 use crate::calls::{Case, PAIR};
-use crate::chance::roll;
 use crate::definitions::{is_race, race_first, race_second};
 use crate::draft::Draft;
 use crate::known::Known;
-use crate::slots::{pick, plus, wide};
 use crate::tally::Counts;
 use crate::{
     calls, damage, draft, expectations, frames, judge, known, order_cases, paths, slim_cases, tally,
@@ -144,8 +144,8 @@ fn compare_others(bytes: &[u8], number: usize, place: usize, before: Counts) -> 
 }
 
 fn note_refusal(bytes: &[u8], f: Refusal, before: Counts) -> Counts {
-    let number = wide(f.number);
-    let place = wide(f.place.0);
+    let number = usize::from(f.number);
+    let place = usize::from(f.place.0);
     let tally = tally::add(before, plus(tally::REFUSED, number), 1);
     let judged = compare_judged(bytes, number, place, tally);
     let refused = compare_refused(bytes, number, place, judged);

@@ -1,7 +1,9 @@
 // A trace with one thing changed, or nothing.
-use crate::chance::roll;
+use slices::{get, put};
+use trials::numbers::{pick, plus};
+use trials::chance::roll;
 use crate::draft::{Draft, byte, put_trailer};
-use crate::slots::{NOWHERE, fives, get_byte, pick, plus, put_byte};
+use crate::slots::{NOWHERE, fives};
 
 // Where the trailer is put, which record is written over which, where a byte is put and which, and how long the trace is.
 #[derive(Clone, Copy)]
@@ -68,8 +70,8 @@ fn choose(d: Draft, seed: usize, way: usize) -> Change {
 // Writes record p over record q.
 fn repeat(bytes: &mut [u8], p: usize, q: usize) {
     for i in 0..5 {
-        let b = get_byte(bytes, plus(p, i));
-        put_byte(bytes, plus(q, i), b);
+        let b = get(bytes, plus(p, i));
+        put(bytes, plus(q, i), b);
     }
 }
 
@@ -78,6 +80,6 @@ pub(crate) fn put_end(bytes: &mut [u8], d: Draft, whole: bool, seed: usize) -> u
     let x = choose(d, seed, pick(whole, 9, roll(seed, d.end, 37, 9)));
     put_trailer(bytes, x.end, between(d.start, x.end), d.events);
     repeat(bytes, x.p, x.q);
-    put_byte(bytes, x.at, x.byte);
+    put(bytes, x.at, x.byte);
     x.length
 }

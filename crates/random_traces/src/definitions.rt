@@ -1,6 +1,9 @@
 // Races, cover and both lists by their definitions.
-use crate::paths::{FIRST, MARK, SECOND, SHORT, action_of, before, cell_of, is_kind, reaches};
-use crate::slots::{get, is_in, pick, plus, put};
+use slices::{get, put};
+use trials::sets::is_in;
+use trials::numbers::{pick, plus};
+use trials::recs::{cell_of, is_kind};
+use crate::paths::{FIRST, MARK, SECOND, SHORT, action_of, before, reaches};
 use records::access;
 
 // "For records a ≼ b: in different event actions as those are ordered; in one, when a stands earlier."

@@ -1,8 +1,10 @@
 // Traces put together by chance, each of them acceptable but for 31.
-use crate::chance::roll;
+use slices::{get, put};
+use trials::numbers::{pick, plus};
+use trials::recs::{is_kind, target_of};
+use trials::chance::roll;
 use crate::damage::between;
-use crate::paths::{is_kind, target_of};
-use crate::slots::{fives, get_byte, narrow, pick, plus, put_byte};
+use crate::slots::{fives, narrow};
 use records::access;
 
 // What a seed settles: how many event actions, at most how many body records each (less 1), how often it joins (of 8), forks, sends and writes (of 16),
@@ -103,7 +105,7 @@ pub(crate) fn byte(x: usize) -> u8 {
 fn put_part(bytes: &mut [u8], at: usize, part: &[u8]) -> usize {
     let n = part.len();
     for i in 0..n {
-        put_byte(bytes, plus(at, i), get_byte(part, i));
+        put(bytes, plus(at, i), get(part, i));
     }
     plus(at, n)
 }

@@ -1,7 +1,9 @@
 // The reader's answer by document 01's words: each record against all that stand before it.
-use crate::paths::{event_of, is_kind, is_send, target_of};
+use slices::get;
+use trials::numbers::{less, pick, plus};
+use trials::recs::{event_of, is_kind, target_of};
+use crate::paths::is_send;
 use crate::sends::is_blocked;
-use crate::slots::{get_byte, less, pick, plus, wide};
 use records::{Trace, access};
 
 // A refusal's number and place; number 0 for an accepted trace.
@@ -34,7 +36,7 @@ fn is_number(x: usize) -> bool {
 
 // "event or cell not 1 to 1,024, or second of a begin or end not 0"
 fn has_numbers(recs: &[u8], i: usize) -> bool {
-    let y = wide(access::record_at(recs, i).second);
+    let y = usize::from(access::record_at(recs, i).second);
     if access::kind_at(recs, i) < 3 {
         return is_number(event_of(recs, i)) & (y == 0);
     }
@@ -120,7 +122,7 @@ fn judge_records(recs: &[u8], begins: usize) -> Verdict {
 }
 
 pub(crate) fn byte_at(bytes: &[u8], at: usize) -> usize {
-    crate::slots::wide(get_byte(bytes, at) as u16)
+    usize::from(get(bytes, at) as u16)
 }
 
 // Two bytes as a number, low byte first.

@@ -1,5 +1,5 @@
 // What the plain search knows of one accepted trace, beside the table.
-use crate::slots::{less, plus};
+use trials::numbers::{less, plus};
 use crate::{chains, definitions, judge, paths};
 use records::access;
 

@@ -4,7 +4,6 @@
 mod calls;
 mod cases;
 mod chains;
-mod chance;
 mod damage;
 mod definitions;
 mod draft;

@@ -1,7 +1,8 @@
 // The order question against the paths.
+use trials::numbers::{less, pick, plus};
 use crate::calls::clock_space;
 use crate::known::Known;
-use crate::slots::{less, narrow, pick, plus, wide};
+use crate::slots::narrow;
 use crate::tally::Counts;
 use crate::{paths, tally};
 use clocks::Relation;
@@ -21,7 +22,7 @@ fn number(way: Relation) -> usize {
 fn code(r: Answer) -> usize {
     match r {
         Answer::Related(way) => number(way),
-        Answer::Refused(f) => plus(wide(f.number), wide(f.place.0)),
+        Answer::Refused(f) => plus(usize::from(f.number), usize::from(f.place.0)),
     }
 }
 

@@ -1,24 +1,26 @@
 // An answer of the pair question against the definitions of cover and arrangement.
+use slices::get;
+use trials::sets::is_in;
+use trials::numbers::{less, pick, plus};
 use crate::definitions::{is_before, is_race};
 use crate::known::Known;
 use crate::paths::{action_of, reaches};
-use crate::slots::{get_short, is_in, less, pick, plus};
 use crate::{definitions, judge, paths};
 use records::access;
 
 // Entries of two numbers.
 fn first_of(list: &[u16], i: usize) -> usize {
-    get_short(list, plus(i, i))
+    usize::from(get(list, plus(i, i)))
 }
 
 fn second_of(list: &[u16], i: usize) -> usize {
-    get_short(list, plus(plus(i, i), 1))
+    usize::from(get(list, plus(plus(i, i), 1)))
 }
 
 // Nothing is written after the first n entries.
 fn ends_at(list: &[u16], n: usize) -> bool {
     for i in plus(n, n)..256 {
-        if get_short(list, i) != 9 {
+        if usize::from(get(list, i)) != 9 {
             return false;
         }
     }

@@ -1,8 +1,12 @@
 // Event actions and the paths between them, by plain search. An event action is known by its rank, from 1 in order of begin, a record by its
 // position, from 0. What is found of a trace stands in one table: the numbers of the event actions and the sets of those that happen before each, the
 // chains as sets of their members, the ranks by event number, the records and marks of the races, and which of them are in the short list.
+use trials::sets::{bit, is_in};
+use slices::{get, put};
+use trials::numbers::{pick, plus};
+use trials::recs::{cell_of, event_of, is_kind, target_of};
 use crate::sends::find_ahead;
-use crate::slots::{NOWHERE, bit, get, is_in, pick, plus, put, remainder, wide};
+use crate::slots::{NOWHERE, remainder};
 use records::access;
 
 const BEFORE: usize = 64;
@@ -21,25 +25,6 @@ pub(crate) const SHORT: usize = 22096;
 
 pub(crate) fn table_space() -> [usize; 28096] {
     [0; 28096]
-}
-
-// The event of record i.
-pub(crate) fn event_of(recs: &[u8], i: usize) -> usize {
-    wide(access::event_at(recs, i).0)
-}
-
-// The event that record i starts or waits for, where it is a fork or a join.
-pub(crate) fn target_of(recs: &[u8], i: usize) -> usize {
-    wide(access::target_at(recs, i).0)
-}
-
-// The cell of record i, where it is a read or a write.
-pub(crate) fn cell_of(recs: &[u8], i: usize) -> usize {
-    wide(access::cell_at(recs, i).0)
-}
-
-pub(crate) fn is_kind(recs: &[u8], i: usize, kind: u8) -> bool {
-    access::kind_at(recs, i) == kind
 }
 
 // A send on one of four links: placed, checked and ordering as a fork.

@@ -1,8 +1,10 @@
 // What sends on one link say of order, and refusal 31, as far as the order is found.
+use trials::sets::is_in;
+use trials::numbers::pick;
+use trials::recs::{event_of, is_kind, target_of};
 use crate::definitions::is_before;
 use crate::known;
-use crate::paths::{before, event_of, is_kind, is_send, rank, target_of};
-use crate::slots::{is_in, pick};
+use crate::paths::{before, is_send, rank};
 use records::access;
 
 // Send a is on the link of send b, to another target, and a ≼ b.

@@ -1,8 +1,10 @@
 // A trace and what is kept of it, by plain search. The numbers of the records in the slim trace stand in a map, from 1, with 0 for those that are
 // dropped; then, for each record of the slim trace, its number in the trace.
+use slices::{get, put};
+use trials::numbers::{less, plus};
+use trials::recs::{cell_of, event_of};
 use crate::definitions::{is_access, race_first, race_second};
-use crate::paths::{MARK, action_of, before, cell_of, event_of};
-use crate::slots::{get, get_byte, less, plus, put};
+use crate::paths::{MARK, action_of, before};
 use records::access;
 
 pub(crate) const NEW: usize = 0;
@@ -146,7 +148,7 @@ pub(crate) fn all_found(
 
 pub(crate) fn same_bytes(bytes: &[u8], others: &[u8], n: usize) -> bool {
     for i in (0..n).rev() {
-        if get_byte(bytes, i) != get_byte(others, i) {
+        if get(bytes, i) != get(others, i) {
             return false;
         }
     }

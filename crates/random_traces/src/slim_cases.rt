@@ -1,9 +1,9 @@
 // The compactor on one accepted trace: what it keeps, and the order and the open races of the slim trace, by plain search.
+use trials::numbers::{less, plus};
 use crate::calls::at_most;
 use crate::cases::first_bytes;
 use crate::known::Known;
 use crate::slim::Side;
-use crate::slots::{less, plus, wide};
 use crate::tally::Counts;
 use crate::{damage, draft, known, paths, slim, tally};
 use compactor::Compacting;
@@ -23,7 +23,7 @@ pub(crate) fn is_refused(bytes: &[u8], length: usize, number: usize, place: usiz
     match r {
         Compacting::Compacted(_) => false,
         Compacting::Refused(f) => {
-            let same = (wide(f.number) == number) & (wide(f.place.0) == place);
+            let same = (usize::from(f.number) == number) & (usize::from(f.place.0) == place);
             same & slim::same_bytes(out, &space(), 2048)
         }
     }

@@ -1,6 +1,7 @@
 // What was counted. Each group has two counts: agreements, then disagreements. The totals follow the groups.
-use crate::slots::{get_byte, pick, plus};
 
+use slices::get;
+use trials::numbers::{pick, plus};
 #[derive(Clone, Copy)]
 pub(crate) struct Counts {
     pub at: [usize; 72],
@@ -128,7 +129,7 @@ fn show_byte(tally: Counts, k: usize, b: u8) -> usize {
 fn show_text(tally: Counts, from: usize, text: &[u8]) -> usize {
     let mut k = from;
     for i in 0..text.len() {
-        k = show_byte(tally, k, get_byte(text, i));
+        k = show_byte(tally, k, get(text, i));
     }
     k
 }

@@ -1,7 +1,10 @@
 // All arrangements of a trace, by definition: sequences of at most six event actions, each whole but the last. Each is known by the set of its records.
+use trials::sets::{bit, is_in};
+use slices::{get, put};
+use trials::numbers::plus;
+use trials::recs::event_of;
 use crate::paths;
-use crate::paths::event_of;
-use crate::slots::{bit, get, has_all, is_in, plus, put};
+use crate::slots::has_all;
 use records::access;
 
 // In the set of an arrangement: it does not run its records in trace order; it is none.

@@ -8,17 +8,20 @@ mod paths;
 mod show;
 mod slots;
 
+use trials::sets::{bit, is_in};
+use slices::get;
+use trials::numbers::{pick, plus};
+use trials::line::{number, word};
 use pair::PairAnswer;
 use records::{Operation, access};
-use show::{number, word};
-use slots::{bit, get_short, has_all, is_in, pick, plus, size};
+use slots::{has_all, size};
 use std::fs;
 use trace::Reading;
 
 // Does the entry stand for record i: "its event's records, joins included, up to that one"?
 fn stands_for(recs: &[u8], list: &[u16], entry: usize, i: usize) -> bool {
-    let event = get_short(list, plus(entry, entry));
-    let last = get_short(list, plus(plus(entry, entry), 1));
+    let event = usize::from(get(list, plus(entry, entry)));
+    let last = usize::from(get(list, plus(plus(entry, entry), 1)));
     (paths::event_of(recs, i) == event) & (i < last)
 }
 

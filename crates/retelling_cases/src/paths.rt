@@ -1,5 +1,8 @@
 // Happens-before and races of a trace of at most 60 records whose events are numbered below 8, by definition. Records are known by position, from 0.
-use crate::slots::{bit, get, is_in, pick, plus, put, wide};
+use trials::sets::{bit, is_in};
+use slices::{get, put};
+use trials::numbers::{pick, plus};
+use trials::recs::{event_of, is_kind, target_of};
 use records::access;
 
 // What is found stands in one table: of each event the set of those that happen before it, of each record y the set of the x ≼ y and that of the x
@@ -12,22 +15,9 @@ pub(crate) fn table_space() -> [usize; 1024] {
     [0; 1024]
 }
 
-pub(crate) fn event_of(recs: &[u8], i: usize) -> usize {
-    wide(access::event_at(recs, i).0)
-}
-
-fn is_kind(recs: &[u8], i: usize, kind: u8) -> bool {
-    access::kind_at(recs, i) == kind
-}
-
 // t = u, or a path leads from t to u.
 fn reaches(table: &[usize], t: usize, u: usize) -> bool {
     is_in(get(table, u) | bit(u), t)
-}
-
-// The event that record i starts or waits for, where it is a fork or a join.
-fn target_of(recs: &[u8], i: usize) -> usize {
-    wide(access::target_at(recs, i).0)
 }
 
 // The two that a fork or a join orders; 0 for the later one where record i is neither.

@@ -1,6 +1,6 @@
 // Words and numbers on the line.
-use crate::slots::get_short;
 
+use slices::get;
 pub(crate) fn word(text: &[u8]) {
     io::write_all(1, text);
 }
@@ -13,6 +13,6 @@ pub(crate) fn number(n: usize) {
 // The first n of them.
 pub(crate) fn numbers(list: &[u16], n: usize) {
     for i in 0..n {
-        number(get_short(list, i));
+        number(usize::from(get(list, i)));
     }
 }

@@ -29,6 +29,12 @@ impl Zero for u64 {
     const ZERO: u64 = 0;
 }
 
+impl Zero for usize {
+    ghost ZERO = { 0 };
+
+    const ZERO: usize = 0;
+}
+
 // The element at a position; past the end 0.
 pub fn get<T: Zero>(items: &[T], at: usize) -> T
     ensures { result ≡ get_or items.now at T.ZERO }

@@ -4,5 +4,3 @@ use Rattle.random_traces.proofs.judge.first_refused.Given as goal
 abbrev pub invariant-loop-i : goal.invariant-loop-i
 invariant-loop-i l = l.initial.i ≤ l.i
 
-abbrev pub decreases-loop-i : goal.decreases-loop-i
-decreases-loop-i l = l.n - l.i

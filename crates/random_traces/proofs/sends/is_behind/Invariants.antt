@@ -4,5 +4,3 @@ use Rattle.random_traces.proofs.sends.is_behind.Given as goal
 abbrev pub invariant-loop-b : goal.invariant-loop-b
 invariant-loop-b l = l.initial.b ≤ l.b
 
-abbrev pub decreases-loop-b : goal.decreases-loop-b
-decreases-loop-b l = l.n - l.b

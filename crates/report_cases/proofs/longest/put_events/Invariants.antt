@@ -4,5 +4,3 @@ use Rattle.report_cases.proofs.longest.put_events.Given as goal
 abbrev pub invariant-loop-e : goal.invariant-loop-e
 invariant-loop-e l = (length l.bytes ≡ length l.initial.bytes) × (l.e ≤ 1025)
 
-abbrev pub decreases-loop-e : goal.decreases-loop-e
-decreases-loop-e l = 1025 - l.e
