@@ -2,9 +2,9 @@
 ghost use Rattle.std.specs.Prelude.{◌≡◌, ◌+◌, ◌-◌, ◌≤◌, length};
 ghost use Rattle.records.specs.Bytes.{decode, part};
 ghost use Rattle.records.specs.Records.{at, past, begins, leading};
-ghost use Rattle.records.specs.Kinds.{base_kind};
+ghost use Rattle.records.specs.Kinds.{Says, base_kind};
 
-use crate::{EventId, RECORD_BYTES, Record, Trace, Var};
+use crate::{EventId, Kind, RECORD_BYTES, Record, Trace, Var};
 
 // Where a record's fields stand in its bytes.
 const FIRST: usize = 1;
@@ -49,6 +49,13 @@ pub fn kind_at(recs: &[u8], i: usize) -> u8
     } else {
         0
     }
+}
+
+// The same, by what the byte says.
+pub fn kind_of(recs: &[u8], i: usize) -> Kind
+    ensures { Says (at (decode recs.now) i).kind result }
+{
+    Kind::from(kind_at(recs, i))
 }
 
 // The kind of record i where it is one of document 01's six, begin to write; 0 for any other record.

@@ -2,8 +2,11 @@
 #![tactic(auto)]
 
 pub mod access;
+pub mod kinds;
 pub mod search;
 pub mod store;
+
+pub use kinds::Kind;
 
 // An event's number, 1 to 1,024: the source's EventId.
 #[derive(Clone, Copy, PartialEq, Eq, PartialOrd, Ord)]
