@@ -5,9 +5,10 @@ ghost use Rattle.std.specs.Prelude.{◌≡◌, ◌*◌, ◌≤◌};
 ghost use Rattle.listing.specs.Lines.{Printed};
 ghost use Rattle.report.specs.Text.{entry_line, entry_lines, Prints, lines_of};
 
-use races::{ENTRY_NUMBERS, Listing};
+use races::ENTRY_NUMBERS;
 use records::{Operation, Var};
 use slices::{get, zeros};
+use trace::Reason;
 
 // At most that many bytes of input; more is refusal 13.
 pub const LONGEST: usize = 32768;
@@ -46,17 +47,17 @@ pub fn report(input: &[u8], text: &mut [u8]) -> usize
     ensures { Prints text.old 0 (lines_of input.now) text.new result }
 {
     if LONGEST < input.len() {
-        return listing::put_refusal(text, 0, 13, Operation(0));
+        return listing::put_refusal(text, 0, Reason::TooLong.number() as usize, Operation(0));
     }
     let mut clocks = zeros::<u16, 32768>();
     let mut work = zeros::<u8, 1024>();
     let mut list = zeros::<u16, 40960>();
     let found = races::short_list(input, 32, &mut clocks, &mut work, &mut list);
     match found {
-        Listing::Listed(s) => {
+        Ok(s) => {
             let at = listing::put_header(text, 0, s.events, s.records, s.chains, s.count);
             put_entries(&list, s.count, text, at)
         }
-        Listing::Refused(f) => listing::put_refusal(text, 0, f.number as usize, f.place),
+        Err(f) => listing::put_refusal(text, 0, f.reason.number() as usize, f.place),
     }
 }
