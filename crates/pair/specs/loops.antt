@@ -3,4 +3,3 @@ pub mod Leading
 pub mod Kept
 pub mod PairSearch
 pub mod Answers
-pub mod FilledOnce

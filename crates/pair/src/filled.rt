@@ -2,7 +2,7 @@
 ghost use Rattle.std.specs.Prelude.{◌≡◌, ◌≤◌, length};
 ghost use Rattle.records.specs.Bytes.{decode};
 ghost use Rattle.races.specs.loops.FilledClocks.{FilledClocks};
-ghost use Rattle.pair.specs.loops.FilledOnce.{filled_once};
+ghost use Rattle.races.specs.loops.FilledOnce.{filled_once};
 
 // The rows in the clocks, and the chain of each.
 #[derive(Clone, Copy)]

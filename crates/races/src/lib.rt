@@ -2,6 +2,7 @@
 #![tactic(auto)]
 
 mod candidates;
+mod filled;
 mod keeping;
 mod leading;
 mod lists;

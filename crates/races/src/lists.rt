@@ -3,8 +3,7 @@ ghost use Rattle.std.specs.Prelude.{◌≡◌, cond, ◌+◌, ◌*◌, ◌/◌, 
 ghost use Rattle.std.proofs.lemmas.List.Edits.{sets};
 ghost use Rattle.records.specs.Bytes.{decode};
 ghost use Rattle.records.specs.Records.{at};
-ghost use Rattle.records.specs.Kinds.{has_send};
-ghost use Rattle.order.specs.Fill.{events_in, chains_used};
+ghost use Rattle.order.specs.Fill.{chains_used};
 ghost use Rattle.races.specs.Lists.{entry_numbers, shape_of};
 ghost use Rattle.races.specs.Paper.{Lists};
 ghost use Rattle.races.specs.loops.ListsFilled.{ListsFilled};
@@ -12,8 +11,9 @@ ghost use Rattle.races.specs.loops.ListPass.{listed_below, raw, Second, OneRoom,
 ghost use Rattle.races.specs.loops.Candidates.{Range};
 ghost use Rattle.races.specs.loops.FilledClocks.{FilledClocks, OwnIs};
 
-use crate::candidates::{Firsts, take_access};
-use crate::racing::{Own, own_of, relation};
+use crate::candidates::{Cells, Firsts, take_access};
+use crate::filled::{Filled, Layout};
+use crate::racing::Own;
 use crate::{ENTRY_NUMBERS, Summary, raising};
 use clocks::is_unordered;
 use order::Call;
@@ -49,68 +49,58 @@ fn put_entry(recs: &[u8], a: usize, b: usize, list: &mut [u16], k: usize)
 }
 
 // Records a and b, of the own row, of which a may race with b: entry k where it does, written or only counted. The next entry.
-fn list_race(
-    recs: &[u8],
-    ranks: &[u16],
-    chosen: &[u16],
-    width: usize,
-    clocks: &[u16],
+fn list_race<const WRITING: bool>(
+    filled: Filled<'_>,
     a: usize,
     b: usize,
     own: Own,
     list: &mut [u16],
     k: usize,
-    writing: bool,
 ) -> usize
-    requires one_room { OneRoom writing (decode recs.now) ranks.now chosen.now width clocks.now a b own.row k list.old }
-    requires own_is { OwnIs chosen.now width clocks.now own.row own.chain own.entry }
-    ensures { OneWrites writing (decode recs.now) a b k list.old list.new result }
+    requires one_room { OneRoom WRITING (decode filled.layout.recs.now) filled.layout.ranks.now filled.layout.chosen.now filled.layout.width filled.clocks.now
+        a b own.row k list.old }
+    requires own_is { OwnIs filled.layout.chosen.now filled.layout.width filled.clocks.now own.row own.chain own.entry }
+    ensures { OneWrites WRITING (decode filled.entry.layout.recs.now) a b k list.old list.new result }
 {
-    if 6 < access::kind_at(recs, a) {
+    if 6 < access::kind_at(filled.layout.recs, a) {
         return k;
     }
-    if !is_unordered(relation(chosen, width, clocks, row_at(recs, ranks, a), own)) {
+    let t = row_at(filled.layout.recs, filled.layout.ranks, a);
+    if !is_unordered(filled.relation(t, own)) {
         return k;
     }
-    if writing {
-        put_entry(recs, a, b, list, k);
-        return k + 1;
+    if WRITING {
+        put_entry(filled.layout.recs, a, b, list, k);
     }
     k + 1
 }
 
 // The races on the way to b, of row u, from entry k on, written or only counted.
-fn list_firsts(
-    recs: &[u8],
-    ranks: &[u16],
-    chosen: &[u16],
-    width: usize,
-    clocks: &[u16],
+fn list_firsts<const WRITING: bool>(
+    filled: Filled<'_>,
     firsts: Firsts,
     b: usize,
     u: usize,
     list: &mut [u16],
     k: usize,
-    writing: bool,
 ) -> usize
-    requires second { Second (decode recs.now) ranks.now chosen.now width clocks.now b u × Range (decode recs.now) b firsts.from firsts.to }
-    requires room_if { RoomIf writing (decode recs.now) b firsts.from k list.old }
-    ensures { Writes writing (decode recs.now) b firsts.from k list.old list.new result }
+    requires second { Second (decode filled.layout.recs.now) filled.layout.ranks.now filled.layout.chosen.now filled.layout.width filled.clocks.now b u
+        × Range (decode filled.layout.recs.now) b firsts.from firsts.to }
+    requires room_if { RoomIf WRITING (decode filled.layout.recs.now) b firsts.from k list.old }
+    ensures { Writes WRITING (decode filled.entry.layout.recs.now) b firsts.from k list.old list.new result }
 {
     if firsts.to <= firsts.from {
         return k;
     }
-    let own = own_of(chosen, width, clocks, u);
-    let c = access::cell_at(recs, b);
-    let least = search::least_kind(access::kind_at(recs, b));
+    let own = filled.own_of(u);
+    let c = access::cell_at(filled.layout.recs, b);
+    let least = search::least_kind(access::kind_at(filled.layout.recs, b));
     let mut e = k;
-    let mut a = search::next_access(recs, firsts.from, firsts.to, c, least);
+    let mut a = search::next_access(filled.layout.recs, firsts.from, firsts.to, c, least);
     // By `while`: from each access the search goes on to the next.
     while a < firsts.to {
-        e = list_race(
-            recs, ranks, chosen, width, clocks, a, b, own, list, e, writing,
-        );
-        a = search::next_access(recs, a + 1, firsts.to, c, least);
+        e = list_race::<WRITING>(filled, a, b, own, list, e);
+        a = search::next_access(filled.layout.recs, a + 1, firsts.to, c, least);
     }
     e
 }
@@ -124,46 +114,26 @@ fn begun_after(kind: u8, begun: usize) -> usize
 }
 
 // All entries, written or only counted; their number.
-fn list_all(
-    recs: &[u8],
-    ranks: &[u16],
-    chosen: &[u16],
-    width: usize,
-    clocks: &[u16],
-    list: &mut [u16],
-    short: bool,
-    writing: bool,
-) -> usize
-    requires { FilledClocks (decode recs.now) ranks.now chosen.now width clocks.now ×
-        (T writing → entry_numbers * length (listed_below (decode recs.now) short (length (decode recs.now))) ≤ length list.old) }
-    ensures { WritesAll writing (decode recs.now) short list.old list.new result }
+fn list_all<const WRITING: bool>(filled: Filled<'_>, list: &mut [u16], short: bool) -> usize
+    requires { T WRITING → entry_numbers * length (listed_below (decode filled.layout.recs.now) short (length (decode filled.layout.recs.now))) ≤ length list.old }
+    ensures { WritesAll WRITING (decode filled.entry.layout.recs.now) short list.old list.new result }
 {
-    let n = access::count(recs);
-    let mut seen = zeros::<u16, 1025>();
-    let mut writes = zeros::<u16, 1025>();
+    let n = access::count(filled.layout.recs);
+    let mut cells = Cells {
+        seen: zeros::<u16, 1025>(),
+        writes: zeros::<u16, 1025>(),
+    };
     let mut k = 0;
     let mut begun = 0;
     for b in 0..n {
-        let kind = access::base_kind_at(recs, b);
+        let kind = access::base_kind_at(filled.layout.recs, b);
         if kind < 5 {
             begun = begun_after(kind, begun);
             continue;
         }
         let u = begun - 1;
-        let firsts = take_access(
-            recs,
-            chosen,
-            width,
-            clocks,
-            &mut seen,
-            &mut writes,
-            b,
-            u,
-            short,
-        );
-        k = list_firsts(
-            recs, ranks, chosen, width, clocks, firsts, b, u, list, k, writing,
-        );
+        let firsts = take_access(filled, &mut cells, b, u, short);
+        k = list_firsts::<WRITING>(filled, firsts, b, u, list, k);
     }
     k
 }
@@ -187,84 +157,54 @@ fn is_ample(short: bool, records: usize, space: usize) -> bool
 }
 
 // How many entries there are, or 1 where there is space for them in any case.
-fn count_all(
-    recs: &[u8],
-    ranks: &[u16],
-    chosen: &[u16],
-    width: usize,
-    clocks: &[u16],
-    list: &mut [u16],
-    short: bool,
-) -> usize
-    requires { FilledClocks (decode recs.now) ranks.now chosen.now width clocks.now }
-    ensures { Counts (decode recs.now) short (length list.old) result × (list.new ≡ list.old) }
+fn count_all(filled: Filled<'_>, list: &mut [u16], short: bool) -> usize
+    ensures { Counts (decode filled.entry.layout.recs.now) short (length list.old) result × (list.new ≡ list.old) }
 {
-    if is_ample(short, access::count(recs), list.len()) {
+    if is_ample(short, access::count(filled.layout.recs), list.len()) {
         return 1;
     }
-    list_all(recs, ranks, chosen, width, clocks, list, short, false)
+    list_all::<false>(filled, list, short)
 }
 
 // Writes all entries and marks them; their number. The clocks are as before.
-fn write_all(
-    recs: &[u8],
-    ranks: &[u16],
-    chosen: &[u16],
-    events: usize,
-    width: usize,
-    clocks: &mut [u16],
-    list: &mut [u16],
-    short: bool,
-    sends: bool,
-) -> usize
-    requires filled_clocks { FilledClocks (decode recs.now) ranks.now chosen.now width clocks.old × (events ≡ events_in (decode recs.now)) ×
-        (sends ≡ has_send (decode recs.now)) }
-    requires recs_in_bounds { entry_numbers * length (listed_below (decode recs.now) short (length (decode recs.now))) ≤ length list.old }
-    ensures { ListsAll (decode recs.now) short list.old list.new result × (clocks.new ≡ clocks.old) }
+fn write_all(layout: Layout<'_>, clocks: &mut [u16], list: &mut [u16], short: bool) -> usize
+    requires { FilledClocks (decode layout.recs.now) layout.ranks.now layout.chosen.now layout.width clocks.old
+        × (entry_numbers * length (listed_below (decode layout.recs.now) short (length (decode layout.recs.now))) ≤ length list.old) }
+    ensures { ListsAll (decode layout.entry.recs.now) short list.old list.new result × (clocks.new ≡ clocks.old) }
 {
-    let found = list_all(recs, ranks, chosen, width, clocks, list, short, true);
-    raising::mark_list(
-        recs, ranks, chosen, events, width, clocks, list, found, sends,
-    );
+    let found = list_all::<true>(Filled { layout, clocks }, list, short);
+    raising::mark_list(layout, clocks, list, found);
     found
 }
 
-// The list of a trace whose clocks are filled.
+// The list of a trace whose clocks are filled, by so many chains.
 fn list_filled(
-    recs: &[u8],
-    events: usize,
-    width: usize,
-    clocks: &mut [u16],
-    chosen: &[u16],
-    ranks: &[u16],
+    layout: Layout<'_>,
     chains: usize,
+    clocks: &mut [u16],
     list: &mut [u16],
     short: bool,
-    sends: bool,
 ) -> Result<Summary, Refusal>
-    requires { FilledClocks (decode recs.now) ranks.now chosen.now width clocks.old × (events ≡ events_in (decode recs.now)) ×
-        (chains ≡ chains_used (decode recs.now)) × (sends ≡ has_send (decode recs.now)) }
-    ensures { ListsFilled short (decode recs.now) events clocks.old clocks.new list.old
-        list.new result }
+    requires { FilledClocks (decode layout.recs.now) layout.ranks.now layout.chosen.now layout.width clocks.old
+        × (chains ≡ chains_used (decode layout.recs.now)) }
+    ensures { ListsFilled short (decode layout.entry.recs.now) layout.entry.events clocks.old clocks.new list.old list.new result }
 {
-    let counted = count_all(recs, ranks, chosen, width, clocks, list, short);
+    let counted = count_all(Filled { layout, clocks }, list, short);
     if list.len() / ENTRY_NUMBERS < counted {
         return Err(Reason::ListSpace.at(Operation(0)));
     }
-    let records = access::count(recs);
+    let records = access::count(layout.recs);
     if counted == 0 {
         return Ok(Summary {
-            events,
+            events: layout.events,
             records,
             chains,
             count: 0,
         });
     }
-    let found = write_all(
-        recs, ranks, chosen, events, width, clocks, list, short, sends,
-    );
+    let found = write_all(layout, clocks, list, short);
     Ok(Summary {
-        events,
+        events: layout.events,
         records,
         chains,
         count: found,
@@ -297,7 +237,13 @@ pub(crate) fn list_races(
     clear(work, events);
     let chains = prepared.answer?;
     let recs = access::records(bytes, t);
-    list_filled(
-        recs, events, width, clocks, &chosen, &ranks, chains, list, short, t.sends,
-    )
+    let layout = Layout {
+        recs,
+        events,
+        sends: t.sends,
+        ranks: &ranks,
+        chosen: &chosen,
+        width,
+    };
+    list_filled(layout, chains, clocks, list, short)
 }

@@ -5,4 +5,4 @@ use Rattle.races.specs.loops.Keeping.{Kept, MayKeep}
 use Rattle.races.proofs.keeping.keep_row.Given as goal
 
 abbrev pub invariant-loop-t : goal.invariant-loop-t
-invariant-loop-t l = MayKeep l.chosen l.events l.width l.clocks × (l.u < l.events) × (l.t ≤ l.u) × Kept l.chosen l.width l.clocks l.u l.t l.table × (length l.table ≡ length l.initial.table)
+invariant-loop-t l = MayKeep l.layout.chosen.now l.layout.events l.layout.width l.clocks × (l.u < l.layout.events) × (l.t ≤ l.u) × Kept l.layout.chosen.now l.layout.width l.clocks l.u l.t l.table × (length l.table ≡ length l.initial.table)

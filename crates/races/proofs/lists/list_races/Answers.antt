@@ -12,8 +12,18 @@ returns-in_err-chains c =
     not_listed s.bytes.now s.short s.width s.clocks.now _ s.work.now _ _ s.list.now _ _ (for-list _ c.prepare-prepared.ensures) c.clear.ensures
     _ _ (ap fill_paper c.in_err-chains.was) _ (rw (p.1, p.2))
 
-pub slice_bounds-list_filled-end : goal.slice_bounds-list_filled-end
-slice_bounds-list_filled-end c =
+pub slice_bounds-layout-end : goal.slice_bounds-layout-end
+slice_bounds-layout-end c =
+    let r = c in
+    let a = r in
+    let k = a in
+    let p = k in
+    let s = p in
+    let l = listable s.args.bytes.now s.args.short s.args.width s.args.clocks.now _ s.args.work.now _ _ s.args.list.now _ _ (for-list _ p.prepare-prepared.ensures) k.clear.ensures _ (ap fill_paper a.in_ok-chains.was) _ r.records-recs.ensures in
+    sym (ranks-length l.filled)
+
+pub slice_bounds-layout-end-2 : goal.slice_bounds-layout-end-2
+slice_bounds-layout-end-2 c =
     let r = c in
     let a = r in
     let k = a in
@@ -22,15 +32,15 @@ slice_bounds-list_filled-end c =
     let l = listable s.args.bytes.now s.args.short s.args.width s.args.clocks.now _ s.args.work.now _ _ s.args.list.now _ _ (for-list _ p.prepare-prepared.ensures) k.clear.ensures _ (ap fill_paper a.in_ok-chains.was) _ r.records-recs.ensures in
     sym (chosen-length l.filled)
 
-pub slice_bounds-list_filled-end-2 : goal.slice_bounds-list_filled-end-2
-slice_bounds-list_filled-end-2 c =
+pub invariant_of-layout : goal.invariant_of-layout
+invariant_of-layout c =
     let r = c in
     let a = r in
     let k = a in
     let p = k in
     let s = p in
     let l = listable s.args.bytes.now s.args.short s.args.width s.args.clocks.now _ s.args.work.now _ _ s.args.list.now _ _ (for-list _ p.prepare-prepared.ensures) k.clear.ensures _ (ap fill_paper a.in_ok-chains.was) _ r.records-recs.ensures in
-    sym (ranks-length l.filled)
+    record { events_are = l.events_are; sends_are = l.sends_are }
 
 pub list_filled-requires : goal.list_filled-requires
 list_filled-requires c =
@@ -40,7 +50,7 @@ list_filled-requires c =
     let p = k in
     let s = p in
     let l = listable s.args.bytes.now s.args.short s.args.width s.args.clocks.now _ s.args.work.now _ _ s.args.list.now _ _ (for-list _ p.prepare-prepared.ensures) k.clear.ensures _ (ap fill_paper a.in_ok-chains.was) _ r.records-recs.ensures in
-    (l.filled, l.events_are, l.chains-used, l.sends_are)
+    (l.filled, l.chains-used)
 
 pub returns : goal.returns
 returns c =

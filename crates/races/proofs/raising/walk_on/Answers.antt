@@ -14,7 +14,7 @@ overflow_add-i c =
     let s2 = c in
     let inv = s2.loop-t.invariant in
     let start = s2 in
-    record { fits = omega (arith, inv.2, inv.1.to, inv.0.rows.low, decoded-length start.args.recs.now) }
+    record { fits = omega (arith, inv.2, inv.1.to, inv.0.rows.low, decoded-length start.args.layout.recs.now) }
 
 pub more_chains-chains-requires : goal.more_chains-chains-requires
 more_chains-chains-requires c =

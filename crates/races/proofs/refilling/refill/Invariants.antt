@@ -6,4 +6,4 @@ use Rattle.races.proofs.RefillLaws.{Refilling}
 use Rattle.races.proofs.refilling.refill.Given as goal
 
 abbrev pub invariant-loop-u : goal.invariant-loop-u
-invariant-loop-u l = (f : Refillable (decode l.recs) l.ranks l.chosen l.events l.width l.initial.clocks) × Refilling f l.i l.u l.chains l.clocks × (length l.clocks ≡ length l.initial.clocks)
+invariant-loop-u l = (f : Refillable (decode l.layout.recs.now) l.layout.ranks.now l.layout.chosen.now l.layout.events l.layout.width l.initial.clocks) × Refilling f l.i l.u l.chains l.clocks × (length l.clocks ≡ length l.initial.clocks)
