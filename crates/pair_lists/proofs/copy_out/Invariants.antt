@@ -1,4 +1,4 @@
-use Prim.Native.Nat.{◌-◌, ◌≤◌}
+use Prim.Native.Nat.{◌≤◌}
 use mathlib.Core.Path.{◌≡◌}
 use Rattle.pair_lists.specs.loops.Copying.{puts}
 use Rattle.pair_lists.proofs.copy_out.Given as goal

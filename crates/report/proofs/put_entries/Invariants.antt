@@ -1,4 +1,3 @@
-use Prim.Native.Nat.{◌-◌}
 use Rattle.report.proofs.TextLaws.{Printing}
 use Rattle.report.proofs.put_entries.Given as goal
 
