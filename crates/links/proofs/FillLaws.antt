@@ -16,10 +16,6 @@ use Rattle.links.specs.Rule.{Leaves, walk}
 use Rattle.links.specs.Fill.{linked, begin_row, begun, step_words, step_last, step_stuck, Stepped, fill_from}
 
 module _ (p u : ℕ) (ws : List ℕ) where
-  pub linked-none : p ≡ 0 → ws ≡ linked p u ws
-  unfolding linked
-  linked-none e = rw (eq-eqb p 0 e)
-
   pub linked-to-none : p ≢ 0 → u ≡ 0 → ws ≡ linked p u ws
   unfolding linked
   linked-to-none d e = rw (ne_eqb p 0 d, eq-eqb u 0 e)
@@ -29,10 +25,6 @@ module _ (p u : ℕ) (ws : List ℕ) where
   linked-is d f = rw (ne_eqb p 0 d, ne_eqb u 0 f)
 
 module _ (tr : List Record) (ranks : ℕ → ℕ) (e u from : ℕ) (ws : List ℕ) where
-  pub begin-none : u ≡ 0 → record { words = ws; stuck = false } ≡ begin_row tr ranks e u from ws
-  unfolding begin_row
-  begin-none z = rw (eq-eqb u 0 z)
-
   pub begin-is : u ≢ 0 → walk tr ranks e u from (put_bit (u - 1) (u - 1) ws) (zeros 64) ≡ begin_row tr ranks e u from ws
   unfolding begin_row
   begin-is d = rw (ne_eqb u 0 d)

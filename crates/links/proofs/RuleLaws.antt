@@ -2,7 +2,7 @@
 use Prim.Native.Nat.{ℕ, zero, suc, ◌+◌, ◌-◌, ◌≤◌, ◌<◌}
 use mathlib.Core.Path.{◌≡◌, refl, sym, ap, ap₂, ◌∙◌}
 use mathlib.Core.Logic.{◌≢◌}
-use mathlib.Core.Bool.{Bool, true, false}
+use mathlib.Core.Bool.{true, false}
 use mathlib.Core.List.{List}
 use native.Mathlib.Omega.{arith}
 use native.Mathlib.Decide.{ℕ_discrete}
@@ -28,10 +28,6 @@ module _ (t u : ℕ) (ws : List ℕ) where
   unfolding missing
   not-missing d h = rw (ne_eqb t 0 d, le-ltb u t h)
 
-  pub behind-missing : true ≡ missing t u → ws ≡ behind t u ws
-  unfolding behind
-  behind-missing e = rw (← e)
-
   pub behind-already : false ≡ missing t u → bit_of ws (t - 1) (u - 1) ≡ true → ws ≡ behind t u ws
   unfolding behind
   behind-already e h = rw (← e, h)
@@ -54,10 +50,6 @@ module _ (ranks : ℕ → ℕ) (e u : ℕ) (r : Record) (ws sets : List ℕ) whe
   unfolding sends
   sends-none n = rw n
 
-  pub sends-unranked : is_send r ≡ true → ranks r.first ≡ 0 → sends ranks e u r ws sets ≡ false
-  unfolding sends
-  sends-unranked s z = rw (s, eq-eqb (ranks r.first) 0 z)
-
   pub sends-is : is_send r ≡ true → ranks r.first ≢ 0 → sends ranks e u r ws sets ≡ true
   unfolding sends
   sends-is s d = rw (s, ne_eqb (ranks r.first) 0 d)
@@ -65,32 +57,6 @@ module _ (ranks : ℕ → ℕ) (e u : ℕ) (r : Record) (ws sets : List ℕ) whe
   pub turn-none : sends ranks e u r ws sets ≡ false → Turned ranks e u r ws sets false ws sets
   unfolding turn_stuck turn_words turn_sets hits
   turn-none s = record { stuck_is = rw s; words_are = rw s; sets_are = rw s }
-
-  module _ (l x : ℕ) (link-is : l ≡ r.kind - 16) (rank_is : x ≡ ranks r.first) (s : sends ranks e u r ws sets ≡ true) where
-    pub turn-reach : r.second ≡ e → (sets' : List ℕ) → sets' ≡ reach l (x - 1) ws sets → Turned ranks e u r ws sets false ws sets'
-    unfolding turn_stuck turn_words turn_sets hits
-    turn-reach z sets' q = record {
-      stuck_is = rw (s, eq-eqb r.second e z);
-      words_are = rw (s, eq-eqb r.second e z);
-      sets_are = rw (s, eq-eqb r.second e z, q, link-is, rank_is);
-    }
-
-    pub turn-unreached : r.second ≢ e → member sets l (x - 1) ≡ false → Turned ranks e u r ws sets false ws sets
-    unfolding turn_stuck turn_words turn_sets hits
-    turn-unreached d m =
-        let n : member sets (r.kind - 16) (ranks r.first - 1) ≡ false = rw (← link-is, ← rank_is) m in
-        record { stuck_is = rw (s, ne_eqb r.second e d, n); words_are = rw (s, ne_eqb r.second e d, n); sets_are = rw (s, ne_eqb r.second e d) }
-
-    pub turn-behind : (t : ℕ) → t ≡ ranks r.second → r.second ≢ e → member sets l (x - 1) ≡ true → (b : Bool) (ws' : List ℕ)
-        → b ≡ missing t u → ws' ≡ behind t u ws → Turned ranks e u r ws sets b ws' sets
-    unfolding turn_stuck turn_words turn_sets hits
-    turn-behind t z d m b ws' f g =
-        let n : member sets (r.kind - 16) (ranks r.first - 1) ≡ true = rw (← link-is, ← rank_is) m in
-        record {
-          stuck_is = rw (s, ne_eqb r.second e d, n) (f ∙ ap (λ (v : ℕ). missing v u) z);
-          words_are = rw (s, ne_eqb r.second e d, n) (g ∙ ap (λ (v : ℕ). behind v u ws) z);
-          sets_are = rw (s, ne_eqb r.second e d);
-        }
 
 -- the walk
 module _ (tr : List Record) (ranks : ℕ → ℕ) (e u : ℕ) (ws sets : List ℕ) where

@@ -16,6 +16,7 @@ use records::{EventId, Kind, RECORD_BYTES, access};
 use slices::zeros;
 
 // The event of rank u comes behind that of rank t; true where that has not begun.
+#[tactic(auto, unfolding(crate::specs::Rule::missing, crate::specs::Rule::behind))]
 fn put_behind(table: &mut [u64], t: u16, u: u16) -> bool
     ensures { (result ≡ missing t u) × (table.new ≡ behind t u table.old) }
 {
@@ -31,6 +32,7 @@ fn put_behind(table: &mut [u64], t: u16, u: u16) -> bool
 }
 
 // Row x reaches link l.
+#[tactic(auto, unfolding(crate::specs::Rule::reach))]
 fn reach_link(sets: &mut [u64], l: usize, table: &[u64], x: usize)
     ensures { sets.new ≡ reach l x table.now sets.old }
 {
@@ -52,7 +54,7 @@ fn link_turn(
     ensures { Turned (rank_in ranks.now) e.0 u (at (decode recs.now) j)
         table.old sets.old result table.new sets.new }
 {
-    let Kind::Send(link) = access::kind_of(recs, j) else {
+    let Some(link) = access::link_at(recs, j) else {
         return false;
     };
     let x = rank_of(ranks, access::event_at(recs, j));
@@ -61,10 +63,10 @@ fn link_turn(
     }
     let target = access::target_at(recs, j);
     if target == e {
-        reach_link(sets, link as usize, table, (x - 1) as usize);
+        reach_link(sets, link, table, (x - 1) as usize);
         return false;
     }
-    has(sets, link as usize, (x - 1) as usize) && put_behind(table, rank_of(ranks, target), u)
+    has(sets, link, (x - 1) as usize) && put_behind(table, rank_of(ranks, target), u)
 }
 
 // The walk down from position `from`. Begun within the records, no turn needs a test that its record is there.
@@ -97,6 +99,7 @@ fn link_rule(recs: &[u8], ranks: &[u16], from: usize, e: EventId, u: u16, table:
 }
 
 // A direct link by ranks.
+#[tactic(auto, unfolding(crate::specs::Fill::linked))]
 fn link_rows(table: &mut [u64], p: u16, u: u16)
     ensures { table.new ≡ linked p u table.old }
 {
@@ -106,6 +109,7 @@ fn link_rows(table: &mut [u64], p: u16, u: u16)
 }
 
 // The begin of e, the last send to which is the last of the first `from` records; true where 31 refuses it.
+#[tactic(auto, unfolding(crate::specs::Fill::begin_row))]
 fn begin_row(recs: &[u8], ranks: &[u16], from: usize, e: EventId, table: &mut [u64]) -> bool
     ensures { Leaves (begin_row (decode recs.now) (rank_in ranks.now) e.0 (rank_in ranks.now e.0) from
         table.old) result table.new }
@@ -174,6 +178,7 @@ pub fn fill(recs: &[u8], ranks: &[u16], table: &mut [u64]) -> usize
 }
 
 // The ranks and the table over all records, in lent memory; the position of the first begin that 31 refuses, or the number of records.
+#[tactic(auto, unfolding(crate::specs::Fill::fill_all))]
 pub fn fill_all(recs: &[u8], ranks: &mut [u16; 1025], table: &mut [u64; 8704]) -> usize
     ensures { Stops (fill_all (decode recs.now)) result table.new × (ranks.new ≡ ranks_of (decode recs.now)) }
 {
@@ -212,10 +217,11 @@ pub fn first_blocked(recs: &[u8]) -> usize
 }
 
 // Record j is a send to e.
+#[tactic(auto, using(records::proofs::KindLaws::a_send), unfolding(crate::specs::Begin::send_to))]
 fn is_send_to(recs: &[u8], j: usize, e: EventId) -> bool
     ensures { result ≡ send_to e.0 (at (decode recs.now) j) }
 {
-    matches!(access::kind_of(recs, j), Kind::Send(_)) && access::target_at(recs, j) == e
+    access::link_at(recs, j).is_some() && access::target_at(recs, j) == e
 }
 
 // The position of the last send to e.
@@ -235,15 +241,15 @@ fn last_send_to(recs: &[u8], e: EventId) -> Option<usize>
 fn may_turn(recs: &[u8], ranks: &[u16], j: usize, e: EventId, sent: &mut [u16]) -> bool
     ensures { Mayed (rank_in ranks.now) e.0 (at (decode recs.now) j) sent.old result sent.new }
 {
-    let Kind::Send(link) = access::kind_of(recs, j) else {
+    let Some(link) = access::link_at(recs, j) else {
         return false;
     };
     let target = access::target_at(recs, j);
     if target == e {
-        slices::put(sent, link as usize, 1);
+        slices::put(sent, link, 1);
         return false;
     }
-    rank_of(ranks, target) == 0 && slices::get(sent, link as usize) == 1
+    rank_of(ranks, target) == 0 && slices::get(sent, link) == 1
 }
 
 fn may_walk(recs: &[u8], ranks: &[u16], from: usize, e: EventId, sent: &mut [u16]) -> bool

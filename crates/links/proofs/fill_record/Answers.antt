@@ -4,7 +4,7 @@ use native.Mathlib.Omega.{arith}
 use lib.ListN.{get_or, set}
 use Rattle.records.specs.Bytes.{decode}
 use Rattle.records.specs.Records.{at}
-use Rattle.records.proofs.KindLaws.{says-begin, says-fork, says-join, a-send, not-send}
+use Rattle.records.proofs.KindLaws.{says_begin, says_fork, says_join, a_send, not_send}
 use Rattle.links.specs.Rule.{rank_in, Walked}
 use Rattle.links.specs.Fill.{linked, begin_row, begun}
 use Rattle.links.proofs.FillLaws.{step-begin, step-join, step-fork, step-other, step-send}
@@ -39,7 +39,7 @@ returns-in-Send c = let k = c.args in
     let ranks = rank_in k.ranks.now in
     let target = c.target_at-target.ensures in
     let says : (c.in-Send.field-0 < 4) × ((at (decode k.recs.now) k.i).kind ≡ 16 + c.in-Send.field-0) = c.in-Send.ensures in
-    step-send _ _ _ _ _ _ _ (λ e. omega (arith, e, says.1)) (λ e. omega (arith, e, says.1)) (λ e. omega (arith, e, says.1)) (a-send _ _ says)
+    step-send _ _ _ _ _ _ _ (λ e. omega (arith, e, says.1)) (λ e. omega (arith, e, says.1)) (λ e. omega (arith, e, says.1)) (a_send _ _ says)
     (c.link_events-in-Send.ensures ∙ ap₂ (λ (p u : ℕ). linked (ranks p) (ranks u) k.table.now) c.event_at-e.ensures target)
     (c.put.ensures ∙ ap (λ (v : ℕ). set k.last.now v ((k.i + 1) % 65536)) target)
 
@@ -47,5 +47,5 @@ pub returns-in_default : goal.returns-in_default
 returns-in_default c =
     let says = c.kind_of.ensures in
     let no = c.in_default in
-    step-other _ _ _ _ _ (λ e. no.not-Begin (says-begin _ _ says e)) (λ e. no.not-Join (says-join _ _ says e)) (λ e. no.not-Fork (says-fork _ _ says e))
-    (not-send _ _ says no.not-Send)
+    step-other _ _ _ _ _ (λ e. no.not-Begin (says_begin _ _ says e)) (λ e. no.not-Join (says_join _ _ says e)) (λ e. no.not-Fork (says_fork _ _ says e))
+    (not_send _ _ says no.not-Send)
