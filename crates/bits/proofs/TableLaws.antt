@@ -7,7 +7,7 @@ use mathlib.Core.Logic.{◌⊎◌, inl, inr}
 use native.Mathlib.Omega.{arith}
 use native.Mathlib.Decide.{dec_lt}
 use borrow.Author.Tests.{lt-ltb, le-ltb, le-leb, lt-leb}
-use lib.Dec.{leb, ltb}
+use lib.Dec.{ltb}
 use lib.ListN.{length, get_or, set}
 use Rattle.bits.specs.Words.{bit_at, with_bit, or_from, or_others}
 use Rattle.bits.specs.Table.{row_start, in_table, place, bit_of, put_bit, or_row, member, or_set}

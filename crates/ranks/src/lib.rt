@@ -9,7 +9,7 @@ ghost use Rattle.ranks.specs.OrderingOf.{link_of, ordering_of};
 ghost use Rattle.ranks.specs.Ranks.{with_rank, rank_if, ranks_upto, ranks_of};
 ghost use Rattle.ranks.specs.loops.RanksTo.{RanksTo};
 
-use records::{EventId, Kind, access};
+use records::{EventId, access};
 use slices::{clear, get, put, zeros};
 
 // What a record says of links and begins, between rows.
@@ -20,6 +20,7 @@ pub enum Ordering {
     Nothing,
 }
 
+#[tactic(auto, unfolding(crate::specs::Ranks::with_rank))]
 fn set_rank(ranks: &mut [u16], e: EventId, rank: usize)
     ensures { ranks.new ≡ with_rank ranks.old e.0 rank }
 {
@@ -129,13 +130,15 @@ fn begin_of(rank: u16) -> Ordering
     Ordering::Begin(rank.saturating_sub(1))
 }
 
+#[tactic(auto, unfolding(crate::specs::OrderingOf::ordering_of))]
 pub fn ordering_at(recs: &[u8], ranks: &[u16], i: usize) -> Ordering
     ensures { result ≡ ordering_of (λ e. get_or ranks.now e 0) (at (decode recs.now) i) }
 {
-    match access::kind_of(recs, i) {
-        Kind::Begin => begin_of(rank_of(ranks, access::event_at(recs, i))),
-        Kind::Fork => link_of(ranks, access::event_at(recs, i), access::target_at(recs, i)),
-        Kind::Join => link_of(ranks, access::target_at(recs, i), access::event_at(recs, i)),
+    // By the byte: by `kind_of` the short list takes up to 1.02 of the instructions.
+    match access::kind_at(recs, i) {
+        1 => begin_of(rank_of(ranks, access::event_at(recs, i))),
+        3 => link_of(ranks, access::event_at(recs, i), access::target_at(recs, i)),
+        4 => link_of(ranks, access::target_at(recs, i), access::event_at(recs, i)),
         _ => Ordering::Nothing,
     }
 }

@@ -2,7 +2,7 @@
 ghost use Rattle.std.specs.Prelude.{◌≡◌, ◌+◌, ◌-◌, ◌≤◌, length};
 ghost use Rattle.records.specs.Bytes.{decode, part};
 ghost use Rattle.records.specs.Records.{at, past, begins, leading};
-ghost use Rattle.records.specs.Kinds.{Says, base_kind};
+ghost use Rattle.records.specs.Kinds.{Says, SendsOn, base_kind};
 
 use crate::{EventId, Kind, RECORD_BYTES, Record, Trace, Var};
 
@@ -56,6 +56,18 @@ pub fn kind_of(recs: &[u8], i: usize) -> Kind
     ensures { Says (at (decode recs.now) i).kind result }
 {
     Kind::from(kind_at(recs, i))
+}
+
+// The link of record i, 0 to 3, where it is a send.
+pub fn link_at(recs: &[u8], i: usize) -> Option<usize>
+    ensures { SendsOn (at (decode recs.now) i).kind result }
+{
+    let kind = kind_at(recs, i);
+    if (16..=19).contains(&kind) {
+        Some((kind - 16) as usize)
+    } else {
+        None
+    }
 }
 
 // The kind of record i where it is one of document 01's six, begin to write; 0 for any other record.
