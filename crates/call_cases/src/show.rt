@@ -1,9 +1,7 @@
 // What a call answered and left, as numbers on the line.
 use clocks::Relation;
-use order::Filling;
-use pair::PairAnswer;
-use question::Answer;
-use races::Listing;
+use pair::Verdict;
+use races::Summary;
 use trace::Refusal;
 
 pub(crate) fn word(text: &[u8]) {
@@ -17,17 +15,17 @@ pub(crate) fn number(n: usize) {
 
 fn refusal(f: Refusal) {
     word(b" refused");
-    number(f.number as usize);
+    number(f.reason.number() as usize);
     number(f.place.0 as usize);
 }
 
-pub(crate) fn filling(r: Filling) {
+pub(crate) fn filling(r: Result<usize, Refusal>) {
     match r {
-        Filling::Filled(chains) => {
+        Ok(chains) => {
             word(b" filled");
             number(chains);
         }
-        Filling::Refused(f) => refusal(f),
+        Err(f) => refusal(f),
     }
 }
 
@@ -40,37 +38,37 @@ fn relation(r: Relation) {
     }
 }
 
-pub(crate) fn answer(r: Answer) {
+pub(crate) fn answer(r: Result<Relation, Refusal>) {
     match r {
-        Answer::Related(way) => relation(way),
-        Answer::Refused(f) => refusal(f),
+        Ok(way) => relation(way),
+        Err(f) => refusal(f),
     }
 }
 
-pub(crate) fn listing(r: Listing) {
+pub(crate) fn listing(r: Result<Summary, Refusal>) {
     match r {
-        Listing::Listed(s) => {
+        Ok(s) => {
             word(b" listed");
             number(s.events);
             number(s.records);
             number(s.chains);
             number(s.count);
         }
-        Listing::Refused(f) => refusal(f),
+        Err(f) => refusal(f),
     }
 }
 
-pub(crate) fn pair(r: PairAnswer) {
+pub(crate) fn pair(r: Result<Verdict, Refusal>) {
     match r {
-        PairAnswer::Open(k) => {
+        Ok(Verdict::Open(k)) => {
             word(b" open");
             number(k);
         }
-        PairAnswer::Covered(k) => {
+        Ok(Verdict::Covered(k)) => {
             word(b" covered");
             number(k);
         }
-        PairAnswer::Refused(f) => refusal(f),
+        Err(f) => refusal(f),
     }
 }
 

@@ -4,7 +4,6 @@
 mod draft;
 mod show;
 
-use compactor::Compacting;
 use draft::{put_record, put_times, put_trailer};
 use show::{number, word};
 
@@ -20,8 +19,8 @@ fn compact_in(bytes: &[u8], n: usize, out: &mut [u8], space: usize) -> usize {
     let r = compactor::compact(&bytes[..n], &mut out[..space]);
     show::compacting(r);
     match r {
-        Compacting::Compacted(s) => s.length,
-        Compacting::Refused(_) => 0,
+        Ok(s) => s.length,
+        Err(_) => 0,
     }
 }
 

@@ -1,5 +1,7 @@
 // What the compactor answered and left, as numbers on the line.
-use compactor::Compacting;
+
+use compactor::Slim;
+use trace::Refusal;
 
 pub(crate) fn word(text: &[u8]) {
     io::write_all(1, text);
@@ -10,16 +12,16 @@ pub(crate) fn number(n: usize) {
     io::print_decimal(1, n as u64);
 }
 
-pub(crate) fn compacting(r: Compacting) {
+pub(crate) fn compacting(r: Result<Slim, Refusal>) {
     match r {
-        Compacting::Compacted(s) => {
+        Ok(s) => {
             word(b" compacted");
             number(s.length);
             number(s.dropped);
         }
-        Compacting::Refused(f) => {
+        Err(f) => {
             word(b" refused");
-            number(f.number as usize);
+            number(f.reason.number() as usize);
             number(f.place.0 as usize);
         }
     }

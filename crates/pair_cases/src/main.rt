@@ -6,7 +6,7 @@ mod four;
 
 use four::Few;
 use pair_lists::Pair;
-use races::Listing;
+use races::Summary;
 use trace::Refusal;
 
 // T: begin 1, fork 1 2, fork 1 3, end 1, begin 2, write 2 1, write 2 2, end 2, begin 3, read 3 2, read 3 1, end 3.
@@ -45,20 +45,20 @@ fn small(n: u16) {
 
 fn refusal(f: Refusal) {
     word(b" refused");
-    small(f.number);
+    small(f.reason.number());
     small(f.place.0);
 }
 
-fn listing(r: Listing) {
+fn listing(r: Result<Summary, Refusal>) {
     match r {
-        Listing::Listed(s) => {
+        Ok(s) => {
             word(b" listed");
             number(s.events);
             number(s.records);
             number(s.chains);
             number(s.count);
         }
-        Listing::Refused(f) => refusal(f),
+        Err(f) => refusal(f),
     }
 }
 

@@ -5,9 +5,8 @@ use crate::judge::byte_at;
 use crate::known::Known;
 use crate::slots::{get_short, narrow, pick, plus, wide};
 use crate::{chains, definitions, pair_answers};
-use order::Filling;
-use pair::PairAnswer;
-use races::Listing;
+use pair::Verdict;
+use races::Summary;
 use records::Operation;
 use trace::Refusal;
 
@@ -64,7 +63,7 @@ pub(crate) struct Outcome {
 
 fn refused(f: Refusal) -> Reply {
     Reply {
-        number: wide(f.number),
+        number: wide(f.reason.number()),
         place: wide(f.place.0),
         events: 0,
         records: 0,
@@ -86,24 +85,24 @@ fn counted(chains: usize, count: usize, covered: bool) -> Reply {
     }
 }
 
-fn of_filling(r: Filling) -> Reply {
+fn of_filling(r: Result<usize, Refusal>) -> Reply {
     match r {
-        Filling::Filled(c) => counted(c, 0, false),
-        Filling::Refused(f) => refused(f),
+        Ok(c) => counted(c, 0, false),
+        Err(f) => refused(f),
     }
 }
 
-fn of_pair(r: PairAnswer) -> Reply {
+fn of_pair(r: Result<Verdict, Refusal>) -> Reply {
     match r {
-        PairAnswer::Open(n) => counted(0, n, false),
-        PairAnswer::Covered(n) => counted(0, n, true),
-        PairAnswer::Refused(f) => refused(f),
+        Ok(Verdict::Open(n)) => counted(0, n, false),
+        Ok(Verdict::Covered(n)) => counted(0, n, true),
+        Err(f) => refused(f),
     }
 }
 
-fn of_listing(r: Listing) -> Reply {
+fn of_listing(r: Result<Summary, Refusal>) -> Reply {
     match r {
-        Listing::Listed(s) => Reply {
+        Ok(s) => Reply {
             number: 0,
             place: 0,
             events: s.events,
@@ -112,7 +111,7 @@ fn of_listing(r: Listing) -> Reply {
             count: s.count,
             covered: false,
         },
-        Listing::Refused(f) => refused(f),
+        Err(f) => refused(f),
     }
 }
 

@@ -5,8 +5,8 @@ use crate::slots::{less, narrow, pick, plus, wide};
 use crate::tally::Counts;
 use crate::{paths, tally};
 use clocks::Relation;
-use question::Answer;
 use records::EventId;
+use trace::Refusal;
 
 fn number(way: Relation) -> usize {
     match way {
@@ -18,10 +18,10 @@ fn number(way: Relation) -> usize {
 }
 
 // 1 the same, 2 first before second, 3 second before first, 4 unordered; 11 where one has no begin in the trace: refusal 11, place 0.
-fn code(r: Answer) -> usize {
+fn code(r: Result<Relation, Refusal>) -> usize {
     match r {
-        Answer::Related(way) => number(way),
-        Answer::Refused(f) => plus(wide(f.number), wide(f.place.0)),
+        Ok(way) => number(way),
+        Err(f) => plus(wide(f.reason.number()), wide(f.place.0)),
     }
 }
 
@@ -114,7 +114,7 @@ pub(crate) fn is_refused(bytes: &[u8], number: usize, place: usize) -> bool {
 pub(crate) fn compare(bytes: &[u8], table: &[usize], k: Known, before: Counts) -> Counts {
     let mut space = clock_space();
     let clocks: &mut [u16] = &mut space;
-    order::fill(bytes, k.width, clocks);
+    let _ = order::fill(bytes, k.width, clocks);
     let refused = compare_refusals(bytes, table, k, clocks, before);
     compare_questions(bytes, table, k, clocks, refused)
 }

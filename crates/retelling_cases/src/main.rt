@@ -8,12 +8,11 @@ mod paths;
 mod show;
 mod slots;
 
-use pair::PairAnswer;
+use pair::Verdict;
 use records::{Operation, access};
 use show::{number, word};
 use slots::{bit, get_short, has_all, is_in, pick, plus, size};
 use std::fs;
-use trace::Reading;
 
 // Does the entry stand for record i: "its event's records, joins included, up to that one"?
 fn stands_for(recs: &[u8], list: &[u16], entry: usize, i: usize) -> bool {
@@ -125,9 +124,9 @@ fn ask(bytes: &[u8], recs: &[u8], table: &[usize], found: usize, a: usize, b: us
         operation(a),
         operation(b),
     ) {
-        PairAnswer::Open(k) => show_open(recs, table, found, a, b, &list, k),
-        PairAnswer::Covered(_) => show_covered(table, found, a, b),
-        PairAnswer::Refused(_) => word(b" refused"),
+        Ok(Verdict::Open(k)) => show_open(recs, table, found, a, b, &list, k),
+        Ok(Verdict::Covered(_)) => show_covered(table, found, a, b),
+        Err(_) => word(b" refused"),
     }
     word(b"\n");
 }
@@ -144,7 +143,7 @@ fn ask_each(bytes: &[u8], recs: &[u8], table: &[usize], found: usize) {
 }
 
 fn each_pair(bytes: &[u8]) {
-    let Reading::Accepted(t) = trace::read(bytes) else {
+    let Ok(t) = trace::read(bytes) else {
         word(b"refused\n");
         return;
     };

@@ -1,7 +1,6 @@
 // The longest trace, and the distances about it.
 use crate::draft::{close_and_read, put_record, put_trailer, read_first};
 use crate::show::{line_end, number, reading, word};
-use trace::Reading;
 
 // Bytes for 4,096 records, another one, and the trailer.
 fn space() -> [u8; 20493] {

@@ -1,5 +1,7 @@
 // A trace put together in lent bytes: each function writes at a position and answers the next one. What stands past the bytes is left out.
-use trace::Reading;
+
+use records::Trace;
+use trace::Refusal;
 
 fn put(bytes: &mut [u8], at: usize, b: u8) {
     if at < bytes.len() {
@@ -36,7 +38,7 @@ pub(crate) fn put_trailer(bytes: &mut [u8], at: usize, distance: usize, begins: 
 }
 
 // Reads the first n bytes.
-pub(crate) fn read_first(bytes: &[u8], n: usize) -> Reading {
+pub(crate) fn read_first(bytes: &[u8], n: usize) -> Result<Trace, Refusal> {
     if n <= bytes.len() {
         let part = &bytes[..n];
         return trace::read(part);
@@ -45,7 +47,7 @@ pub(crate) fn read_first(bytes: &[u8], n: usize) -> Reading {
 }
 
 // Closes the records in the first n bytes and reads them.
-pub(crate) fn close_and_read(bytes: &mut [u8], n: usize, begins: u16) -> Reading {
+pub(crate) fn close_and_read(bytes: &mut [u8], n: usize, begins: u16) -> Result<Trace, Refusal> {
     let end = put_trailer(bytes, n, n, begins);
     read_first(bytes, end)
 }

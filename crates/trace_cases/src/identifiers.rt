@@ -3,7 +3,8 @@ ghost use Rattle.std.specs.Prelude.{◌≤◌};
 
 use crate::draft::{close_and_read, put_record};
 use crate::expect::agrees;
-use trace::Reading;
+use records::Trace;
+use trace::Refusal;
 
 fn value(choice: usize) -> u16 {
     match choice {
@@ -87,7 +88,7 @@ fn shape_of(kind: u8) -> Shape {
     }
 }
 
-fn case(kind: u8, second: bool, choice: usize) -> Reading {
+fn case(kind: u8, second: bool, choice: usize) -> Result<Trace, Refusal> {
     let mut space = [0u8; 40];
     let bytes: &mut [u8] = &mut space;
     let v = value(choice);

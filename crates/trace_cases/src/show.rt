@@ -1,5 +1,7 @@
 // One line for each group of cases: a word, then what was found.
-use trace::Reading;
+
+use records::Trace;
+use trace::Refusal;
 
 pub(crate) fn word(text: &[u8]) {
     io::write_all(1, text);
@@ -14,17 +16,17 @@ pub(crate) fn line_end() {
     io::write_all(1, b"\n");
 }
 
-pub(crate) fn reading(r: Reading) {
+pub(crate) fn reading(r: Result<Trace, Refusal>) {
     match r {
-        Reading::Accepted(t) => {
+        Ok(t) => {
             word(b" accepted");
             number(t.start);
             number(t.records);
             number(t.events);
         }
-        Reading::Refused(f) => {
+        Err(f) => {
             word(b" refused");
-            number(f.number as usize);
+            number(f.reason.number() as usize);
             number(f.place.0 as usize);
         }
     }
