@@ -4,6 +4,7 @@
 // Bytes for 128 records.
 use slices::{get, put};
 use trials::numbers::{pick, plus};
+
 pub(crate) fn space() -> [u8; 640] {
     [0; 640]
 }

@@ -8,9 +8,9 @@ mod random;
 mod rules;
 mod show;
 
-use trials::line::word;
 use cases::Counts;
 use records::access;
+use trials::line::word;
 
 fn count_text(text: &[u8], x: usize, before: Counts) -> Counts {
     let mut bytes = draft::space();

@@ -1,9 +1,9 @@
 // Traces put together by chance: event actions in begin order, each with joins of earlier ones, and forks and sends to later ones or to two that never
 // begin. Acceptable but for 31.
-use trials::numbers::{pick, plus};
-use trials::chance::roll;
 use crate::draft::put_record;
 use records::access;
+use trials::chance::roll;
+use trials::numbers::{pick, plus};
 
 // What a seed settles: how many event actions, at most how many forks and sends each (less 1), how often it joins, forks and sends to any target (of 8),
 // how many links, and a mask for the numbers. Other sends go no lower than the last target on their link.

@@ -1,10 +1,10 @@
 // Happens-before by its rules, and refusal 31 by its words, of at most 128 records whose events are numbered below 32. Records are known by position,
 // from 0.
-use trials::sets::{bit, is_in};
+use records::access;
 use slices::{get, put};
 use trials::numbers::{pick, plus};
 use trials::recs::{event_of, is_kind, target_of};
-use records::access;
+use trials::sets::{bit, is_in};
 
 // What is found stands in one table: of each event u the set of the t ≼ u, then the set of those that begin, then of each event its row.
 const BEGUN: usize = 32;

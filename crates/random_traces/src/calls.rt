@@ -1,17 +1,16 @@
 // One call of the product, with what it must answer and leave in lent memory.
 ghost use Rattle.std.specs.Prelude.{◌≤◌};
 
-use slices::get;
-use trials::numbers::{pick, plus};
 use crate::judge::byte_at;
 use crate::known::Known;
 use crate::slots::narrow;
 use crate::{chains, definitions, pair_answers};
-use order::Filling;
-use pair::PairAnswer;
-use races::Listing;
+use pair::Verdict;
+use races::Summary;
 use records::Operation;
+use slices::get;
 use trace::Refusal;
+use trials::numbers::{pick, plus};
 
 // The calls.
 pub(crate) const FILL: usize = 0;
@@ -66,7 +65,7 @@ pub(crate) struct Outcome {
 
 fn refused(f: Refusal) -> Reply {
     Reply {
-        number: usize::from(f.number),
+        number: usize::from(f.reason.number()),
         place: usize::from(f.place.0),
         events: 0,
         records: 0,
@@ -88,24 +87,24 @@ fn counted(chains: usize, count: usize, covered: bool) -> Reply {
     }
 }
 
-fn of_filling(r: Filling) -> Reply {
+fn of_filling(r: Result<usize, Refusal>) -> Reply {
     match r {
-        Filling::Filled(c) => counted(c, 0, false),
-        Filling::Refused(f) => refused(f),
+        Ok(c) => counted(c, 0, false),
+        Err(f) => refused(f),
     }
 }
 
-fn of_pair(r: PairAnswer) -> Reply {
+fn of_pair(r: Result<Verdict, Refusal>) -> Reply {
     match r {
-        PairAnswer::Open(n) => counted(0, n, false),
-        PairAnswer::Covered(n) => counted(0, n, true),
-        PairAnswer::Refused(f) => refused(f),
+        Ok(Verdict::Open(n)) => counted(0, n, false),
+        Ok(Verdict::Covered(n)) => counted(0, n, true),
+        Err(f) => refused(f),
     }
 }
 
-fn of_listing(r: Listing) -> Reply {
+fn of_listing(r: Result<Summary, Refusal>) -> Reply {
     match r {
-        Listing::Listed(s) => Reply {
+        Ok(s) => Reply {
             number: 0,
             place: 0,
             events: s.events,
@@ -114,7 +113,7 @@ fn of_listing(r: Listing) -> Reply {
             count: s.count,
             covered: false,
         },
-        Listing::Refused(f) => refused(f),
+        Err(f) => refused(f),
     }
 }
 

@@ -1,6 +1,4 @@
 // One trace: read it, and compare every answer.
-use trials::numbers::{pick, plus};
-use trials::chance::roll;
 use crate::calls::{Case, PAIR};
 use crate::definitions::{is_race, race_first, race_second};
 use crate::draft::Draft;
@@ -10,7 +8,9 @@ use crate::{
     calls, damage, draft, expectations, frames, judge, known, order_cases, paths, slim_cases, tally,
 };
 use records::{Trace, access};
-use trace::{Reading, Refusal};
+use trace::Refusal;
+use trials::chance::roll;
+use trials::numbers::{pick, plus};
 
 // The job file's bytes, before record 1.
 fn trace_space() -> [u8; 2048] {
@@ -144,7 +144,7 @@ fn compare_others(bytes: &[u8], number: usize, place: usize, before: Counts) -> 
 }
 
 fn note_refusal(bytes: &[u8], f: Refusal, before: Counts) -> Counts {
-    let number = usize::from(f.number);
+    let number = usize::from(f.reason.number());
     let place = usize::from(f.place.0);
     let tally = tally::add(before, plus(tally::REFUSED, number), 1);
     let judged = compare_judged(bytes, number, place, tally);
@@ -163,13 +163,13 @@ fn check(bytes: &[u8], d: Draft, total: usize, before: Counts) -> Counts {
     let tally = tally::add(before, total, 1);
     let whole = total != tally::DAMAGED;
     match trace::read(bytes) {
-        Reading::Accepted(t) => {
+        Ok(t) => {
             let read = tally::note(tally, tally::READING, !whole | is_as_drafted(t, d));
             let counted = tally::add(read, tally::STILL_ACCEPTED, pick(whole, 0, 1));
             compare_trace(bytes, t, counted)
         }
-        Reading::Refused(f) => {
-            let may = !whole | (d.free & (f.number == 31));
+        Err(f) => {
+            let may = !whole | (d.free & (f.reason.number() == 31));
             note_refusal(bytes, f, tally::note(tally, tally::READING, may))
         }
     }

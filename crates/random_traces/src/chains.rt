@@ -1,9 +1,9 @@
 // Chains and clock rows, from the paths alone.
-use trials::sets::bit;
-use slices::{get, put};
-use trials::numbers::{pick, plus};
 use crate::paths::{MEMBERS, before};
 use crate::slots::{NOWHERE, size};
+use slices::{get, put};
+use trials::numbers::{pick, plus};
+use trials::sets::bit;
 
 fn members(table: &[usize], chain: usize) -> usize {
     get(table, plus(MEMBERS, chain))

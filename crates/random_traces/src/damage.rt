@@ -1,9 +1,9 @@
 // A trace with one thing changed, or nothing.
-use slices::{get, put};
-use trials::numbers::{pick, plus};
-use trials::chance::roll;
 use crate::draft::{Draft, byte, put_trailer};
 use crate::slots::{NOWHERE, fives};
+use slices::{get, put};
+use trials::chance::roll;
+use trials::numbers::{pick, plus};
 
 // Where the trailer is put, which record is written over which, where a byte is put and which, and how long the trace is.
 #[derive(Clone, Copy)]

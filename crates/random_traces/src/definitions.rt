@@ -1,10 +1,10 @@
 // Races, cover and both lists by their definitions.
-use slices::{get, put};
-use trials::sets::is_in;
-use trials::numbers::{pick, plus};
-use trials::recs::{cell_of, is_kind};
 use crate::paths::{FIRST, MARK, SECOND, SHORT, action_of, before, reaches};
 use records::access;
+use slices::{get, put};
+use trials::numbers::{pick, plus};
+use trials::recs::{cell_of, is_kind};
+use trials::sets::is_in;
 
 // "For records a ≼ b: in different event actions as those are ordered; in one, when a stands earlier."
 pub(crate) fn is_before(recs: &[u8], table: &[usize], a: usize, b: usize) -> bool {

@@ -1,11 +1,11 @@
 // Traces put together by chance, each of them acceptable but for 31.
-use slices::{get, put};
-use trials::numbers::{pick, plus};
-use trials::recs::{is_kind, target_of};
-use trials::chance::roll;
 use crate::damage::between;
 use crate::slots::{fives, narrow};
 use records::access;
+use slices::{get, put};
+use trials::chance::roll;
+use trials::numbers::{pick, plus};
+use trials::recs::{is_kind, target_of};
 
 // What a seed settles: how many event actions, at most how many body records each (less 1), how often it joins (of 8), forks, sends and writes (of 16),
 // how many cells and links, how many sends go to any target (of 8; the others go no lower than the last one on their link, and 31 is for none of them), how

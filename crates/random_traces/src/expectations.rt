@@ -1,10 +1,10 @@
 // What each call must answer about an accepted trace, asked in each of these ways: 0 accepted, 1 width 0, 2 width 1,025, 3 a clock too few, 4 a work
 // byte too few, 5 a chain too few, 6 a list number too few, 7 two records that are no race, 8 a record that is not in the trace.
-use trials::numbers::{less, pick, plus};
 use crate::calls::{Case, FILL, PAIR};
 use crate::known::Known;
 use crate::slots::fives;
 use crate::{chains, tally};
+use trials::numbers::{less, pick, plus};
 
 // How many entries the list of a call has, for the pair question how many it asks for.
 fn entries_of(k: Known, call: usize) -> usize {

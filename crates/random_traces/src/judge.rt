@@ -1,10 +1,10 @@
 // The reader's answer by document 01's words: each record against all that stand before it.
-use slices::get;
-use trials::numbers::{less, pick, plus};
-use trials::recs::{event_of, is_kind, target_of};
 use crate::paths::is_send;
 use crate::sends::is_blocked;
 use records::{Trace, access};
+use slices::get;
+use trials::numbers::{less, pick, plus};
+use trials::recs::{event_of, is_kind, target_of};
 
 // A refusal's number and place; number 0 for an accepted trace.
 #[derive(Clone, Copy)]

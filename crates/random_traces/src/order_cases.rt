@@ -1,13 +1,13 @@
 // The order question against the paths.
-use trials::numbers::{less, pick, plus};
 use crate::calls::clock_space;
 use crate::known::Known;
 use crate::slots::narrow;
 use crate::tally::Counts;
 use crate::{paths, tally};
 use clocks::Relation;
-use question::Answer;
 use records::EventId;
+use trace::Refusal;
+use trials::numbers::{less, pick, plus};
 
 fn number(way: Relation) -> usize {
     match way {
@@ -19,10 +19,10 @@ fn number(way: Relation) -> usize {
 }
 
 // 1 the same, 2 first before second, 3 second before first, 4 unordered; 11 where one has no begin in the trace: refusal 11, place 0.
-fn code(r: Answer) -> usize {
+fn code(r: Result<Relation, Refusal>) -> usize {
     match r {
-        Answer::Related(way) => number(way),
-        Answer::Refused(f) => plus(usize::from(f.number), usize::from(f.place.0)),
+        Ok(way) => number(way),
+        Err(f) => plus(usize::from(f.reason.number()), usize::from(f.place.0)),
     }
 }
 
@@ -113,7 +113,7 @@ pub(crate) fn is_refused(bytes: &[u8], number: usize, place: usize) -> bool {
 pub(crate) fn compare(bytes: &[u8], table: &[usize], k: Known, before: Counts) -> Counts {
     let mut space = clock_space();
     let clocks: &mut [u16] = &mut space;
-    order::fill(bytes, k.width, clocks);
+    let _ = order::fill(bytes, k.width, clocks);
     let refused = compare_refusals(bytes, table, k, clocks, before);
     compare_questions(bytes, table, k, clocks, refused)
 }

@@ -1,12 +1,12 @@
 // An answer of the pair question against the definitions of cover and arrangement.
-use slices::get;
-use trials::sets::is_in;
-use trials::numbers::{less, pick, plus};
 use crate::definitions::{is_before, is_race};
 use crate::known::Known;
 use crate::paths::{action_of, reaches};
 use crate::{definitions, judge, paths};
 use records::access;
+use slices::get;
+use trials::numbers::{less, pick, plus};
+use trials::sets::is_in;
 
 // Entries of two numbers.
 fn first_of(list: &[u16], i: usize) -> usize {

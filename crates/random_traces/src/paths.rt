@@ -1,13 +1,13 @@
 // Event actions and the paths between them, by plain search. An event action is known by its rank, from 1 in order of begin, a record by its
 // position, from 0. What is found of a trace stands in one table: the numbers of the event actions and the sets of those that happen before each, the
 // chains as sets of their members, the ranks by event number, the records and marks of the races, and which of them are in the short list.
-use trials::sets::{bit, is_in};
-use slices::{get, put};
-use trials::numbers::{pick, plus};
-use trials::recs::{cell_of, event_of, is_kind, target_of};
 use crate::sends::find_ahead;
 use crate::slots::{NOWHERE, remainder};
 use records::access;
+use slices::{get, put};
+use trials::numbers::{pick, plus};
+use trials::recs::{cell_of, event_of, is_kind, target_of};
+use trials::sets::{bit, is_in};
 
 const BEFORE: usize = 64;
 

@@ -1,11 +1,11 @@
 // What sends on one link say of order, and refusal 31, as far as the order is found.
-use trials::sets::is_in;
-use trials::numbers::pick;
-use trials::recs::{event_of, is_kind, target_of};
 use crate::definitions::is_before;
 use crate::known;
 use crate::paths::{before, is_send, rank};
 use records::access;
+use trials::numbers::pick;
+use trials::recs::{event_of, is_kind, target_of};
+use trials::sets::is_in;
 
 // Send a is on the link of send b, to another target, and a ≼ b.
 fn is_ahead(recs: &[u8], table: &[usize], a: usize, b: usize) -> bool {

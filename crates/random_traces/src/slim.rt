@@ -1,11 +1,11 @@
 // A trace and what is kept of it, by plain search. The numbers of the records in the slim trace stand in a map, from 1, with 0 for those that are
 // dropped; then, for each record of the slim trace, its number in the trace.
-use slices::{get, put};
-use trials::numbers::{less, plus};
-use trials::recs::{cell_of, event_of};
 use crate::definitions::{is_access, race_first, race_second};
 use crate::paths::{MARK, action_of, before};
 use records::access;
+use slices::{get, put};
+use trials::numbers::{less, plus};
+use trials::recs::{cell_of, event_of};
 
 pub(crate) const NEW: usize = 0;
 

@@ -2,6 +2,7 @@
 
 use slices::get;
 use trials::numbers::{pick, plus};
+
 #[derive(Clone, Copy)]
 pub(crate) struct Counts {
     pub at: [usize; 72],

@@ -1,13 +1,14 @@
 // The twelve steps of document 01's trace T, over every space from no byte to more than enough.
 use crate::say;
-use recorder::{Recorder, Stepped};
+use recorder::Recorder;
 use records::Record;
+use trace::Refusal;
 
 #[derive(Clone, Copy)]
 struct Run {
     recorder: Recorder,
     taken: usize,
-    last: Stepped,
+    last: Result<(), Refusal>,
 }
 
 fn record(kind: u8, first: u16, second: u16) -> Record {
@@ -41,11 +42,11 @@ fn steps(bytes: &mut [u8], first: Recorder) -> Run {
     for i in 0..12 {
         let next = recorder::step_on(bytes, r, step_of_t(i));
         let answer = next.answer;
-        if let Stepped::Refused(f) = answer {
+        if let Err(f) = answer {
             return Run {
                 recorder: r,
                 taken: i,
-                last: Stepped::Refused(f),
+                last: Err(f),
             };
         }
         let after = next.recorder;
@@ -54,7 +55,7 @@ fn steps(bytes: &mut [u8], first: Recorder) -> Run {
     Run {
         recorder: r,
         taken: 12,
-        last: Stepped::Taken,
+        last: Ok(()),
     }
 }
 

@@ -1,7 +1,8 @@
 // A trace of 4,096 records, and one step more.
 use crate::{raw, say};
-use recorder::{Recorder, Stepped};
+use recorder::Recorder;
 use records::{Record, Trace, access};
+use trace::Refusal;
 
 fn step_at(i: usize) -> Record {
     if i == 0 {
@@ -31,10 +32,10 @@ struct Run {
     taken: u64,
 }
 
-fn counted(n: u64, a: Stepped) -> u64 {
+fn counted(n: u64, a: Result<(), Refusal>) -> u64 {
     match a {
-        Stepped::Taken => std::num::wrapping_add_u64(n, 1),
-        Stepped::Refused(_) => n,
+        Ok(()) => std::num::wrapping_add_u64(n, 1),
+        Err(_) => n,
     }
 }
 

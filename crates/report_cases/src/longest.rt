@@ -1,6 +1,7 @@
 // Traces of 4,096 records with the longest texts.
-use crate::draft::{close, put_record, put_times, put_unordered};
+use crate::draft::{close, put_unordered};
 use crate::show;
+use trials::draft::{put_record, put_times};
 
 // Bytes for 4,096 records and the trailer.
 fn space() -> [u8; 20488] {

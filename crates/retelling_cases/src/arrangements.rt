@@ -1,11 +1,11 @@
 // All arrangements of a trace, by definition: sequences of at most six event actions, each whole but the last. Each is known by the set of its records.
-use trials::sets::{bit, is_in};
-use slices::{get, put};
-use trials::numbers::plus;
-use trials::recs::event_of;
 use crate::paths;
 use crate::slots::has_all;
 use records::access;
+use slices::{get, put};
+use trials::numbers::plus;
+use trials::recs::event_of;
+use trials::sets::{bit, is_in};
 
 // In the set of an arrangement: it does not run its records in trace order; it is none.
 const EXCHANGED: usize = 62;

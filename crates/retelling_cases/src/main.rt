@@ -5,24 +5,23 @@
 
 mod arrangements;
 mod paths;
-mod show;
 mod slots;
 
-use trials::sets::{bit, is_in};
-use slices::get;
-use trials::numbers::{pick, plus};
-use trials::line::{number, word};
-use pair::PairAnswer;
+use pair::Verdict;
 use records::{Operation, access};
+use slices::get;
 use slots::{has_all, size};
 use std::fs;
-use trace::Reading;
+use trials::line::{number, numbers, word};
+use trials::numbers::{pick, plus};
+use trials::recs::event_of;
+use trials::sets::{bit, is_in};
 
 // Does the entry stand for record i: "its event's records, joins included, up to that one"?
 fn stands_for(recs: &[u8], list: &[u16], entry: usize, i: usize) -> bool {
     let event = usize::from(get(list, plus(entry, entry)));
     let last = usize::from(get(list, plus(plus(entry, entry), 1)));
-    (paths::event_of(recs, i) == event) & (i < last)
+    (event_of(recs, i) == event) & (i < last)
 }
 
 // The records for which the first k entries stand, k at most 8.
@@ -82,7 +81,7 @@ fn show_open(
     let kept = kept_records(recs, list, k);
     let t = count_all(table, found, a, b, kept);
     word(b" open |");
-    show::numbers(list, plus(k, k));
+    numbers(list, plus(k, k));
     word(b" | records");
     number(size(kept));
     word(b" arrangements");
@@ -124,9 +123,9 @@ fn ask(bytes: &[u8], recs: &[u8], table: &[usize], found: usize, a: usize, b: us
         operation(a),
         operation(b),
     ) {
-        PairAnswer::Open(k) => show_open(recs, table, found, a, b, &list, k),
-        PairAnswer::Covered(_) => show_covered(table, found, a, b),
-        PairAnswer::Refused(_) => word(b" refused"),
+        Ok(Verdict::Open(k)) => show_open(recs, table, found, a, b, &list, k),
+        Ok(Verdict::Covered(_)) => show_covered(table, found, a, b),
+        Err(_) => word(b" refused"),
     }
     word(b"\n");
 }
@@ -141,7 +140,7 @@ fn ask_each(bytes: &[u8], recs: &[u8], table: &[usize], found: usize) {
 }
 
 fn each_pair(bytes: &[u8]) {
-    let Reading::Accepted(t) = trace::read(bytes) else {
+    let Ok(t) = trace::read(bytes) else {
         word(b"refused\n");
         return;
     };

@@ -1,9 +1,9 @@
 // Happens-before and races of a trace of at most 60 records whose events are numbered below 8, by definition. Records are known by position, from 0.
-use trials::sets::{bit, is_in};
+use records::access;
 use slices::{get, put};
 use trials::numbers::{pick, plus};
 use trials::recs::{event_of, is_kind, target_of};
-use records::access;
+use trials::sets::{bit, is_in};
 
 // What is found stands in one table: of each event the set of those that happen before it, of each record y the set of the x ≼ y and that of the x
 // with a race (x, y), and the arrangements.

@@ -1,7 +1,8 @@
 // The longest trace, and the distances about it.
-use crate::draft::{close_and_read, put_record, put_trailer, read_first};
-use crate::show::{line_end, number, reading, word};
-use trace::Reading;
+use crate::draft::{close_and_read, read_first};
+use crate::show::reading;
+use trials::draft::{put_record, put_trailer};
+use trials::line::{line_end, number, word};
 
 // Bytes for 4,096 records, another one, and the trailer.
 fn space() -> [u8; 20493] {

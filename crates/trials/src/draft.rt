@@ -1,6 +1,7 @@
 // A trace put together in lent bytes: each function writes at a position and answers the next one. What doesn't fit is left out.
 ghost use Rattle.std.specs.Prelude.{◌≡◌, [], ◌∷◌, ◌+◌, min};
 ghost use Rattle.records.specs.Encoding.{encode, trailer, stored_within};
+ghost use Rattle.trials.specs.Draft.{put_in, after};
 
 use records::{RECORD_BYTES, Record, TRAILER_BYTES, store};
 
@@ -15,6 +16,25 @@ pub fn put_record(bytes: &mut [u8], at: usize, kind: u8, first: u16, second: u16
     };
     store::put_record(bytes, at, record);
     at.saturating_add(RECORD_BYTES)
+}
+
+// The same record that many times.
+pub fn put_times(
+    bytes: &mut [u8],
+    at: usize,
+    times: usize,
+    kind: u8,
+    first: u16,
+    second: u16,
+) -> usize
+    ensures stored { bytes.new ≡ put_in times (encode (record { kind = kind; first = first; second = second } ∷ [])) bytes.old at }
+    ensures next { result ≡ after times at }
+{
+    let mut next = at;
+    for k in 0..times {
+        next = put_record(bytes, next, kind, first, second);
+    }
+    next
 }
 
 // The trailer of a trace whose record 1 stands that distance before.

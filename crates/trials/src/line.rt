@@ -10,6 +10,13 @@ pub fn number(n: usize) {
     io::print_decimal(1, n as u64);
 }
 
+// A refusal, by its number and place.
+pub fn refusal(number: u16, place: u16) {
+    word(b" refused");
+    self::number(usize::from(number));
+    self::number(usize::from(place));
+}
+
 pub fn line_end() {
     io::write_all(1, b"\n");
 }

@@ -3,4 +3,3 @@ use Rattle.links_cases.proofs.cases.show_pairs.Given as goal
 
 abbrev pub invariant-loop-x : goal.invariant-loop-x
 invariant-loop-x l = l.x ≤ 1024
-

@@ -3,4 +3,3 @@ use Rattle.links_cases.proofs.draft.put_text.Given as goal
 
 abbrev pub invariant-loop-at : goal.invariant-loop-at
 invariant-loop-at l = length l.bytes ≡ length l.fn.bytes
-

@@ -3,4 +3,3 @@ use Rattle.links_cases.proofs.random.highest.Given as goal
 
 abbrev pub invariant-loop-i : goal.invariant-loop-i
 invariant-loop-i l = l.i ≤ l.n
-

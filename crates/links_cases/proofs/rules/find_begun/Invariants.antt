@@ -3,4 +3,3 @@ use Rattle.links_cases.proofs.rules.find_begun.Given as goal
 
 abbrev pub invariant-loop-i : goal.invariant-loop-i
 invariant-loop-i l = length l.table ≡ length l.fn.table
-

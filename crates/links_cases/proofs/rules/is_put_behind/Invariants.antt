@@ -3,4 +3,3 @@ use Rattle.links_cases.proofs.rules.is_put_behind.Given as goal
 
 abbrev pub invariant-loop-x : goal.invariant-loop-x
 invariant-loop-x l = l.x ≤ l.end
-

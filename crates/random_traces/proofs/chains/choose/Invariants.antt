@@ -3,4 +3,3 @@ use Rattle.random_traces.proofs.chains.choose.Given as goal
 
 abbrev pub invariant-loop-c : goal.invariant-loop-c
 invariant-loop-c l = l.initial.c ≤ l.c
-

@@ -3,4 +3,3 @@ use Rattle.random_traces.proofs.judge.count_kinds.Given as goal
 
 abbrev pub invariant-loop-i : goal.invariant-loop-i
 invariant-loop-i l = l.initial.i ≤ l.i
-

@@ -3,4 +3,3 @@ use Rattle.random_traces.proofs.pair_answers.count_kept.Given as goal
 
 abbrev pub invariant-loop-t : goal.invariant-loop-t
 invariant-loop-t l = l.initial.t ≤ l.t
-

@@ -3,4 +3,3 @@ use Rattle.random_traces.proofs.paths.find_paths.Given as goal
 
 abbrev pub invariant-loop-x : goal.invariant-loop-x
 invariant-loop-x l = length l.table ≡ length l.initial.table
-
