@@ -21,7 +21,7 @@ fn seen(recs: &[u8], kind: u8, e: EventId) -> bool
     ensures { result ≡ has (of_kind kind) e.0 (past (decode recs.now) (length (decode recs.now))) }
 {
     for i in (0..access::count(recs)).rev() {
-        if access::kind_at(recs, i) == kind && access::event_at(recs, i).0 == e.0 {
+        if access::kind_at(recs, i) == kind && access::event_at(recs, i) == e {
             return true;
         }
     }
