@@ -47,6 +47,7 @@ fn put_digits(out: &mut [u8], at: usize, n: usize) -> usize
     let after = at + width(n);
     let mut i = after - 1;
     let mut rest = n;
+    // By hand: a range over the places would need a case of its own for 0, which has a digit too.
     while 10 <= rest {
         out[i] = 48 + (rest % 10) as u8;
         i -= 1;

@@ -51,7 +51,7 @@ fn note_record(recs: &[u8], ranks: &mut [u16], i: usize, found: usize) -> usize
     note_rank(ranks, kind, e, found)
 }
 
-// The same for four records. Four at a time take fewer instructions than one.
+// The same for four records.
 fn note_four(recs: &[u8], ranks: &mut [u16], i: usize, found: usize) -> usize
     requires { (found ≤ i) × (i < 9223372036854775800) × RanksTo (decode recs.now) i ranks.old found }
     ensures { RanksTo (decode recs.now) (i + 4) ranks.new result × (result ≤ i + 4) }
@@ -81,7 +81,7 @@ pub fn fill_ranks(recs: &[u8], ranks: &mut [u16; 1025])
     clear(ranks, 1025);
     let mut found = 0;
     let mut i = 0;
-    // Four records a step: `i` is where the last step ends.
+    // By hand, four records a step: one record a step takes more instructions.
     while i + 4 <= n {
         found = note_four(recs, ranks, i, found);
         i += 4;

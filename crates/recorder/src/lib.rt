@@ -32,20 +32,14 @@ pub struct After<T> {
 fn stored_records(r: Recorder) -> usize
     ensures { (result ≡ held r) × (result ≤ 4096) }
 {
-    if r.count < 4096 {
-        return r.count as usize;
-    }
-    4096
+    (r.count as usize).min(4096)
 }
 
 // Is there space for one record more, and a trailer?
 fn has_space(bytes: &[u8], n: usize) -> bool
     ensures { result ≡ space bytes.now n }
 {
-    if 4096 <= n {
-        return false;
-    }
-    RECORD_BYTES * n + RECORD_BYTES + TRAILER_BYTES <= bytes.len()
+    n < 4096 && RECORD_BYTES * n + RECORD_BYTES + TRAILER_BYTES <= bytes.len()
 }
 
 // After a step that is taken the recorder has these numbers.

@@ -69,7 +69,7 @@ fn reader_agrees(bytes: &mut [u8], n: u16, rec: Record, f: Refusal) -> bool {
     let end = 5 * (n as usize) + 13;
     match trace::read(raw::front(bytes, end)) {
         Ok(_) => false,
-        Err(g) => f.reason == g.reason && f.place.0 == g.place.0,
+        Err(g) => f == g,
     }
 }
 

@@ -62,11 +62,9 @@ pub fn kind_of(recs: &[u8], i: usize) -> Kind
 pub fn link_at(recs: &[u8], i: usize) -> Option<usize>
     ensures { SendsOn (at (decode recs.now) i).kind result }
 {
-    let kind = kind_at(recs, i);
-    if (16..=19).contains(&kind) {
-        Some((kind - 16) as usize)
-    } else {
-        None
+    match kind_at(recs, i) {
+        kind @ 16..=19 => Some((kind - 16) as usize),
+        _ => None,
     }
 }
 
@@ -139,7 +137,7 @@ pub fn count_begins(recs: &[u8]) -> usize
     found
 }
 
-// How many of the four records from i on stand before the first that is no read or write. Test by test: four at a time take fewer instructions than one.
+// How many of the four records from i on stand before the first that is no read or write.
 fn accesses_among_four(recs: &[u8], i: usize) -> usize
     requires { i ≤ length (decode recs.now) }
     ensures { result ≡ leading (decode recs.now) 4 i }
@@ -181,7 +179,7 @@ pub fn skip_accesses(recs: &[u8], from: usize) -> usize
         return from;
     }
     let mut i = from;
-    // Four records a step: `i` is where the last step ends.
+    // By hand, four records a step: one record a step takes more instructions.
     while i + 4 <= n {
         let k = accesses_among_four(recs, i);
         if k < 4 {

@@ -22,8 +22,7 @@ fn may_race(recs: &[u8], least: u8, c: Var, i: usize) -> bool
     access::cell_at(recs, i) == c && least <= access::kind_at(recs, i)
 }
 
-// How many of the four records from i on stand before the first that may race with an access of cell c. Test by test: four at a time take fewer
-// instructions than one.
+// How many of the four records from i on stand before the first that may race with an access of cell c.
 fn among_four(recs: &[u8], least: u8, c: Var, i: usize) -> usize
     requires { i ≤ length (decode recs.now) }
     ensures { NextAccess (decode recs.now) least c.0 i (i + 4) (i + result) }
@@ -67,7 +66,7 @@ pub fn next_access(recs: &[u8], from: usize, to: usize, c: Var, least: u8) -> us
         return from;
     }
     let mut i = from;
-    // Four records a step: `i` is where the last step ends.
+    // By hand, four records a step: one record a step takes more instructions.
     while i + 4 <= to {
         let k = among_four(recs, least, c, i);
         if k < 4 {

@@ -61,14 +61,14 @@ impl Reason {
 }
 
 // A refusal: why, and a record number, 0 where no record is concerned.
-#[derive(Clone, Copy)]
+#[derive(Clone, Copy, PartialEq, Eq)]
 pub struct Refusal {
     pub reason: Reason,
     pub place: Operation,
 }
 
 // What a pass by refusals 1 to 10 finds: its reading, where record 1 starts, how many records passed 4 to 8, and whether one of those is a send.
-#[derive(Clone, Copy)]
+#[derive(Clone, Copy, PartialEq, Eq)]
 pub struct Scanned {
     pub reading: Result<Trace, Refusal>,
     pub start: usize,

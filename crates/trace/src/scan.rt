@@ -9,6 +9,7 @@ ghost use Rattle.records.specs.Kinds.{is_send};
 ghost use Rattle.trace.specs.Plain.{Scans};
 ghost use Rattle.trace.specs.Paper.{code, paper};
 
+use crate::rule::History;
 use crate::{Reason, Refusal, Scanned, place, rule, status};
 use records::access::{count, record_at};
 use records::{EventId, Operation, Record, Trace};
@@ -59,12 +60,14 @@ fn admit(status: &mut [u8; 1025], r: Record) -> Result<(), Reason>
             status::note(status, r.first, status::ENDED);
             Ok(())
         }
-        _ => rule::order_fault(
-            r,
-            status::has_begun(status, r.first),
-            status::has_begun(status, r.second),
-            status::has_ended(status, r.second),
-        ),
+        _ => {
+            let past = History {
+                first_begun: status::has_begun(status, r.first),
+                second_begun: status::has_begun(status, r.second),
+                second_ended: status::has_ended(status, r.second),
+            };
+            rule::order_fault(r, past)
+        }
     }
 }
 
@@ -72,16 +75,7 @@ fn admit(status: &mut [u8; 1025], r: Record) -> Result<(), Reason>
 fn is_inner_access(owner: u16, r: Record) -> bool
     ensures { result ≡ true → Inner owner r }
 {
-    if r.kind < 5 {
-        return false;
-    }
-    if 6 < r.kind {
-        return false;
-    }
-    if r.first != owner {
-        return false;
-    }
-    rule::is_numbered(r.second)
+    matches!(r.kind, 5..=6) && r.first == owner && rule::is_numbered(r.second)
 }
 
 // From position `from` on, inside an event action, past the accesses by the open event.
@@ -92,14 +86,12 @@ fn pass_accesses(recs: &[u8], now_in: u8, owner: u16, from: usize) -> usize
         return from;
     }
     let n = count(recs);
-    let mut i = from;
-    while i < n {
+    for i in from..n {
         if !is_inner_access(owner, record_at(recs, i)) {
             return i;
         }
-        i += 1;
     }
-    i
+    n.max(from)
 }
 
 // The number of begins, after a record of that kind.
@@ -107,34 +99,14 @@ fn one_more(kind: u8, found: usize) -> usize
     requires { found ≤ 4096 }
     ensures { result ≡ cond (eqb kind 1) (found + 1) found }
 {
-    if kind == 1 {
-        return found + 1;
-    }
-    found
+    if kind == 1 { found + 1 } else { found }
 }
 
 // Whether a send was met, after a record of that kind.
 fn or_send(kind: u8, sends: bool) -> bool
     ensures { result ≡ (leb 16 kind && leb kind 19 || sends) }
 {
-    if kind < 16 {
-        return sends;
-    }
-    if 19 < kind {
-        return sends;
-    }
-    true
-}
-
-fn stop(reading: Result<Trace, Refusal>, start: usize, passed: usize, sends: bool) -> Scanned
-    ensures { result ≡ record { reading = reading; start = start; passed = passed; sends = sends } }
-{
-    Scanned {
-        reading: reading,
-        start: start,
-        passed: passed,
-        sends: sends,
-    }
+    matches!(kind, 16..=19) || sends
 }
 
 // The records of a trace that start there, with the number of begins that the trailer names.
@@ -149,15 +121,26 @@ pub(crate) fn scan(recs: &[u8], start: usize, events: usize) -> Scanned
     let mut found = 0;
     let mut sends = false;
     let mut i = 0;
+    // While: a turn goes on past the accesses that follow its record.
     while i < records {
         let r = record_at(recs, i);
         let next = place::next(now_in, r.kind);
         let op = Operation((i + 1) as u16);
         if let Err(misplaced) = rule::place_fault(next, now_in, EventId(owner), r) {
-            return stop(Err(misplaced.at(op)), start, i, sends);
+            return Scanned {
+                reading: Err(misplaced.at(op)),
+                start: start,
+                passed: i,
+                sends: sends,
+            };
         }
         if let Err(reason) = admit(&mut status, r) {
-            return stop(Err(reason.at(op)), start, i, sends);
+            return Scanned {
+                reading: Err(reason.at(op)),
+                start: start,
+                passed: i,
+                sends: sends,
+            };
         }
         found = one_more(r.kind, found);
         sends = or_send(r.kind, sends);
@@ -165,10 +148,10 @@ pub(crate) fn scan(recs: &[u8], start: usize, events: usize) -> Scanned
         owner = r.first;
         i = pass_accesses(recs, now_in, owner, i + 1);
     }
-    stop(
-        finish(records, start, events, now_in, found, sends),
-        start,
-        records,
-        sends,
-    )
+    Scanned {
+        reading: finish(records, start, events, now_in, found, sends),
+        start: start,
+        passed: records,
+        sends: sends,
+    }
 }

@@ -1,37 +1,35 @@
-use borrow.Author.Tests.{eq-eqb, ne_eqb, lt-leb, le-leb}
+use native.Mathlib.Omega.{arith}
+use mathlib.Core.Logic.{inl, inr}
+use borrow.Author.Tests.{eq-eqb, ne_eqb, le-leb, lt-leb}
 use Rattle.trace.specs.Rule.{again}
 use Rattle.trace.proofs.rule.is_again.Goals as goal
 
-pub returns-then-kind-eq3 : goal.returns-then-kind-eq3
+pub returns-in-1 : goal.returns-in-1
 unfolding again
-returns-then-kind-eq3 c = simp (eq-eqb _ _ c.if-kind-eq3.true)
+returns-in-1 c = elim c.in-1.is [ inl e ↦ rw e | inr e ↦ rw e ]
 
-pub returns-then-kind-eq1 : goal.returns-then-kind-eq1
+pub returns-in-3 : goal.returns-in-3
 unfolding again
-returns-then-kind-eq1 c = rw c.if-kind-eq1.true
+returns-in-3 c = simp (eq-eqb c.args.r.kind 3 (omega arith))
 
-pub returns-then-kind-eq4 : goal.returns-then-kind-eq4
+pub returns-in-3-2 : goal.returns-in-3-2
 unfolding again
-returns-then-kind-eq4 c = rw c.if-kind-eq4.true
+returns-in-3-2 c = let k = c.args.r.kind in simp (ne_eqb k 3 (λ e. omega arith), le-leb 16 k (omega arith), le-leb k 19 (omega arith))
 
-pub returns-then-kind-lt16 : goal.returns-then-kind-lt16
+pub returns-in_default : goal.returns-in_default
 unfolding again
-returns-then-kind-lt16 c =
-    let at-if1 = c in
-    simp (ne_eqb _ _ at-if1.if-kind-eq3.false, ne_eqb _ _ c.if-kind-eq1.false, ne_eqb _ _ c.if-kind-eq4.false, lt-leb _ _ c.if-kind-lt16.true)
+returns-in_default c =
+    let k = c.args.r.kind in
+    simp (ne_eqb k 3 (λ e. omega arith), ne_eqb k 1 (λ e. grind arith), ne_eqb k 4 (λ e. grind arith), lt-leb 16 k (omega arith))
 
-pub returns-then-kind-gt19 : goal.returns-then-kind-gt19
+pub returns-in_default-2 : goal.returns-in_default-2
 unfolding again
-returns-then-kind-gt19 c =
-    let at-if1 = c in
+returns-in_default-2 c =
+    let k = c.args.r.kind in
     simp (
-      ne_eqb _ _ at-if1.if-kind-eq3.false,
-      ne_eqb _ _ c.if-kind-eq1.false,
-      ne_eqb _ _ c.if-kind-eq4.false,
-      le-leb _ _ c.if-kind-lt16.false,
-      lt-leb _ _ c.if-kind-gt19.true,
+      ne_eqb k 3 (λ e. omega arith),
+      ne_eqb k 1 (λ e. grind arith),
+      ne_eqb k 4 (λ e. grind arith),
+      le-leb 16 k (omega arith),
+      lt-leb k 19 (omega arith),
     )
-
-pub returns : goal.returns
-unfolding again
-returns c = simp (le-leb _ _ c.if-kind-lt16.false, le-leb _ _ c.if-kind-gt19.false, ne_eqb _ _ c.if-kind-eq3.false)

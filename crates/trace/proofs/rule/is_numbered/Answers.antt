@@ -1,11 +1,17 @@
-use borrow.Author.Tests.{lt-leb, le-leb}
+use native.Mathlib.Omega.{arith}
+use mathlib.Core.Bool.{and-false}
+use borrow.Author.Tests.{le-leb, lt-leb}
 use Rattle.trace.specs.Rule.{numbered}
 use Rattle.trace.proofs.rule.is_numbered.Goals as goal
 
-pub returns-then-x-lt1 : goal.returns-then-x-lt1
+pub returns-in-1-to-1024 : goal.returns-in-1-to-1024
 unfolding numbered
-returns-then-x-lt1 c = simp (lt-leb _ _ c.if-x-lt1.true)
+returns-in-1-to-1024 c = simp (le-leb 1 c.args.x (omega arith), le-leb c.args.x 1024 (omega arith))
 
-pub returns : goal.returns
+pub returns-in_default : goal.returns-in_default
 unfolding numbered
-returns c = simp (le-leb _ _ c.if-x-lt1.false)
+returns-in_default c = simp (lt-leb 1 c.args.x (omega arith))
+
+pub returns-in_default-2 : goal.returns-in_default-2
+unfolding numbered
+returns-in_default-2 c = simp (lt-leb c.args.x 1024 (omega arith), and-false)

@@ -22,7 +22,7 @@ returns-in-Err c =
     let less : c.loop-i.i < length (decode c.args.recs.now) = omega arith in
     let not-zero = numbered c.in-Err.misplaced in
     let f = by_place _ _ _ _ _ _ c.in-Err.ensures not-zero in
-    rw (c.stop.ensures, c.at.ensures) (record {
+    rw c.at.ensures (record {
       reply = going-refused g less r.result r.ensures _ f not-zero;
       from = refl;
       passes = going-stopped g less r.result r.ensures _ f not-zero;
@@ -37,7 +37,7 @@ returns-in-Err-admit c =
     let less : c.loop-i.i < length (decode c.args.recs.now) = omega arith in
     let not-zero = numbered c.in-Err-admit.reason in
     let f = by_order _ _ _ _ _ _ c.in_default.ensures refl c.in-Err-admit.ensures.0 in
-    rw (c.stop-in-Err-admit.ensures, c.at-in-Err-admit.ensures) (record {
+    rw c.at-in-Err-admit.ensures (record {
       reply = going-refused g less r.result r.ensures _ f not-zero;
       from = refl;
       passes = going-stopped g less r.result r.ensures _ f not-zero;
@@ -86,9 +86,9 @@ returns c =
     let g = at-loop.loop-i.invariant in
     let n = at_count.count-records.ensures in
     let k = at-loop.loop-i-test.false in
-    rw c.stop-2.ensures (record {
+    record {
       reply = c.finish.ensures ∙ sym (going_end g n k);
       from = refl;
       passes = all_passed g n k;
       sent = all-sent g n k;
-    })
+    }
