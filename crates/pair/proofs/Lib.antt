@@ -1,4 +1,3 @@
-pub mod RangeLaws
 pub mod RecordRows
 pub mod RowMarks
 pub mod MergeLaws

@@ -72,7 +72,8 @@ fn raise_to(clocks: &mut [u16], place: usize, value: u16)
     clocks[place] = clocks[place].max(value);
 }
 
-// Row t anew, of the rows before it and its own entry.
+// Row t anew, of the rows before it and its own entry. Not inlined, so that the entries kept stand in no frame of a call for a trace without sends.
+#[inline(never)]
 pub(crate) fn lead_in(chosen: &[u16], width: usize, chains: usize, clocks: &mut [u16], t: usize)
     requires { MayLead chosen.now width clocks.old t }
     ensures { clocks.new ≡ lead_in chosen.now width chains t clocks.old }
