@@ -5,7 +5,7 @@ use mathlib.Core.Logic.{◌≢◌}
 use mathlib.Core.Bool.{Bool, true, false}
 use mathlib.Core.List.{List}
 use native.Mathlib.Omega.{arith}
-use borrow.Author.Tests.{lt-ltb, le-ltb, le-leb, lt-leb, eq-eqb, ne_eqb}
+use borrow.Author.Tests.{lt-ltb, le-ltb, eq-eqb, ne_eqb}
 use lib.Dec.{eqb}
 use lib.ListN.{length, get_or, set}
 use Rattle.slices.specs.Slices.{zeros}
@@ -17,16 +17,6 @@ use Rattle.records.specs.Kinds.{is_send}
 use Rattle.links.specs.Rule.{rank_in, walk}
 use Rattle.links.specs.Fill.{fill_from}
 use Rattle.links.specs.Begin.{send_to, last_send, may_turn, may_sent, Mayed, may, table_blocked, begin_blocked}
-
-module _ (r : Record) where
-  pub no-send-low : r.kind < 16 → is_send r ≡ false
-  no-send-low h = rw (lt-leb 16 r.kind h)
-
-  pub no-send-high : 19 < r.kind → is_send r ≡ false
-  no-send-high h = let k : 16 ≤ r.kind = omega arith in rw (le-leb 16 r.kind k, lt-leb r.kind 19 h)
-
-  pub a-send : 16 ≤ r.kind → r.kind ≤ 19 → is_send r ≡ true
-  a-send h k = rw (le-leb 16 r.kind h, le-leb r.kind 19 k)
 
 module _ (e : ℕ) (r : Record) where
   pub to_none : is_send r ≡ false → false ≡ send_to e r
@@ -47,19 +37,19 @@ module _ (ranks : ℕ → ℕ) (e : ℕ) (r : Record) (sent : List ℕ) where
   unfolding may_turn may_sent send_to
   may_none s = record { found-is = rw s; sent_is = rw s }
 
-  module _ (s : is_send r ≡ true) (k : ℕ) (kind-is : k ≡ r.kind) where
-    pub may-mark : r.second ≡ e → (sent' : List ℕ) → sent' ≡ set sent (k - 16) 1 → Mayed ranks e r sent false sent'
+  module _ (s : is_send r ≡ true) (l : ℕ) (link-is : l ≡ r.kind - 16) where
+    pub may-mark : r.second ≡ e → (sent' : List ℕ) → sent' ≡ set sent l 1 → Mayed ranks e r sent false sent'
     unfolding may_turn may_sent send_to
-    may-mark q sent' h = record { found-is = rw (s, eq-eqb r.second e q); sent_is = rw (s, eq-eqb r.second e q, h, kind-is) }
+    may-mark q sent' h = record { found-is = rw (s, eq-eqb r.second e q); sent_is = rw (s, eq-eqb r.second e q, h, link-is) }
 
     pub may-begun : r.second ≢ e → ranks r.second ≢ 0 → Mayed ranks e r sent false sent
     unfolding may_turn may_sent send_to
     may-begun d h = record { found-is = rw (s, ne_eqb r.second e d, ne_eqb (ranks r.second) 0 h); sent_is = rw (s, ne_eqb r.second e d) }
 
-    pub may-told : (b : Bool) → r.second ≢ e → ranks r.second ≡ 0 → eqb (get_or sent (k - 16) 0) 1 ≡ b → Mayed ranks e r sent b sent
+    pub may-told : (b : Bool) → r.second ≢ e → ranks r.second ≡ 0 → eqb (get_or sent l 0) 1 ≡ b → Mayed ranks e r sent b sent
     unfolding may_turn may_sent send_to
     may-told b d h q =
-        let n : eqb (get_or sent (r.kind - 16) 0) 1 ≡ b = rw (← kind-is) q in
+        let n : eqb (get_or sent (r.kind - 16) 0) 1 ≡ b = rw (← link-is) q in
         record { found-is = rw (s, ne_eqb r.second e d, eq-eqb (ranks r.second) 0 h, n); sent_is = rw (s, ne_eqb r.second e d) }
 
 -- on the way down

@@ -8,21 +8,18 @@ ghost use Rattle.ranks.specs.Ranks.{ranks_of};
 ghost use Rattle.records.specs.Records.{at};
 ghost use Rattle.links.specs.Rule.{rank_in, missing, behind, reach, Turned, Leaves, walk};
 ghost use Rattle.links.specs.Fill.{linked, begin_row, Stepped, Stops, fill_from, fill_all};
-ghost use Rattle.links.specs.Begin.{send_to, last_send, Mayed, may, table_blocked, begin_blocked};
+ghost use Rattle.links.specs.Begin.{send_to, last_send, from_last, Mayed, may, table_blocked, begin_blocked};
 
 use bits::{clear, get, has, or_row, or_set, put};
 use ranks::{fill_ranks, rank_of, ranks};
-use records::{EventId, RECORD_BYTES, access};
+use records::{EventId, Kind, RECORD_BYTES, access};
 use slices::zeros;
 
 // The event of rank u comes behind that of rank t; true where that has not begun.
 fn put_behind(table: &mut [u64], t: u16, u: u16) -> bool
     ensures { (result ≡ missing t u) × (table.new ≡ behind t u table.old) }
 {
-    if t == 0 {
-        return true;
-    }
-    if u < t {
+    if t == 0 || u < t {
         return true;
     }
     let p = (t - 1) as usize;
@@ -55,37 +52,19 @@ fn link_turn(
     ensures { Turned (rank_in ranks.now) e.0 u (at (decode recs.now) j)
         table.old sets.old result table.new sets.new }
 {
-    let kind = access::kind_at(recs, j);
-    if kind < 16 {
+    let Kind::Send(link) = access::kind_of(recs, j) else {
         return false;
-    }
-    if 19 < kind {
-        return false;
-    }
+    };
     let x = rank_of(ranks, access::event_at(recs, j));
     if x == 0 {
         return false;
     }
     let target = access::target_at(recs, j);
-    if target.0 == e.0 {
-        reach_link(sets, (kind - 16) as usize, table, (x - 1) as usize);
+    if target == e {
+        reach_link(sets, link as usize, table, (x - 1) as usize);
         return false;
     }
-    if !has(sets, (kind - 16) as usize, (x - 1) as usize) {
-        return false;
-    }
-    put_behind(table, rank_of(ranks, target), u)
-}
-
-// The position `from`, or the number of records where that is less.
-fn within(recs: &[u8], from: usize) -> usize
-    ensures { (result ≤ from) × (result ≢ from → result ≡ length (decode recs.now)) }
-{
-    let n = access::count(recs);
-    if n < from {
-        return n;
-    }
-    from
+    has(sets, link as usize, (x - 1) as usize) && put_behind(table, rank_of(ranks, target), u)
 }
 
 // The walk down from position `from`. Begun within the records, no turn needs a test that its record is there.
@@ -101,9 +80,7 @@ fn link_walk(
     ensures { Leaves (walk (decode recs.now) (rank_in ranks.now) e.0 u from
         table.old sets.old) result table.new }
 {
-    let mut j = within(recs, from);
-    while 0 < j {
-        j -= 1;
+    for j in (0..from.min(access::count(recs))).rev() {
         if link_turn(recs, ranks, j, e, u, table, sets) {
             return true;
         }
@@ -123,13 +100,9 @@ fn link_rule(recs: &[u8], ranks: &[u16], from: usize, e: EventId, u: u16, table:
 fn link_rows(table: &mut [u64], p: u16, u: u16)
     ensures { table.new ≡ linked p u table.old }
 {
-    if p == 0 {
-        return;
+    if p != 0 && u != 0 {
+        or_row(table, (p - 1) as usize, (u - 1) as usize);
     }
-    if u == 0 {
-        return;
-    }
-    or_row(table, (p - 1) as usize, (u - 1) as usize);
 }
 
 // The begin of e, the last send to which is the last of the first `from` records; true where 31 refuses it.
@@ -158,29 +131,21 @@ fn fill_record(recs: &[u8], ranks: &[u16], i: usize, table: &mut [u64], last: &m
     ensures { Stepped (decode recs.now) (rank_in ranks.now) i
         table.old last.old result table.new last.new }
 {
-    let kind = access::kind_at(recs, i);
     let e = access::event_at(recs, i);
-    if kind == 1 {
-        let from = slices::get(last, e.0 as usize);
-        return begin_row(recs, ranks, from as usize, e, table);
-    }
     let target = access::target_at(recs, i);
-    if kind == 4 {
-        link_events(ranks, target, e, table);
-        return false;
+    match access::kind_of(recs, i) {
+        Kind::Begin => {
+            let from = slices::get(last, e.0 as usize);
+            return begin_row(recs, ranks, from as usize, e, table);
+        }
+        Kind::Join => link_events(ranks, target, e, table),
+        Kind::Fork => link_events(ranks, e, target, table),
+        Kind::Send(_) => {
+            link_events(ranks, e, target, table);
+            slices::put(last, target.0 as usize, ((i + 1) % 65536) as u16);
+        }
+        _ => {}
     }
-    if kind == 3 {
-        link_events(ranks, e, target, table);
-        return false;
-    }
-    if kind < 16 {
-        return false;
-    }
-    if 19 < kind {
-        return false;
-    }
-    link_events(ranks, e, target, table);
-    slices::put(last, target.0 as usize, ((i + 1) % 65536) as u16);
     false
 }
 
@@ -190,12 +155,10 @@ fn fill_rows(recs: &[u8], ranks: &[u16], n: usize, table: &mut [u64], last: &mut
     ensures { Stops (fill_from (decode recs.now) (rank_in ranks.now) 0 n
         table.old last.old) result table.new }
 {
-    let mut i = 0;
-    while i < n {
+    for i in 0..n {
         if fill_record(recs, ranks, i, table, last) {
             return i;
         }
-        i += 1;
     }
     n
 }
@@ -252,65 +215,41 @@ pub fn first_blocked(recs: &[u8]) -> usize
 fn is_send_to(recs: &[u8], j: usize, e: EventId) -> bool
     ensures { result ≡ send_to e.0 (at (decode recs.now) j) }
 {
-    let kind = access::kind_at(recs, j);
-    if kind < 16 {
-        return false;
-    }
-    if 19 < kind {
-        return false;
-    }
-    let target = access::target_at(recs, j);
-    if target.0 == e.0 {
-        return true;
-    }
-    false
+    matches!(access::kind_of(recs, j), Kind::Send(_)) && access::target_at(recs, j) == e
 }
 
-// One more than the position of the last send to e, or 0.
-fn last_send_to(recs: &[u8], e: EventId) -> usize
-    ensures { result ≡ last_send (decode recs.now) e.0 (length (decode recs.now)) }
+// The position of the last send to e.
+fn last_send_to(recs: &[u8], e: EventId) -> Option<usize>
+    ensures last { from_last result ≡ last_send (decode recs.now) e.0 (length (decode recs.now)) }
+    ensures inside { from_last result ≤ length (decode recs.now) }
 {
-    let mut j = access::count(recs);
-    while 0 < j {
-        if is_send_to(recs, j - 1, e) {
-            return j;
+    for j in (0..access::count(recs)).rev() {
+        if is_send_to(recs, j, e) {
+            return Some(j);
         }
-        j -= 1;
     }
-    0
+    None
 }
 
 // Record j on the way down, where `sent` marks the links that send to e further on; true where such a link sends to another event that has not begun.
 fn may_turn(recs: &[u8], ranks: &[u16], j: usize, e: EventId, sent: &mut [u16]) -> bool
     ensures { Mayed (rank_in ranks.now) e.0 (at (decode recs.now) j) sent.old result sent.new }
 {
-    let kind = access::kind_at(recs, j);
-    if kind < 16 {
+    let Kind::Send(link) = access::kind_of(recs, j) else {
         return false;
-    }
-    if 19 < kind {
-        return false;
-    }
+    };
     let target = access::target_at(recs, j);
-    if target.0 == e.0 {
-        slices::put(sent, (kind - 16) as usize, 1);
+    if target == e {
+        slices::put(sent, link as usize, 1);
         return false;
     }
-    if rank_of(ranks, target) != 0 {
-        return false;
-    }
-    if slices::get(sent, (kind - 16) as usize) == 1 {
-        return true;
-    }
-    false
+    rank_of(ranks, target) == 0 && slices::get(sent, link as usize) == 1
 }
 
 fn may_walk(recs: &[u8], ranks: &[u16], from: usize, e: EventId, sent: &mut [u16]) -> bool
     ensures { result ≡ may (decode recs.now) (rank_in ranks.now) e.0 from sent.old }
 {
-    let mut j = from;
-    while 0 < j {
-        j -= 1;
+    for j in (0..from).rev() {
         if may_turn(recs, ranks, j, e, sent) {
             return true;
         }
@@ -349,13 +288,10 @@ fn blocked_by_table(recs: &[u8], ranks: &[u16], from: usize, e: EventId, u: usiz
 pub fn begin_blocked(recs: &[u8], e: EventId) -> bool
     ensures { result ≡ begin_blocked (decode recs.now) e.0 }
 {
-    let from = last_send_to(recs, e);
-    if from == 0 {
+    let Some(last) = last_send_to(recs, e) else {
         return false;
-    }
+    };
     let all = ranks(recs);
-    if !may_block(recs, &all, from, e) {
-        return false;
-    }
-    blocked_by_table(recs, &all, from, e, access::count_begins(recs))
+    may_block(recs, &all, last + 1, e)
+        && blocked_by_table(recs, &all, last + 1, e, access::count_begins(recs))
 }
