@@ -15,9 +15,8 @@ fn keep_entries(clocks: &[u16], width: usize, t: usize, kept: &mut [u16])
     ensures { kept.new ≡ kept_to width t clocks.now width }
 {
     let a = t * width;
-    for c in 0..width {
-        kept[c] = clocks[a + c];
-    }
+    let e = a + width;
+    kept[..width].copy_from_slice(&clocks[a..e]);
 }
 
 // Whether row p happens before row t, by the entries kept, and does not lead to a row that was merged.
