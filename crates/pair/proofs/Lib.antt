@@ -1,4 +1,4 @@
-pub mod RangeLaws
+pub mod RankedClocks
 pub mod RecordRows
 pub mod RowMarks
 pub mod MergeLaws

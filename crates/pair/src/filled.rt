@@ -1,24 +1,27 @@
 // What is at hand once the clocks of an accepted trace are filled, lent to read.
-ghost use Rattle.std.specs.Prelude.{◌≡◌, ◌≤◌, length};
+ghost use Rattle.std.specs.Prelude.{◌≡◌};
 ghost use Rattle.records.specs.Bytes.{decode};
+ghost use Rattle.ranks.specs.Ranks.{ranks_of};
+ghost use Rattle.order.specs.Fill.{chains_used};
 ghost use Rattle.races.specs.loops.FilledClocks.{FilledClocks};
 ghost use Rattle.races.specs.loops.FilledOnce.{filled_once};
 
-// The rows in the clocks, and the chain of each.
-#[derive(Clone, Copy)]
-pub(crate) struct Rows<'a> {
-    pub chosen: &'a [u16],
-    pub width: usize,
-    pub clocks: &'a [u16],
-    ghost narrow: { width ≤ 1024 },
-    ghost chains: { length chosen.now ≡ 1024 },
-}
-
-// The records, the ranks of their events, and the rows.
+// The records, and the clocks that are filled: the chain of each row, the width, and how many chains are used.
 #[derive(Clone, Copy)]
 pub(crate) struct Filled<'a> {
     pub recs: &'a [u8],
+    pub chosen: &'a [u16],
+    pub width: usize,
+    pub chains: usize,
+    pub clocks: &'a [u16],
+    ghost filled: { FilledClocks (decode recs.now) (ranks_of (decode recs.now)) chosen.now width clocks.now } by { filled_once (decode recs.now) (ranks_of (decode recs.now)) chosen.now width clocks.now },
+    ghost chains_are: { chains ≡ chains_used (decode recs.now) },
+}
+
+// And the ranks of the events.
+#[derive(Clone, Copy)]
+pub(crate) struct Ranked<'a> {
+    pub filled: Filled<'a>,
     pub ranks: &'a [u16],
-    pub rows: Rows<'a>,
-    ghost filled: { FilledClocks (decode recs.now) ranks.now rows.chosen.now rows.width rows.clocks.now } by { filled_once (decode recs.now) ranks.now rows.chosen.now rows.width rows.clocks.now },
+    ghost ranks_are: { ranks.now ≡ ranks_of (decode filled.recs.now) },
 }

@@ -2,11 +2,11 @@
 ghost use Rattle.std.specs.Prelude.{◌≡◌, ◌↔◌, suc, ◌+◌, ◌-◌, ◌≤◌, ◌<◌, max, T, length, get_or, set};
 ghost use Rattle.records.specs.Bytes.{decode};
 ghost use Rattle.trace.specs.Reading.{Acceptable};
-ghost use Rattle.races.specs.loops.FilledClocks.{rows as begun};
+ghost use Rattle.races.specs.loops.FilledClocks.{rows};
 ghost use Rattle.pair.specs.loops.Kept.{Starts, Split, Block, Noted, clashes, OneClashes, Bytes, Merged};
 ghost use Rattle.pair.specs.loops.Kept.{Passing, Passes, PassesAll, Markable, MarksKept};
 
-use crate::filled::Rows;
+use crate::filled::Filled;
 use records::access;
 use slices::{clear, zeros};
 
@@ -16,7 +16,7 @@ pub(crate) fn block_start(recs: &[u8], i: usize) -> usize
 {
     let e = access::event_at(recs, i);
     for before in (0..i).rev() {
-        if access::event_at(recs, before).0 != e.0 {
+        if access::event_at(recs, before) != e {
             return before + 1;
         }
     }
@@ -73,7 +73,13 @@ fn have_conflict(recs: &[u8], lo: usize, hi: usize, cells: &[u8]) -> bool
     if access::count(recs) < hi {
         return false;
     }
-    (lo..hi).any(|i| has_conflict(recs, cells, i))
+    // By `for`: with `any` a test of bounds stays in the loop, which takes the pair question up to 1.05.
+    for i in lo..hi {
+        if has_conflict(recs, cells, i) {
+            return true;
+        }
+    }
+    false
 }
 
 fn merge_part(part: &[u16], row: &mut [u16], chains: usize)
@@ -96,9 +102,7 @@ fn merge_into(clocks: &[u16], at: usize, row: &mut [u16], chains: usize)
 
 // Passes row t, whose records stand from lo on, before hi: it is kept where it happens before a kept one, or conflicts with one.
 fn pass_row(
-    recs: &[u8],
-    rows: Rows<'_>,
-    chains: usize,
+    filled: Filled<'_>,
     work: &mut [u8],
     row: &mut [u16],
     cells: &mut [u8],
@@ -106,63 +110,53 @@ fn pass_row(
     lo: usize,
     hi: usize,
 )
-    requires { Passing (decode recs.now) rows.chosen.now rows.width chains rows.clocks.now work.old row.old cells.old × Block (decode recs.now) t lo hi }
-    ensures { Passes (decode recs.now) rows.entry.chosen.now rows.entry.width chains rows.entry.clocks.now (suc t) hi t lo
+    requires { Passing (decode filled.recs.now) filled.chosen.now filled.width filled.chains filled.clocks.now work.old row.old cells.old × Block (decode filled.recs.now) t lo hi }
+    ensures { Passes (decode filled.entry.recs.now) filled.entry.chosen.now filled.entry.width filled.entry.chains filled.entry.clocks.now (suc t) hi t lo
         work.old row.old cells.old work.new row.new cells.new }
 {
-    let c = rows.chosen[t] as usize;
-    if row[c] < rows.clocks[t * rows.width + c] {
-        if !have_conflict(recs, lo, hi, cells) {
+    let c = filled.chosen[t] as usize;
+    if row[c] < filled.clocks[t * filled.width + c] {
+        if !have_conflict(filled.recs, lo, hi, cells) {
             return;
         }
-        merge_into(rows.clocks, t * rows.width, row, chains);
+        merge_into(filled.clocks, t * filled.width, row, filled.chains);
     }
     work[t] = 1;
-    note(recs, lo, hi, cells);
+    note(filled.recs, lo, hi, cells);
 }
 
 // Passes all event actions before row u, whose records end before `end`, the last first.
 fn pass_down(
-    recs: &[u8],
-    rows: Rows<'_>,
-    chains: usize,
+    filled: Filled<'_>,
     work: &mut [u8],
     row: &mut [u16],
     cells: &mut [u8],
     u: usize,
     end: usize,
 )
-    requires passing { Passing (decode recs.now) rows.chosen.now rows.width chains rows.clocks.now work.old row.old cells.old }
-    requires split { Split (decode recs.now) u end × (u ≤ begun (decode recs.now)) }
-    ensures { PassesAll (decode recs.now) rows.entry.chosen.now rows.entry.width chains rows.entry.clocks.now u end
+    requires passing { Passing (decode filled.recs.now) filled.chosen.now filled.width filled.chains filled.clocks.now work.old row.old cells.old }
+    requires split { Split (decode filled.recs.now) u end × (u ≤ rows (decode filled.recs.now)) }
+    ensures { PassesAll (decode filled.entry.recs.now) filled.entry.chosen.now filled.entry.width filled.entry.chains filled.entry.clocks.now u end
         work.old row.old cells.old work.new row.new cells.new }
 {
     let mut hi = end;
     for t in (0..u).rev() {
-        let lo = block_start(recs, hi - 1);
-        pass_row(recs, rows, chains, work, row, cells, t, lo, hi);
+        let lo = block_start(filled.recs, hi - 1);
+        pass_row(filled, work, row, cells, t, lo, hi);
         hi = lo;
     }
 }
 
 // Marks the event actions that lead to record b, of row u. The row is what happens before them.
-pub(crate) fn mark_leading(
-    recs: &[u8],
-    rows: Rows<'_>,
-    chains: usize,
-    work: &mut [u8],
-    row: &mut [u16],
-    u: usize,
-    b: usize,
-)
-    requires { Markable (decode recs.now) rows.chosen.now rows.width chains rows.clocks.now work.old row.old u b }
-    ensures { MarksKept (decode recs.now) b work.old work.new }
+pub(crate) fn mark_leading(filled: Filled<'_>, work: &mut [u8], row: &mut [u16], u: usize, b: usize)
+    requires { Markable (decode filled.recs.now) filled.chosen.now filled.width filled.chains filled.clocks.now work.old row.old u b }
+    ensures { MarksKept (decode filled.entry.recs.now) b work.old work.new }
 {
     let mut cells = zeros::<u8, 1025>();
     clear(row, row.len());
-    merge_into(rows.clocks, u * rows.width, row, chains);
-    let lo = block_start(recs, b);
-    note(recs, lo, b, &mut cells);
+    merge_into(filled.clocks, u * filled.width, row, filled.chains);
+    let lo = block_start(filled.recs, b);
+    note(filled.recs, lo, b, &mut cells);
     work[u] = 1;
-    pass_down(recs, rows, chains, work, row, &mut cells, u, lo);
+    pass_down(filled, work, row, &mut cells, u, lo);
 }

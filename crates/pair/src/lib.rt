@@ -9,17 +9,16 @@ mod racing;
 ghost use Rattle.std.specs.Prelude.{◌≡◌, ◌+◌, ◌*◌, ◌≤◌, ◌<◌, length, get_or, set};
 ghost use Rattle.records.specs.Bytes.{decode};
 ghost use Rattle.ranks.specs.Ranks.{ranks_of};
-ghost use Rattle.order.specs.Fill.{chains_used};
 ghost use Rattle.order.specs.Paper.{Prepares};
 ghost use Rattle.coverage.specs.Leading.{entries};
 ghost use Rattle.races.specs.Traces.{setting_of};
-ghost use Rattle.races.specs.loops.FilledClocks.{FilledClocks, rows, Clear};
+ghost use Rattle.races.specs.loops.FilledClocks.{rows, Clear};
 ghost use Rattle.pair.specs.Pair.{entry_numbers, with_entries, kept_entries, pair_ready, PairPromise};
 ghost use Rattle.pair.specs.loops.Answers.{AnswersFilled};
 ghost use Rattle.pair.specs.loops.PairSearch.{PutsEnd};
 ghost use Rattle.pair.specs.loops.Leading.{Marks};
 
-use crate::filled::{Filled, Rows};
+use crate::filled::{Filled, Ranked};
 use order::{Call, Prepared};
 use ranks::row_at;
 use records::{Operation, access};
@@ -78,38 +77,35 @@ fn put_kept(recs: &[u8], work: &[u8], b: usize, list: &mut [u16]) -> usize
 // Records a and b of an accepted trace whose clocks are filled, over a work space that is 0 for its event actions. The table of ranks is lent for what leads
 // to b, and filled again before a cover is looked for.
 fn ask_filled(
-    recs: &[u8],
+    filled: Filled<'_>,
     ranks: &mut [u16; 1025],
-    rows: Rows<'_>,
     events: usize,
-    chains: usize,
     work: &mut [u8],
     list: &mut [u16],
     a: usize,
     b: usize,
 ) -> Result<Verdict, Refusal>
-    requires filled_clocks { FilledClocks (decode recs.now) ranks.old rows.chosen.now rows.width rows.clocks.now × (chains ≡ chains_used (decode recs.now))
-        × (b < length (decode recs.now)) }
-    requires clear { Clear (decode recs.now) events work.old }
-    ensures { AnswersFilled (decode recs.now) events a b list.old list.new result × (work.new ≡ work.old) }
+    requires ranks_are { (ranks.old ≡ ranks_of (decode filled.recs.now)) × (b < length (decode filled.recs.now)) }
+    requires clear { Clear (decode filled.recs.now) events work.old }
+    ensures { AnswersFilled (decode filled.entry.recs.now) events a b list.old list.new result × (work.new ≡ work.old) }
 {
-    let filled = Filled { recs, ranks, rows };
-    if !filled.is_race(a, b) {
+    let ranked = Ranked { filled, ranks };
+    if !ranked.is_race(a, b) {
         return Err(Reason::NoRace.at(Operation(0)));
     }
     if list.len() / ENTRY_NUMBERS < events {
         return Err(Reason::ListSpace.at(Operation(0)));
     }
-    let t = row_at(recs, ranks, a);
-    let u = row_at(recs, ranks, b);
-    kept::mark_leading(recs, rows, chains, work, ranks, u, b);
+    let t = row_at(filled.recs, ranks, a);
+    let u = row_at(filled.recs, ranks, b);
+    kept::mark_leading(filled, work, ranks, u, b);
     if work[t] == 1 {
-        ranks::fill_ranks(recs, ranks);
-        let count = cover::put_cover(Filled { recs, ranks, rows }, work, list, a, b);
+        ranks::fill_ranks(filled.recs, ranks);
+        let count = cover::put_cover(Ranked { filled, ranks }, work, list, a, b);
         clear(work, events);
         return Ok(Verdict::Covered(count));
     }
-    let count = put_kept(recs, work, b, list);
+    let count = put_kept(filled.recs, work, b, list);
     clear(work, events);
     Ok(Verdict::Open(count))
 }
@@ -160,19 +156,12 @@ pub fn ask_pair(
     let chains = prepared.answer?;
     let i = (a.0 - 1) as usize;
     let j = (b.0 - 1) as usize;
-    ask_filled(
-        access::records(bytes, t),
-        &mut ranks,
-        Rows {
-            chosen: &chosen,
-            width,
-            clocks,
-        },
-        events,
+    let filled = Filled {
+        recs: access::records(bytes, t),
+        chosen: &chosen,
+        width,
         chains,
-        work,
-        list,
-        i,
-        j,
-    )
+        clocks,
+    };
+    ask_filled(filled, &mut ranks, events, work, list, i, j)
 }

@@ -9,7 +9,7 @@ ghost use Rattle.races.specs.loops.Clashes.{conflict, clash};
 ghost use Rattle.clocks.specs.WayRound.{relation_paper, relate_in};
 ghost use Rattle.pair.specs.loops.PairSearch.{way_of};
 
-use crate::filled::{Filled, Rows};
+use crate::filled::{Filled, Ranked};
 use clocks::{Relation, is_unordered, relate};
 use ranks::row_at;
 use records::{Record, access};
@@ -32,10 +32,10 @@ pub(crate) fn is_clash(recs: &[u8], a: usize, b: usize) -> bool
     ensures { result ≡ clash (at (decode recs.now) a) (at (decode recs.now) b) }
 {
     is_conflict(access::record_at(recs, a), access::record_at(recs, b))
-        && access::event_at(recs, a).0 != access::event_at(recs, b).0
+        && access::event_at(recs, a) != access::event_at(recs, b)
 }
 
-impl Rows<'_> {
+impl Filled<'_> {
     // Which way round rows t and u stand.
     pub(crate) fn relate(self, t: usize, u: usize) -> Relation
         requires { (t < 1024) × (u < 1024) }
@@ -53,31 +53,31 @@ impl Rows<'_> {
     }
 }
 
-impl Filled<'_> {
+impl Ranked<'_> {
     // Which way round the event actions of records a and b stand.
     fn relation(self, a: usize, b: usize) -> Relation
-        requires { (a < length (decode self.recs.now)) × (b < length (decode self.recs.now)) }
-        ensures { relation_paper result ≡ way_of (decode self.entry.recs.now) a b }
+        requires { (a < length (decode self.filled.recs.now)) × (b < length (decode self.filled.recs.now)) }
+        ensures { relation_paper result ≡ way_of (decode self.entry.filled.recs.now) a b }
     {
-        let t = row_at(self.recs, self.ranks, a);
-        let u = row_at(self.recs, self.ranks, b);
-        self.rows.relate(t, u)
+        let t = row_at(self.filled.recs, self.ranks, a);
+        let u = row_at(self.filled.recs, self.ranks, b);
+        self.filled.relate(t, u)
     }
 
     // Whether the event action of record a happens before that of record b.
     pub(crate) fn is_before(self, a: usize, b: usize) -> bool
-        requires { (a < length (decode self.recs.now)) × (b < length (decode self.recs.now)) }
-        ensures { result ≡ happens_before (decode self.entry.recs.now) (event_of (at (decode self.entry.recs.now) a))
-            (event_of (at (decode self.entry.recs.now) b)) }
+        requires { (a < length (decode self.filled.recs.now)) × (b < length (decode self.filled.recs.now)) }
+        ensures { result ≡ happens_before (decode self.entry.filled.recs.now) (event_of (at (decode self.entry.filled.recs.now) a))
+            (event_of (at (decode self.entry.filled.recs.now) b)) }
     {
         clocks::is_before(self.relation(a, b))
     }
 
     // Whether records a and b are a race, first then second.
     pub(crate) fn is_race(self, a: usize, b: usize) -> bool
-        requires { b < length (decode self.recs.now) }
-        ensures { result ≡ raceb (setting_of (decode self.entry.recs.now)) a b }
+        requires { b < length (decode self.filled.recs.now) }
+        ensures { result ≡ raceb (setting_of (decode self.entry.filled.recs.now)) a b }
     {
-        a < b && is_clash(self.recs, a, b) && is_unordered(self.relation(a, b))
+        a < b && is_clash(self.filled.recs, a, b) && is_unordered(self.relation(a, b))
     }
 }

@@ -46,23 +46,23 @@ pub(crate) fn keep_rows(layout: Layout<'_>, clocks: &[u16], table: &mut [u64])
 
 // Row u at t's chain becomes t's own entry, where t is before u. Written again here: in the crate below, where rows are filled from a table, it has a
 // `requires`, so it is not public.
-fn take_own(table: &[u64], chosen: &[u16], width: usize, clocks: &mut [u16], t: usize, u: usize)
-    requires { RoomToTake width u clocks.old chosen.now × (t < u) }
+fn take_own(table: &[u64], layout: Layout<'_>, clocks: &mut [u16], t: usize, u: usize)
+    requires { RoomToTake layout.width u clocks.old layout.chosen.now × (t < u) }
     ensures { clocks.new ≡ rows_if (bit_of table.now t u)
-        (take_own width u chosen.now t clocks.old) clocks.old }
+        (take_own layout.entry.width u layout.entry.chosen.now t clocks.old) clocks.old }
 {
     if get(table, t, u) {
-        let c = chosen[t] as usize;
-        clocks[u * width + c] = clocks[t * width + c];
+        let c = layout.chosen[t] as usize;
+        clocks[u * layout.width + c] = clocks[t * layout.width + c];
     }
 }
 
-fn take_before(table: &[u64], chosen: &[u16], width: usize, clocks: &mut [u16], u: usize)
-    requires { RoomToTake width u clocks.old chosen.now }
-    ensures { clocks.new ≡ take_before (λ t. bit_of table.now t u) width u chosen.now u clocks.old }
+fn take_before(table: &[u64], layout: Layout<'_>, clocks: &mut [u16], u: usize)
+    requires { RoomToTake layout.width u clocks.old layout.chosen.now }
+    ensures { clocks.new ≡ take_before (λ t. bit_of table.now t u) layout.entry.width u layout.entry.chosen.now u clocks.old }
 {
     for t in 0..u {
-        take_own(table, chosen, width, clocks, t, u);
+        take_own(table, layout, clocks, t, u);
     }
 }
 
@@ -74,7 +74,7 @@ pub(crate) fn restore_rows(table: &[u64], layout: Layout<'_>, clocks: &mut [u16]
 {
     for u in 0..layout.events {
         clear_row(clocks, layout.width, u as u16);
-        take_before(table, layout.chosen, layout.width, clocks, u);
+        take_before(table, layout, clocks, u);
         add_to_row(clocks, layout.width, u, layout.chosen[u] as usize);
     }
 }

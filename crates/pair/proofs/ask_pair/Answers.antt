@@ -3,6 +3,7 @@ use mathlib.Core.Path.{refl, sym, ap}
 use Rattle.order.specs.Paper.{fill_paper}
 use Rattle.std.proofs.lemmas.Result.{err_from_is_err_and}
 use Rattle.races.proofs.FilledLaws.{chosen-length}
+use Rattle.races.proofs.EntryStores.{own-ranks}
 use Rattle.pair.proofs.PairEnds.{not-asked, askable}
 use Rattle.pair.proofs.ask_pair.Goals as goal
 
@@ -33,8 +34,8 @@ overflow_sub-j c =
     p at_clear.clear.ensures _ (ap fill_paper c.in_ok-chains.was) _ refl in
     l.both_in.second
 
-pub slice_bounds-ask_filled-end : goal.slice_bounds-ask_filled-end
-slice_bounds-ask_filled-end c =
+pub slice_bounds-filled-end : goal.slice_bounds-filled-end
+slice_bounds-filled-end c =
     let at-answer = c in
     let at_clear = at-answer in
     let at-prepare = at_clear in
@@ -44,8 +45,8 @@ slice_bounds-ask_filled-end c =
     p at_clear.clear.ensures _ (ap fill_paper at-answer.in_ok-chains.was) _ c.records.ensures in
     sym (chosen-length l.filled)
 
-pub invariant_of-ask_filled : goal.invariant_of-ask_filled
-invariant_of-ask_filled c =
+pub invariant_of-filled : goal.invariant_of-filled
+invariant_of-filled c =
     let at-answer = c in
     let at_clear = at-answer in
     let at-prepare = at_clear in
@@ -53,7 +54,7 @@ invariant_of-ask_filled c =
     let p = at-prepare.prepare_pair-prepared.ensures in
     let l = askable s.args.bytes.now s.args.a.0 s.args.b.0 s.args.width s.args.clocks.now _ s.args.work.now _ _ s.args.list.now _ _
     p at_clear.clear.ensures _ (ap fill_paper at-answer.in_ok-chains.was) _ c.records.ensures in
-    record { narrow = l.filled.narrow; chains = chosen-length l.filled }
+    record { filled = own-ranks l.filled; chains_are = l.chains-used }
 
 pub ask_filled-requires : goal.ask_filled-requires
 ask_filled-requires c =
@@ -65,7 +66,7 @@ ask_filled-requires c =
     let p = at-prepare.prepare_pair-prepared.ensures in
     let l = askable s.args.bytes.now s.args.a.0 s.args.b.0 s.args.width s.args.clocks.now _ s.args.work.now _ _ s.args.list.now _ _
     p at_clear.clear.ensures _ (ap fill_paper at-answer.in_ok-chains.was) _ at_records.records.ensures in
-    record { filled_clocks = (l.filled, l.chains-used, omega (arith, l.both_in.second, l.both_in.second_inside)); clear = l.clear }
+    record { ranks_are = (l.filled.ranks_are, omega (arith, l.both_in.second, l.both_in.second_inside)); clear = l.clear }
 
 pub returns : goal.returns
 returns c =

@@ -9,7 +9,7 @@ pub returns-then-is_conflict : goal.returns-then-is_conflict
 unfolding clash
 returns-then-is_conflict c =
     let k : conflict (at (decode c.args.recs.now) c.args.a) (at (decode c.args.recs.now) c.args.b) ≡ true = sym (ap₂ conflict c.record_at.ensures c.record_at-2.ensures) ∙ (sym c.is_conflict.ensures ∙ c.if-is_conflict.true) in
-    simp (k, c.event_at.ensures, c.event_at-then-is_conflict.ensures)
+    c.ne.ensures ∙ simp (k, c.event_at.ensures, c.event_at-then-is_conflict.ensures)
 
 pub returns-else-is_conflict : goal.returns-else-is_conflict
 unfolding clash

@@ -5,4 +5,4 @@ use Rattle.order.specs.loops.FromTable.{take_before}
 use Rattle.races.proofs.keeping.take_before.Given as goal
 
 abbrev pub invariant-loop-t : goal.invariant-loop-t
-invariant-loop-t l = (l.t ≤ l.u) × (l.clocks ≡ take_before (λ t. bit_of l.table t l.u) l.width l.u l.chosen l.t l.initial.clocks)
+invariant-loop-t l = (l.t ≤ l.u) × (l.clocks ≡ take_before (λ t. bit_of l.table t l.u) l.layout.width l.u l.layout.chosen.now l.t l.initial.clocks)
