@@ -73,7 +73,7 @@ fn run_next(recs: &[u8], table: &[usize], run: usize, rest: usize) -> usize {
 fn run_all(recs: &[u8], table: &[usize], sequence: usize, z: usize) -> usize {
     let mut run = 0;
     let mut rest = sequence;
-    for k in 0..5 {
+    for _ in 0..5 {
         run = run_next(recs, table, run, rest);
         rest = rest / 8;
     }

@@ -1,4 +1,4 @@
-use Rattle.std.proofs.Common.{◌-◌, ◌≤◌}
+use Rattle.std.proofs.Common.{◌≤◌}
 use Rattle.retelling_cases.proofs.kept_records.Given as goal
 
 abbrev pub invariant-loop-x : goal.invariant-loop-x

@@ -1,4 +1,4 @@
-use Rattle.std.proofs.Common.{◌-◌, ◌≤◌}
+use Rattle.std.proofs.Common.{◌≤◌}
 use Rattle.retelling_cases.proofs.arrangements.run_event.Given as goal
 
 abbrev pub invariant-loop-i : goal.invariant-loop-i

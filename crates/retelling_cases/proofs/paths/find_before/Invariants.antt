@@ -1,4 +1,4 @@
-use Rattle.std.proofs.Common.{◌≡◌, ◌-◌, length}
+use Rattle.std.proofs.Common.{◌≡◌, length}
 use Rattle.retelling_cases.proofs.paths.find_before.Given as goal
 
 abbrev pub invariant-loop-x : goal.invariant-loop-x
