@@ -62,8 +62,12 @@ pub fn kind_of(recs: &[u8], i: usize) -> Kind
 pub fn link_at(recs: &[u8], i: usize) -> Option<usize>
     ensures { SendsOn (at (decode recs.now) i).kind result }
 {
-    let link = kind_at(recs, i).wrapping_sub(16);
-    if link < 4 { Some(link as usize) } else { None }
+    let kind = kind_at(recs, i);
+    if (16..=19).contains(&kind) {
+        Some((kind - 16) as usize)
+    } else {
+        None
+    }
 }
 
 // The kind of record i where it is one of document 01's six, begin to write; 0 for any other record.
