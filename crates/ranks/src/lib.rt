@@ -134,11 +134,17 @@ fn begin_of(rank: u16) -> Ordering
 pub fn ordering_at(recs: &[u8], ranks: &[u16], i: usize) -> Ordering
     ensures { result ≡ ordering_of (λ e. get_or ranks.now e 0) (at (decode recs.now) i) }
 {
-    // By the byte: by `kind_of` the short list takes up to 1.02 of the instructions.
-    match access::kind_at(recs, i) {
-        1 => begin_of(rank_of(ranks, access::event_at(recs, i))),
-        3 => link_of(ranks, access::event_at(recs, i), access::target_at(recs, i)),
-        4 => link_of(ranks, access::target_at(recs, i), access::event_at(recs, i)),
-        _ => Ordering::Nothing,
+    // Test by test, and by the byte: by `match` the order question takes up to 1.2 of the instructions, by `kind_of` the short list up to 1.02.
+    let kind = access::kind_at(recs, i);
+    if 4 < kind {
+        Ordering::Nothing
+    } else if kind == 1 {
+        begin_of(rank_of(ranks, access::event_at(recs, i)))
+    } else if kind == 3 {
+        link_of(ranks, access::event_at(recs, i), access::target_at(recs, i))
+    } else if kind == 4 {
+        link_of(ranks, access::target_at(recs, i), access::event_at(recs, i))
+    } else {
+        Ordering::Nothing
     }
 }

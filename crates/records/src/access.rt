@@ -62,9 +62,11 @@ pub fn kind_of(recs: &[u8], i: usize) -> Kind
 pub fn link_at(recs: &[u8], i: usize) -> Option<usize>
     ensures { SendsOn (at (decode recs.now) i).kind result }
 {
-    match kind_at(recs, i) {
-        kind @ 16..=19 => Some((kind - 16) as usize),
-        _ => None,
+    let kind = kind_at(recs, i);
+    if (16..=19).contains(&kind) {
+        Some((kind - 16) as usize)
+    } else {
+        None
     }
 }
 
