@@ -2,10 +2,10 @@
 // first, but for those that lead to one that was merged.
 ghost use Rattle.std.specs.Prelude.{◌≡◌, ◌+◌, ◌*◌, ◌≤◌, ◌<◌, length, get_or};
 ghost use Rattle.slices.specs.Slices.{zeros};
+ghost use Rattle.clocks.specs.Rows.{merge_row};
 ghost use Rattle.races.specs.loops.FilledClocks.{RowsIn};
 ghost use Rattle.races.specs.loops.Leading.{kept_to, leads_in, lead_from, lead_down, raise_to, lead_in, MayLead};
 
-use crate::filled::Layout;
 use clocks::{clear_row, merge_row};
 use slices::zeros;
 
@@ -20,39 +20,56 @@ fn keep_entries(clocks: &[u16], width: usize, t: usize, kept: &mut [u16])
 }
 
 // Whether row p happens before row t, by the entries kept, and does not lead to a row that was merged.
-fn leads_in(layout: Layout<'_>, clocks: &[u16], kept: &[u16], t: usize, p: usize) -> bool
-    requires { RowsIn layout.chosen.now layout.width clocks.now p t × (get_or layout.chosen.now p 0 < length kept.now) }
-    ensures { result ≡ leads_in layout.entry.chosen.now layout.entry.width kept.now t clocks.now p }
+// The chains and the width apart: as fields of a struct they would be loaded anew for each row, since clocks are written.
+fn leads_in(chosen: &[u16], width: usize, clocks: &[u16], kept: &[u16], t: usize, p: usize) -> bool
+    requires { RowsIn chosen.now width clocks.now p t × (get_or chosen.now p 0 < length kept.now) }
+    ensures { result ≡ leads_in chosen.now width kept.now t clocks.now p }
 {
-    let c = layout.chosen[p] as usize;
-    let own = clocks[p * layout.width + c];
-    own <= kept[c] && clocks[t * layout.width + c] < own
+    let c = chosen[p] as usize;
+    let own = clocks[p * width + c];
+    own <= kept[c] && clocks[t * width + c] < own
+}
+
+// Not inlined, so that nothing of it is computed for the rows that are passed by.
+#[inline(never)]
+fn merge_in(clocks: &mut [u16], width: usize, chains: usize, p: u16, t: u16)
+    ensures { clocks.new ≡ merge_row width chains p t clocks.old }
+{
+    merge_row(clocks, width, chains, p, t);
 }
 
 // Row p is merged into row t where it is such a one.
 fn lead_from(
-    layout: Layout<'_>,
+    chosen: &[u16],
+    width: usize,
     chains: usize,
     clocks: &mut [u16],
     kept: &[u16],
     t: usize,
     p: usize,
 )
-    requires { MayLead layout.chosen.now layout.width clocks.old t × (p < t) × (1024 ≤ length kept.now) }
-    ensures { clocks.new ≡ lead_from layout.entry.chosen.now layout.entry.width kept.now t chains p clocks.old }
+    requires { MayLead chosen.now width clocks.old t × (p < t) × (1024 ≤ length kept.now) }
+    ensures { clocks.new ≡ lead_from chosen.now width kept.now t chains p clocks.old }
 {
-    if leads_in(layout, clocks, kept, t, p) {
-        merge_row(clocks, layout.width, chains, p as u16, t as u16);
+    if leads_in(chosen, width, clocks, kept, t, p) {
+        merge_in(clocks, width, chains, p as u16, t as u16);
     }
 }
 
 // All rows before row t, the last first.
-fn lead_down(layout: Layout<'_>, chains: usize, clocks: &mut [u16], kept: &[u16], t: usize)
-    requires { MayLead layout.chosen.now layout.width clocks.old t × (1024 ≤ length kept.now) }
-    ensures { clocks.new ≡ lead_down layout.entry.chosen.now layout.entry.width kept.now t chains t clocks.old }
+fn lead_down(
+    chosen: &[u16],
+    width: usize,
+    chains: usize,
+    clocks: &mut [u16],
+    kept: &[u16],
+    t: usize,
+)
+    requires { MayLead chosen.now width clocks.old t × (1024 ≤ length kept.now) }
+    ensures { clocks.new ≡ lead_down chosen.now width kept.now t chains t clocks.old }
 {
     for p in (0..t).rev() {
-        lead_from(layout, chains, clocks, kept, t, p);
+        lead_from(chosen, width, chains, clocks, kept, t, p);
     }
 }
 
@@ -66,15 +83,15 @@ fn raise_to(clocks: &mut [u16], place: usize, value: u16)
 
 // Row t anew, of the rows before it and its own entry. Not inlined, so that the entries kept stand in no frame of a call for a trace without sends.
 #[inline(never)]
-pub(crate) fn lead_in(layout: Layout<'_>, chains: usize, clocks: &mut [u16], t: usize)
-    requires { MayLead layout.chosen.now layout.width clocks.old t }
-    ensures { clocks.new ≡ lead_in layout.entry.chosen.now layout.entry.width chains t clocks.old }
+pub(crate) fn lead_in(chosen: &[u16], width: usize, chains: usize, clocks: &mut [u16], t: usize)
+    requires { MayLead chosen.now width clocks.old t }
+    ensures { clocks.new ≡ lead_in chosen.now width chains t clocks.old }
 {
-    let place = t * layout.width + (layout.chosen[t] as usize);
+    let place = t * width + (chosen[t] as usize);
     let own = clocks[place];
     let mut kept = zeros::<u16, 1024>();
-    keep_entries(clocks, layout.width, t, &mut kept);
-    clear_row(clocks, layout.width, t as u16);
-    lead_down(layout, chains, clocks, &kept, t);
+    keep_entries(clocks, width, t, &mut kept);
+    clear_row(clocks, width, t as u16);
+    lead_down(chosen, width, chains, clocks, &kept, t);
     raise_to(clocks, place, own);
 }

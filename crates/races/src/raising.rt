@@ -146,7 +146,7 @@ fn lead_on(layout: Layout<'_>, clocks: &mut [u16], s: Stand, u: usize) -> Stand
 {
     let mut chains = s.chains;
     for t in s.row..u {
-        lead_in(layout, chains, clocks, t + 1);
+        lead_in(layout.chosen, layout.width, chains, clocks, t + 1);
         chains = more_chains(layout.chosen, chains, t + 1);
     }
     Stand {

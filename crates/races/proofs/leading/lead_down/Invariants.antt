@@ -6,5 +6,5 @@ use Rattle.races.proofs.leading.lead_down.Given as goal
 
 abbrev pub invariant-loop-p : goal.invariant-loop-p
 invariant-loop-p l =
-    (l.p ≤ l.t) × MayLead l.layout.chosen.now l.layout.width l.initial.clocks l.t × (1024 ≤ length l.kept) × (length l.clocks ≡ length l.initial.clocks)
-    × (lead_down l.layout.chosen.now l.layout.width l.kept l.t l.chains l.p l.clocks ≡ lead_down l.layout.chosen.now l.layout.width l.kept l.t l.chains l.t l.initial.clocks)
+    (l.p ≤ l.t) × MayLead l.chosen l.width l.initial.clocks l.t × (1024 ≤ length l.kept) × (length l.clocks ≡ length l.initial.clocks)
+    × (lead_down l.chosen l.width l.kept l.t l.chains l.p l.clocks ≡ lead_down l.chosen l.width l.kept l.t l.chains l.t l.initial.clocks)

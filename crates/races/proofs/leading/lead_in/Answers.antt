@@ -6,7 +6,7 @@ use borrow.Author.Rules.{rules}
 use Rattle.races.proofs.leading.lead_in.Goals as goal
 
 pub overflow_cast-place : goal.overflow_cast-place
-overflow_cast-place c = let h = own_room _ _ c.requires in search rules
+overflow_cast-place c = let args = c.args in record { fits = omega (arith, (c.type_inv.chosen args.t).fits) }
 
 pub overflow_add-place : goal.overflow_add-place
 overflow_add-place c = let h = own_room _ _ c.requires in search rules
