@@ -115,13 +115,16 @@ pub fn row_at(recs: &[u8], ranks: &[u16], i: usize) -> usize
 fn link_of(ranks: &[u16], before: EventId, after: EventId) -> Ordering
     ensures { result ≡ link_of (get_or ranks.now before.0 0) (get_or ranks.now after.0 0) }
 {
+    // Test by test: by `||` the order question takes up to 1.05 of the instructions.
     let from = rank_of(ranks, before);
-    let to = rank_of(ranks, after);
-    if from == 0 || to == 0 {
-        Ordering::Nothing
-    } else {
-        Ordering::Link(from - 1, to - 1)
+    if from == 0 {
+        return Ordering::Nothing;
     }
+    let to = rank_of(ranks, after);
+    if to == 0 {
+        return Ordering::Nothing;
+    }
+    Ordering::Link(from - 1, to - 1)
 }
 
 fn begin_of(rank: u16) -> Ordering

@@ -36,8 +36,8 @@ loop-c-init c =
     let k = b.args in
     let t = sym b.fits.ensures ∙ b.if-not-fits.false in
     let f = rows_apart _ k.width k.p k.u t in
-    let r : c.min-entries.result ≡ span k.width k.chains k.p = unfold span in omega (arith, c.min-entries.ensures, c.most.ensures) in
-    let z : c.min-entries.result - 0 ≡ c.min-entries.result = omega arith in
+    let r : c.smaller-entries.result ≡ span k.width k.chains k.p = unfold span in omega (arith, c.smaller-entries.ensures, c.most.ensures) in
+    let z : c.smaller-entries.result - 0 ≡ c.smaller-entries.result = omega arith in
     (omega arith, r, refl, f.before, f.stands.inside, omega (arith, span-le k.width k.chains k.p), rw z refl)
 
 pub bounds-row-c : goal.bounds-row-c

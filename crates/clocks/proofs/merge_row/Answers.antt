@@ -36,8 +36,8 @@ loop-c-init c =
     let k = b.args in
     let t = sym b.fits.ensures ∙ b.if-not-fits.false in
     let f = rows_apart _ k.width k.p k.u t in
-    let r : c.min-entries.result ≡ reach k.width k.chains k.p = unfold reach in omega (arith, c.min-entries.ensures, c.most.ensures) in
-    let z : c.min-entries.result - 0 ≡ reach k.width k.chains k.p = omega arith in
+    let r : c.smaller-entries.result ≡ reach k.width k.chains k.p = unfold reach in omega (arith, c.smaller-entries.ensures, c.most.ensures) in
+    let z : c.smaller-entries.result - 0 ≡ reach k.width k.chains k.p = omega arith in
     (omega arith, omega (arith, reach-le k.width k.chains k.p), refl, f.before, f.stands.inside, rw z (sym (merge-row-is _ _ _ _ _ t)))
 
 pub bounds-row-c : goal.bounds-row-c
