@@ -14,7 +14,7 @@ pub(crate) struct Filled<'a> {
     pub width: usize,
     pub chains: usize,
     pub clocks: &'a [u16],
-    ghost filled: { FilledClocks (decode recs.now) (ranks_of (decode recs.now)) chosen.now width clocks.now } by { filled_once (decode recs.now) (ranks_of (decode recs.now)) chosen.now width clocks.now },
+    ghost filled: { FilledClocks (decode recs.now) (ranks_of (decode recs.now)) chosen.now width clocks.now } by { filled_once },
     ghost chains_are: { chains ≡ chains_used (decode recs.now) },
 }
 

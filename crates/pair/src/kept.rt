@@ -110,7 +110,8 @@ fn pass_row(
     lo: usize,
     hi: usize,
 )
-    requires { Passing (decode filled.recs.now) filled.chosen.now filled.width filled.chains filled.clocks.now work.old row.old cells.old × Block (decode filled.recs.now) t lo hi }
+    requires { Passing (decode filled.recs.now) filled.chosen.now filled.width filled.chains filled.clocks.now
+        work.old row.old cells.old × Block (decode filled.recs.now) t lo hi }
     ensures { Passes (decode filled.entry.recs.now) filled.entry.chosen.now filled.entry.width filled.entry.chains filled.entry.clocks.now (suc t) hi t lo
         work.old row.old cells.old work.new row.new cells.new }
 {

@@ -25,5 +25,5 @@ pub(crate) struct Layout<'a> {
 pub(crate) struct Filled<'a> {
     pub layout: Layout<'a>,
     pub clocks: &'a [u16],
-    ghost filled: { FilledClocks (decode layout.recs.now) layout.ranks.now layout.chosen.now layout.width clocks.now } by { filled_once (decode layout.recs.now) layout.ranks.now layout.chosen.now layout.width clocks.now },
+    ghost filled: { FilledClocks (decode layout.recs.now) layout.ranks.now layout.chosen.now layout.width clocks.now } by { filled_once },
 }

@@ -116,7 +116,8 @@ fn begun_after(kind: u8, begun: usize) -> usize
 // All entries, written or only counted; their number. Not inlined, so that the numbers of the cells stand in no frame but its own.
 #[inline(never)]
 fn list_all<const WRITING: bool>(filled: Filled<'_>, list: &mut [u16], short: bool) -> usize
-    requires { T WRITING → entry_numbers * length (listed_below (decode filled.layout.recs.now) short (length (decode filled.layout.recs.now))) ≤ length list.old }
+    requires { T WRITING
+        → entry_numbers * length (listed_below (decode filled.layout.recs.now) short (length (decode filled.layout.recs.now))) ≤ length list.old }
     ensures { WritesAll WRITING (decode filled.entry.layout.recs.now) short list.old list.new result }
 {
     let n = access::count(filled.layout.recs);

@@ -13,5 +13,5 @@ use Rattle.races.specs.loops.FilledClocks.{FilledClocks}
 rest-prop : (front all : List ℕ) → IsProp ((rest : List ℕ) × (all ≡ front ++ rest))
 rest-prop front all x y = Σ_prop_path (λ r. is_set ℕ_set _ _) (append_cancel_left front x.0 y.0 (sym x.1 ∙ y.1))
 
-pub filled_once : (tr : List Record) (ranks chosen : List ℕ) (width : ℕ) (clocks : List ℕ) → IsProp (FilledClocks tr ranks chosen width clocks)
-filled_once tr ranks chosen width clocks = hlevel (rest-prop, props)
+pub filled_once : {tr : List Record} {ranks chosen : List ℕ} {width : ℕ} {clocks : List ℕ} → IsProp (FilledClocks tr ranks chosen width clocks)
+filled_once = hlevel (rest-prop, props)
