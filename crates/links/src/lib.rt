@@ -201,19 +201,15 @@ pub fn no_words() -> [u64; 1]
     zeros::<u64, 1>()
 }
 
-// The position of the first begin that 31 refuses, or the number of records, with a table of its own. Bytes past the last whole record count for nothing:
-// where there are any it asks itself again without them. A function that calls itself is not inlined, so the table stands in no caller's frame.
+// The position of the first begin that 31 refuses, or the number of records, with a table of its own. Not inlined, so that the table stands in no caller's
+// frame.
+#[inline(never)]
 pub fn first_blocked(recs: &[u8]) -> usize
     ensures { result ≡ (fill_all (decode recs.now)).stop }
 {
     let all = ranks(recs);
     let mut table = no_bits();
-    let stop = fill(recs, &all, &mut table);
-    let whole = recs.len() / RECORD_BYTES;
-    if recs.len() == RECORD_BYTES * whole {
-        return stop;
-    }
-    first_blocked(access::records_from(recs, 0, whole))
+    fill(recs, &all, &mut table)
 }
 
 // Record j is a send to e.
@@ -271,8 +267,8 @@ fn may_block(recs: &[u8], ranks: &[u16], from: usize, e: EventId) -> bool
     may_walk(recs, ranks, from, e, &mut sent)
 }
 
-// The table over all records, and the walk for e, whose row would be u. It asks itself again without bytes past the last whole record, as
-// `first_blocked` does, and so has its frame to itself.
+// The table over all records, and the walk for e, whose row would be u. Not inlined, as `first_blocked`.
+#[inline(never)]
 fn blocked_by_table(recs: &[u8], ranks: &[u16], from: usize, e: EventId, u: usize) -> bool
     ensures { result ≡ table_blocked (decode recs.now) (rank_in ranks.now) from e.0 u }
 {
@@ -282,12 +278,7 @@ fn blocked_by_table(recs: &[u8], ranks: &[u16], from: usize, e: EventId, u: usiz
     let mut table = no_bits();
     fill(recs, ranks, &mut table);
     put(&mut table, u, u);
-    let stuck = link_rule(recs, ranks, from, e, (u + 1) as u16, &mut table);
-    let whole = recs.len() / RECORD_BYTES;
-    if recs.len() == RECORD_BYTES * whole {
-        return stuck;
-    }
-    blocked_by_table(access::records_from(recs, 0, whole), ranks, from, e, u)
+    link_rule(recs, ranks, from, e, (u + 1) as u16, &mut table)
 }
 
 // 31 would refuse the begin of e after these records.

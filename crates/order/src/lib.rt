@@ -97,8 +97,8 @@ fn fill_within(
     }
 }
 
-// The same for a trace with sends, read here. Two functions call it, so that it is inlined in neither: calls for traces without sends keep their
-// stack.
+// The same for a trace with sends, read here. Not inlined, so that the table stands in no frame of a call for a trace without sends.
+#[inline(never)]
 fn prepare_linked(
     bytes: &[u8],
     call: Call,

@@ -43,22 +43,18 @@ fn ask_read(
     )
 }
 
-// The same for a trace with sends, read here, with a table of its own; that many records passed. There are never more than 4,096, so it never asks itself
-// again; but a function that does is not inlined, and the table stands in no frame of a call for a trace without sends.
+// The same for a trace with sends, read here, with a table of its own. Not inlined, so that the table stands in no frame of a call for a trace without
+// sends.
+#[inline(never)]
 fn ask_linked(
     bytes: &[u8],
-    passed: usize,
     width: usize,
     clocks: &[u16],
     t: EventId,
     u: EventId,
 ) -> Result<Relation, Refusal>
-    requires { passed ≤ 4096 }
     ensures { order_paper result ≡ order_reply bytes.now width clocks.now t.0 u.0 }
 {
-    if 4096 < passed {
-        return ask_linked(bytes, 4096, width, clocks, t, u);
-    }
     let mut ranks = zeros::<u16, 1025>();
     let mut table = no_bits();
     let reading = trace::read_linked(bytes, &mut ranks, &mut table);
@@ -77,7 +73,7 @@ pub fn ask_order(
 {
     let first = trace::read_plain(bytes);
     if first.sends {
-        return ask_linked(bytes, first.passed, width, clocks, t, u);
+        return ask_linked(bytes, width, clocks, t, u);
     }
     let reading = first.reading;
     ask_read(bytes, reading, width, clocks, t, u, None)
