@@ -2,9 +2,6 @@ use mathlib.Core.Path.{sym}
 use native.Mathlib.Omega.{arith}
 use Rattle.question.proofs.ask_linked.Goals as goal
 
-pub ask_linked-requires : goal.ask_linked-requires
-ask_linked-requires c = absurd (omega (arith, c.if-passed-gt4096.true, c.requires))
-
 pub slice_bounds-ask_read-end : goal.slice_bounds-ask_read-end
 slice_bounds-ask_read-end c = sym c.read_linked-reading.ensures.1.long
 
