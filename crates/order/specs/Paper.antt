@@ -20,7 +20,8 @@ pub record Fills (b : List ℕ) (width : ℕ) (clocks clocks' : List ℕ) (r : R
 
 -- filling for a call that goes on with the trace `ready`: the answer, the trace that it gets, the lent clocks, the chain of each row, and the
 -- ranks of all events
-pub record Prepares (b : List ℕ) (ready : Reply Trace) (width : ℕ) (clocks clocks' chosen' ranks ranks' : List ℕ) (r : Result ℕ Refusal) (t : Trace) : Type 0 where
+pub record Prepares (b : List ℕ) (ready : Reply Trace) (width : ℕ) (clocks clocks' chosen' ranks ranks' : List ℕ)
+    (r : Result ℕ Refusal) (t : Trace) : Type 0 where
   pub answer : fill_paper r ≡ on_clocks b ready width (λ t. gives (chains_used (records_in b t)))
   pub trace_is : t ≡ unless ready no_trace (λ t. t)
   pub clocks-after : clocks' ≡ clocks_after b ready width clocks

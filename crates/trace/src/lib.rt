@@ -92,6 +92,7 @@ pub fn read_plain(bytes: &[u8]) -> Scanned
     ensures { FirstPass bytes.now result }
 {
     let framed = frame::frame(bytes);
+    // By let .. else, the form that document 01 names for the reader's answer.
     let Ok(t) = framed else {
         return Scanned {
             reading: framed,
