@@ -117,10 +117,10 @@ fn link_of(ranks: &[u16], before: EventId, after: EventId) -> Ordering
 {
     // Test by test: by `||` the order question takes up to 1.05 of the instructions.
     let from = rank_of(ranks, before);
-    let to = rank_of(ranks, after);
     if from == 0 {
         return Ordering::Nothing;
     }
+    let to = rank_of(ranks, after);
     if to == 0 {
         return Ordering::Nothing;
     }
