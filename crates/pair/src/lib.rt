@@ -135,8 +135,8 @@ fn prepare_pair(
     ensures { Prepares bytes.now (pair_ready bytes.now width (length clocks.old) room a.0 b.0) width
         clocks.old clocks.new chosen.new ranks.old ranks.new result.answer result.trace }
 {
-    let lowest = Operation(a.0.min(b.0));
-    let highest = Operation(a.0.max(b.0));
+    let lowest = a.min(b);
+    let highest = a.max(b);
     order::prepare(bytes, lowest, highest, width, room, clocks, chosen, ranks)
 }
 
