@@ -125,8 +125,8 @@ fn prepare_pair(
         clocks.old clocks.new chosen.new ranks.old ranks.new result.answer result.trace }
 {
     let call = Call {
-        lowest: Operation(a.0.min(b.0)),
-        highest: Operation(a.0.max(b.0)),
+        lowest: a.min(b),
+        highest: a.max(b),
         width,
         room,
     };

@@ -1,6 +1,6 @@
 use mathlib.Core.Path.{refl, sym, ◌∙◌}
 use Rattle.records.specs.Bytes.{decode}
-use Rattle.pair.proofs.PairLaws.{no_race, no-list, markable, row_in, for-cover, for-kept, covered, uncovered, marks-fit, as_before}
+use Rattle.pair.proofs.PairLaws.{no_race, no-list, markable, row_in, for-cover, covered, uncovered, marks-fit, as_before}
 use Rattle.slices.proofs.Cleared.{cleared-within}
 use Rattle.pair.proofs.RankedClocks.{with_ranks}
 use Rattle.pair.proofs.ask_filled.Goals as goal
@@ -58,16 +58,6 @@ returns-then-work-t-eq1 c =
       covered (with_ranks s.args.filled.filled s.requires.ranks_are.0) s.requires.clear s.args.a s.args.b e m at-row-at.row_at-t.ensures at-if.if-work-t-eq1.true s.args.list.now _ at-put-cover.put_cover-count.result at-if2.if-list-events.false at-put-cover.put_cover-count.ensures,
       as_before (with_ranks s.args.filled.filled s.requires.ranks_are.0) s.requires.clear s.args.a s.args.b e m _ (cleared-within _ (marks-fit (with_ranks s.args.filled.filled s.requires.ranks_are.0) s.requires.clear s.args.a s.args.b e m) c.clear.ensures),
     )
-
-pub put_kept-count-requires : goal.put_kept-count-requires
-put_kept-count-requires c =
-    let at-mark-leading = c in
-    let at-row-at = at-mark-leading in
-    let at-if = at-row-at in
-    let at-if2 = at-if in
-    let at-is-race-in-order = at-if2 in
-    let s = c in
-    for-kept (with_ranks s.args.filled.filled s.requires.ranks_are.0) s.requires.clear s.args.a s.args.b (sym at-is-race-in-order.is_race.ensures ∙ at-if2.if-not-is_race.false) at-mark-leading.mark_leading.ensures at-row-at.row_at-t.ensures s.args.list.now at-if.if-list-events.false
 
 pub returns : goal.returns
 returns c =

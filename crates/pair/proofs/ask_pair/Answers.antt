@@ -1,8 +1,7 @@
 use native.Mathlib.Omega.{arith}
-use mathlib.Core.Path.{refl, sym, ap}
+use mathlib.Core.Path.{refl, ap}
 use Rattle.order.specs.Paper.{fill_paper}
 use Rattle.std.proofs.lemmas.Result.{err_from_is_err_and}
-use Rattle.races.proofs.FilledLaws.{chosen-length}
 use Rattle.races.proofs.EntryStores.{own-ranks}
 use Rattle.pair.proofs.PairEnds.{not-asked, askable}
 use Rattle.pair.proofs.ask_pair.Goals as goal
@@ -33,17 +32,6 @@ overflow_sub-j c =
     let l = askable s.args.bytes.now s.args.a.0 s.args.b.0 s.args.width s.args.clocks.now _ s.args.work.now _ _ s.args.list.now _ _
     p at_clear.clear.ensures _ (ap fill_paper c.in_ok-chains.was) _ refl in
     l.both_in.second
-
-pub slice_bounds-filled-end : goal.slice_bounds-filled-end
-slice_bounds-filled-end c =
-    let at-answer = c in
-    let at_clear = at-answer in
-    let at-prepare = at_clear in
-    let s = at-prepare in
-    let p = at-prepare.prepare_pair-prepared.ensures in
-    let l = askable s.args.bytes.now s.args.a.0 s.args.b.0 s.args.width s.args.clocks.now _ s.args.work.now _ _ s.args.list.now _ _
-    p at_clear.clear.ensures _ (ap fill_paper at-answer.in_ok-chains.was) _ c.records.ensures in
-    sym (chosen-length l.filled)
 
 pub invariant_of-filled : goal.invariant_of-filled
 invariant_of-filled c =

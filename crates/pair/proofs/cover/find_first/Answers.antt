@@ -41,19 +41,6 @@ returns-then-leads_on c =
     let s = at_test in
     (c.loop-c-test.true, along-found (ranked_clocks s.args.ranked) s.args.lo s.args.t s.args.d s.requires.3 (at_test.loop-c.invariant s.requires.3) at_test.loop-c-test.true at_row.kind_at-kind.ensures at_row.row_at-row.ensures (sym c.leads_on.ensures ∙ c.if-leads_on.true))
 
-pub overflow_add-c : goal.overflow_add-c
-overflow_add-c c =
-    let at_test = c in
-    let s = at_test in
-    omega (arith, at_test.loop-c-test.true, s.requires.3, (ranked_clocks s.args.ranked).acceptable.few)
-
-pub loop-c-smaller : goal.loop-c-smaller
-loop-c-smaller c =
-    let at_test = c in
-    let s = at_test in
-    let t = at_test.loop-c-test.true in
-    omega (arith, t, (c.next_access-c-in-loop-c.ensures.next (omega (arith, t)) (omega (arith, s.requires.3))).past.low)
-
 pub loop-c-preserved : goal.loop-c-preserved
 loop-c-preserved c =
     let at_row = c in

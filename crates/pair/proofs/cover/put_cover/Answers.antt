@@ -1,7 +1,7 @@
 use native.Mathlib.Omega.{arith}
 use mathlib.Core.Path.{refl}
 use Rattle.trace.proofs.Events.{few-events}
-use Rattle.pair.proofs.CoverLaws.{written_start, written-long, written-room, written_on, written_next, written-end, few-rows}
+use Rattle.pair.proofs.CoverLaws.{written_start, written-room, written_on, written_next, written-end, few-rows}
 use Rattle.pair.proofs.RankedClocks.{ranked_clocks}
 use Rattle.pair.proofs.cover.put_cover.Goals as goal
 
@@ -9,29 +9,6 @@ pub loop-step-init : goal.loop-step-init
 loop-step-init c =
     let start = c in
     written_start (ranked_clocks start.args.ranked).acceptable start.args.a start.args.b start.requires.race.0 start.requires.race.1 start.args.list.now
-
-pub next_race-requires : goal.next_race-requires
-next_race-requires c = (c.requires.marks, c.loop-step.invariant.below, c.loop-step.invariant.leading)
-
-pub overflow_add-step : goal.overflow_add-step
-overflow_add-step c =
-    let start = c in
-    omega (arith, c.in-Some.ensures.race.first, c.in-Some.ensures.race.inside, (ranked_clocks start.args.ranked).acceptable.few)
-
-pub overflow_cast-step : goal.overflow_cast-step
-overflow_cast-step c =
-    let start = c in
-    omega (arith, c.in-Some.ensures.race.first, c.in-Some.ensures.race.inside, (ranked_clocks start.args.ranked).acceptable.few)
-
-pub overflow_add-step-in-Some : goal.overflow_add-step-in-Some
-overflow_add-step-in-Some c =
-    let start = c in
-    omega (arith, c.in-Some.ensures.race.inside, (ranked_clocks start.args.ranked).acceptable.few)
-
-pub overflow_cast-step-in-Some : goal.overflow_cast-step-in-Some
-overflow_cast-step-in-Some c =
-    let start = c in
-    omega (arith, c.in-Some.ensures.race.inside, (ranked_clocks start.args.ranked).acceptable.few)
 
 pub put_entry-requires : goal.put_entry-requires
 put_entry-requires c =
@@ -58,11 +35,6 @@ loop-step-preserved c =
     let at-loop = at-find-race in
     let start = at-loop in
     written_next (ranked_clocks start.args.ranked).acceptable start.args.a start.args.b start.requires.race.0 at-loop.loop-step.invariant start.requires.race.2 at-find-race.in-Some.step.first at-find-race.in-Some.step.second at-find-race.in-Some.ensures _ _ refl refl _ c.put_entry.ensures
-
-pub shape_of-list : goal.shape_of-list
-shape_of-list c =
-    let start = c in
-    written-long (ranked_clocks start.args.ranked).acceptable start.args.a start.args.b start.requires.race.0 c.loop-step.invariant start.requires.race.2
 
 pub returns : goal.returns
 returns c =
