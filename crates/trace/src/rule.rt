@@ -1,4 +1,5 @@
-// The rules for one record, 4 to 8 without 31, given the situation, the open or joining event, and what has begun and ended before.
+// The rules for one record, 4 to 8 without 31, given the situation, the open or joining event, and what has begun and ended before. Test by test, with early
+// returns: as single expressions reading takes up to 1.10 times as many instructions.
 ghost use Rattle.std.specs.Prelude.{◌≡◌, false, cond, not, eqb};
 ghost use Rattle.trace.specs.Place.{place};
 ghost use Rattle.trace.specs.Rule.{numbered, well_formed, misplaced, again, early, judge};
@@ -19,17 +20,26 @@ pub struct History {
 pub(crate) fn is_numbered(x: u16) -> bool
     ensures { result ≡ numbered x }
 {
-    matches!(x, 1..=1024)
+    if x < 1 {
+        return false;
+    }
+    x <= 1024
 }
 
 fn is_well_formed(r: Record) -> bool
     ensures { result ≡ well_formed r }
 {
+    let second = r.second;
     if r.kind < 3 {
-        r.second == 0 && is_numbered(r.first)
-    } else {
-        is_numbered(r.second) && is_numbered(r.first)
+        if second != 0 {
+            return false;
+        }
+        return is_numbered(r.first);
     }
+    if !is_numbered(second) {
+        return false;
+    }
+    is_numbered(r.first)
 }
 
 // next is the reply of the place rule for the record.
@@ -37,7 +47,13 @@ fn is_misplaced(next: u8, situation: u8, owner: EventId, r: Record) -> bool
     requires { next ≡ place situation r.kind }
     ensures { result ≡ misplaced situation owner.0 r }
 {
-    next == 4 || situation != 0 && r.first != owner.0
+    if next == 4 {
+        return true;
+    }
+    if situation == 0 {
+        return false;
+    }
+    r.first != owner.0
 }
 
 // The first of refusals 4 to 6 that applies to record r, where next is the place rule's reply for it.
@@ -73,17 +89,32 @@ pub(crate) fn order_fault(r: Record, past: History) -> Result<(), Reason>
 fn is_again(r: Record, past: History) -> bool
     ensures { result ≡ again r past.first_begun past.second_begun }
 {
-    match r.kind {
-        3 | 16..=19 => past.second_begun,
-        1 | 4 => past.first_begun,
-        _ => false,
+    let kind = r.kind;
+    if kind == 3 {
+        return past.second_begun;
     }
+    if kind == 1 {
+        return past.first_begun;
+    }
+    if kind == 4 {
+        return past.first_begun;
+    }
+    if kind < 16 {
+        return false;
+    }
+    if 19 < kind {
+        return false;
+    }
+    past.second_begun
 }
 
 fn is_early(r: Record, past: History) -> bool
     ensures { result ≡ early r past.second_ended }
 {
-    r.kind == 4 && !past.second_ended
+    if r.kind != 4 {
+        return false;
+    }
+    !past.second_ended
 }
 
 // The first of refusals 4 to 8 that applies to record r, where next is the place rule's reply for it.

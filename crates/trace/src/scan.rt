@@ -75,7 +75,16 @@ fn admit(status: &mut [u8; 1025], r: Record) -> Result<(), Reason>
 fn is_inner_access(owner: u16, r: Record) -> bool
     ensures { result ≡ true → Inner owner r }
 {
-    matches!(r.kind, 5..=6) && r.first == owner && rule::is_numbered(r.second)
+    if r.kind < 5 {
+        return false;
+    }
+    if 6 < r.kind {
+        return false;
+    }
+    if r.first != owner {
+        return false;
+    }
+    rule::is_numbered(r.second)
 }
 
 // From position `from` on, inside an event action, past the accesses by the open event.
@@ -106,7 +115,13 @@ fn one_more(kind: u8, found: usize) -> usize
 fn or_send(kind: u8, sends: bool) -> bool
     ensures { result ≡ (leb 16 kind && leb kind 19 || sends) }
 {
-    matches!(kind, 16..=19) || sends
+    if kind < 16 {
+        return sends;
+    }
+    if 19 < kind {
+        return sends;
+    }
+    true
 }
 
 // The records of a trace that start there, with the number of begins that the trailer names.
@@ -125,10 +140,9 @@ pub(crate) fn scan(recs: &[u8], start: usize, events: usize) -> Scanned
     while i < records {
         let r = record_at(recs, i);
         let next = place::next(now_in, r.kind);
-        let op = Operation((i + 1) as u16);
         if let Err(misplaced) = rule::place_fault(next, now_in, EventId(owner), r) {
             return Scanned {
-                reading: Err(misplaced.at(op)),
+                reading: Err(misplaced.at(Operation((i + 1) as u16))),
                 start: start,
                 passed: i,
                 sends: sends,
@@ -136,7 +150,7 @@ pub(crate) fn scan(recs: &[u8], start: usize, events: usize) -> Scanned
         }
         if let Err(reason) = admit(&mut status, r) {
             return Scanned {
-                reading: Err(reason.at(op)),
+                reading: Err(reason.at(Operation((i + 1) as u16))),
                 start: start,
                 passed: i,
                 sends: sends,

@@ -1,35 +1,37 @@
-use native.Mathlib.Omega.{arith}
-use mathlib.Core.Logic.{inl, inr}
-use borrow.Author.Tests.{eq-eqb, ne_eqb, le-leb, lt-leb}
+use borrow.Author.Tests.{eq-eqb, ne_eqb, lt-leb, le-leb}
 use Rattle.trace.specs.Rule.{again}
 use Rattle.trace.proofs.rule.is_again.Goals as goal
 
-pub returns-in-1 : goal.returns-in-1
+pub returns-then-kind-eq3 : goal.returns-then-kind-eq3
 unfolding again
-returns-in-1 c = elim c.in-1.is [ inl e ↦ rw e | inr e ↦ rw e ]
+returns-then-kind-eq3 c = simp (eq-eqb _ _ c.if-kind-eq3.true)
 
-pub returns-in-3 : goal.returns-in-3
+pub returns-then-kind-eq1 : goal.returns-then-kind-eq1
 unfolding again
-returns-in-3 c = simp (eq-eqb c.args.r.kind 3 (omega arith))
+returns-then-kind-eq1 c = rw c.if-kind-eq1.true
 
-pub returns-in-3-2 : goal.returns-in-3-2
+pub returns-then-kind-eq4 : goal.returns-then-kind-eq4
 unfolding again
-returns-in-3-2 c = let k = c.args.r.kind in simp (ne_eqb k 3 (λ e. omega arith), le-leb 16 k (omega arith), le-leb k 19 (omega arith))
+returns-then-kind-eq4 c = rw c.if-kind-eq4.true
 
-pub returns-in_default : goal.returns-in_default
+pub returns-then-kind-lt16 : goal.returns-then-kind-lt16
 unfolding again
-returns-in_default c =
-    let k = c.args.r.kind in
-    simp (ne_eqb k 3 (λ e. omega arith), ne_eqb k 1 (λ e. grind arith), ne_eqb k 4 (λ e. grind arith), lt-leb 16 k (omega arith))
+returns-then-kind-lt16 c =
+    let at-if1 = c in
+    simp (ne_eqb _ _ at-if1.if-kind-eq3.false, ne_eqb _ _ c.if-kind-eq1.false, ne_eqb _ _ c.if-kind-eq4.false, lt-leb _ _ c.if-kind-lt16.true)
 
-pub returns-in_default-2 : goal.returns-in_default-2
+pub returns-then-kind-gt19 : goal.returns-then-kind-gt19
 unfolding again
-returns-in_default-2 c =
-    let k = c.args.r.kind in
+returns-then-kind-gt19 c =
+    let at-if1 = c in
     simp (
-      ne_eqb k 3 (λ e. omega arith),
-      ne_eqb k 1 (λ e. grind arith),
-      ne_eqb k 4 (λ e. grind arith),
-      le-leb 16 k (omega arith),
-      lt-leb k 19 (omega arith),
+      ne_eqb _ _ at-if1.if-kind-eq3.false,
+      ne_eqb _ _ c.if-kind-eq1.false,
+      ne_eqb _ _ c.if-kind-eq4.false,
+      le-leb _ _ c.if-kind-lt16.false,
+      lt-leb _ _ c.if-kind-gt19.true,
     )
+
+pub returns : goal.returns
+unfolding again
+returns c = simp (le-leb _ _ c.if-kind-lt16.false, le-leb _ _ c.if-kind-gt19.false, ne_eqb _ _ c.if-kind-eq3.false)

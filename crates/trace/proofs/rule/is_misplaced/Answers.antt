@@ -6,10 +6,12 @@ pub returns-then-next-eq4 : goal.returns-then-next-eq4
 unfolding misplaced
 returns-then-next-eq4 c = simp (← c.requires, eq-eqb _ _ c.if-next-eq4.true)
 
-pub returns-then-situation-ne0 : goal.returns-then-situation-ne0
+pub returns-then-situation-eq0 : goal.returns-then-situation-eq0
 unfolding misplaced
-returns-then-situation-ne0 c = simp (← c.requires, ne_eqb _ _ c.if-next-eq4.false, ne_eqb _ _ c.if-situation-ne0.true)
+returns-then-situation-eq0 c = simp (← c.requires, ne_eqb _ _ c.if-next-eq4.false, eq-eqb _ _ c.if-situation-eq0.true)
 
-pub returns-else-situation-ne0 : goal.returns-else-situation-ne0
+pub returns : goal.returns
 unfolding misplaced
-returns-else-situation-ne0 c = simp (← c.requires, ne_eqb _ _ c.if-next-eq4.false, eq-eqb _ _ c.if-situation-ne0.false)
+returns c =
+    let start = c in
+    simp (← start.requires, ne_eqb _ _ c.if-next-eq4.false, ne_eqb _ _ c.if-situation-eq0.false)
