@@ -102,7 +102,7 @@ fn most(chains: usize, p: u16) -> usize
 }
 
 // The smaller of two numbers. Test by test, as `most`: by `min` both are worked out for rows that are not merged too, and a list over sends takes up to
-// 1.25 of the instructions.
+// 1.14 of the instructions.
 fn smaller(x: usize, y: usize) -> usize
     ensures { result ≡ min x y }
 {

@@ -73,7 +73,7 @@ fn have_conflict(recs: &[u8], lo: usize, hi: usize, cells: &[u8]) -> bool
     if access::count(recs) < hi {
         return false;
     }
-    // By `for`: with `any` a test of bounds stays in the loop, which takes the pair question up to 1.05.
+    // By `for`: with `any` a test of bounds stays in the loop, which takes the pair question up to 1.08.
     for i in lo..hi {
         if has_conflict(recs, cells, i) {
             return true;
@@ -82,6 +82,7 @@ fn have_conflict(recs: &[u8], lo: usize, hi: usize, cells: &[u8]) -> bool
     false
 }
 
+// By index: nothing is known of what a zip leaves behind.
 fn merge_part(part: &[u16], row: &mut [u16], chains: usize)
     requires { (chains ≤ length part.now) × (chains ≤ length row.old) }
     ensures { Merged part.now 0 chains row.old row.new }

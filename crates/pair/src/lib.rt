@@ -35,7 +35,7 @@ pub enum Verdict {
     Covered(usize),
 }
 
-// Writes entry k of the list space.
+// Writes entry k of the list space, whose numbers C reads.
 pub(crate) fn put_entry(list: &mut [u16], k: usize, first: u16, second: u16)
     requires { entry_numbers * k + 1 < length list.old }
     ensures { list.new ≡ set (set list.old (entry_numbers * k) first) (entry_numbers * k + 1) second }

@@ -24,7 +24,7 @@ fn is_ordered(filled: Filled<'_>, seen: u16, u: usize) -> bool
 }
 
 // The number of a cell after an access of row u: in the short list a write is its start. In three arms: with the first two as one condition, a list of few
-// races takes up to 1.05.
+// races takes up to 1.06.
 fn seen_after(ordered: bool, short: bool, kind: u8, u: usize) -> u16
     requires { u < 1024 }
     ensures { result ≡ seen_after ordered short kind u }

@@ -158,7 +158,7 @@ fn is_ample(short: bool, records: usize, space: usize) -> bool
     }
 }
 
-// How many entries there are, or 1 where there is space for them in any case.
+// How many entries there are, or 1 where there is space for them in any case. Which list is made is a flag: the definitions have one law over both.
 fn count_all(filled: Filled<'_>, list: &mut [u16], short: bool) -> usize
     ensures { Counts (decode filled.entry.layout.recs.now) short (length list.old) result × (list.new ≡ list.old) }
 {
