@@ -1,8 +1,9 @@
 // A trace with one thing changed, or nothing.
-use crate::draft::{Draft, byte, put_trailer};
+use crate::draft::{Draft, byte};
 use crate::slots::{NOWHERE, fives};
 use slices::{get, put};
 use trials::chance::roll;
+use trials::draft::put_trailer;
 use trials::numbers::{pick, plus};
 
 // Where the trailer is put, which record is written over which, where a byte is put and which, and how long the trace is.
@@ -78,7 +79,8 @@ fn repeat(bytes: &mut [u8], p: usize, q: usize) {
 // Puts the trailer, changes the trace, and gives its length. A whole trace is not changed.
 pub(crate) fn put_end(bytes: &mut [u8], d: Draft, whole: bool, seed: usize) -> usize {
     let x = choose(d, seed, pick(whole, 9, roll(seed, d.end, 37, 9)));
-    put_trailer(bytes, x.end, between(d.start, x.end), d.events);
+    let distance = between(d.start, x.end) % 65536;
+    put_trailer(bytes, x.end, distance, (d.events % 65536) as u16);
     repeat(bytes, x.p, x.q);
     put(bytes, x.at, x.byte);
     x.length

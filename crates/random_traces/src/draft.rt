@@ -2,8 +2,8 @@
 use crate::damage::between;
 use crate::slots::{fives, narrow};
 use records::access;
-use slices::{get, put};
 use trials::chance::roll;
+use trials::draft::put_record;
 use trials::numbers::{pick, plus};
 use trials::recs::{is_kind, target_of};
 
@@ -99,40 +99,6 @@ fn number(s: Shape, j: usize) -> u16 {
 
 pub(crate) fn byte(x: usize) -> u8 {
     (x % 256) as u8
-}
-
-// Puts the bytes of a part at a place; where it ends.
-fn put_part(bytes: &mut [u8], at: usize, part: &[u8]) -> usize {
-    let n = part.len();
-    for i in 0..n {
-        put(bytes, plus(at, i), get(part, i));
-    }
-    plus(at, n)
-}
-
-pub(crate) fn put_record(bytes: &mut [u8], at: usize, kind: u8, first: u16, second: u16) -> usize {
-    let part = [
-        kind,
-        (first % 256) as u8,
-        (first / 256) as u8,
-        (second % 256) as u8,
-        (second / 256) as u8,
-    ];
-    put_part(bytes, at, &part)
-}
-
-pub(crate) fn put_trailer(bytes: &mut [u8], at: usize, distance: usize, begins: usize) -> usize {
-    let part = [
-        byte(distance),
-        byte(distance / 256),
-        0,
-        0,
-        byte(begins),
-        byte(begins / 256),
-        1,
-        0xA7,
-    ];
-    put_part(bytes, at, &part)
 }
 
 fn join_count(s: Shape, at: usize, j: usize) -> usize {

@@ -1,8 +1,9 @@
 // Traces written out as text, four characters a record: kind, event, target or cell, space. A kind is b (begin), e (end), j (join), r (read), w (write)
 // or *: the character after the event then names a digit of a number x, which says what stands there.
-use crate::draft::{Draft, byte, put_record};
+use crate::draft::{Draft, byte};
 use crate::slots::{fives, narrow};
 use slices::get;
+use trials::draft::put_record;
 use trials::numbers::{pick, plus};
 
 // The value of a digit's character; of any other one that comes before 0, 0.

@@ -1,4 +1,4 @@
-// Reads and stores at any index: past the end a read gives 0 and a store does nothing. Sums that wrap, bits, and a choice between two numbers.
+// Numbers narrowed, remainders, and the bytes of so many records.
 
 // An index past the end of every slice.
 pub(crate) const NOWHERE: usize = 1000000;

@@ -1,4 +1,4 @@
-use Rattle.std.proofs.Common.{◌-◌, ◌≤◌}
+use Rattle.std.proofs.Common.{◌≤◌}
 use Rattle.random_traces.proofs.cases.compare_refused.Given as goal
 
 abbrev pub invariant-loop-call : goal.invariant-loop-call

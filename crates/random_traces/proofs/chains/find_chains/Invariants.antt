@@ -1,4 +1,4 @@
-use Rattle.std.proofs.Common.{◌≡◌, ◌-◌, length}
+use Rattle.std.proofs.Common.{◌≡◌, length}
 use Rattle.random_traces.proofs.chains.find_chains.Given as goal
 
 abbrev pub invariant-loop-t : goal.invariant-loop-t

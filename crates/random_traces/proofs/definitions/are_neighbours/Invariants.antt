@@ -1,4 +1,4 @@
-use Rattle.std.proofs.Common.{◌-◌, ◌≤◌}
+use Rattle.std.proofs.Common.{◌≤◌}
 use Rattle.random_traces.proofs.definitions.are_neighbours.Given as goal
 
 abbrev pub invariant-loop-i : goal.invariant-loop-i

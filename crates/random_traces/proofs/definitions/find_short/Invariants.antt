@@ -1,4 +1,4 @@
-use Rattle.std.proofs.Common.{◌≡◌, ◌-◌, length}
+use Rattle.std.proofs.Common.{◌≡◌, length}
 use Rattle.random_traces.proofs.definitions.find_short.Given as goal
 
 abbrev pub invariant-loop-r : goal.invariant-loop-r

@@ -1,4 +1,4 @@
-use Rattle.std.proofs.Common.{◌-◌, ◌≤◌}
+use Rattle.std.proofs.Common.{◌≤◌}
 use Rattle.random_traces.proofs.order_cases.compare_questions.Given as goal
 
 abbrev pub invariant-loop-x : goal.invariant-loop-x

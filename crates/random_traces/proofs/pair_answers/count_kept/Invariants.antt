@@ -1,4 +1,4 @@
-use Rattle.std.proofs.Common.{◌-◌, ◌≤◌}
+use Rattle.std.proofs.Common.{◌≤◌}
 use Rattle.random_traces.proofs.pair_answers.count_kept.Given as goal
 
 abbrev pub invariant-loop-t : goal.invariant-loop-t

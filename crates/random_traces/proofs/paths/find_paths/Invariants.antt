@@ -1,4 +1,4 @@
-use Rattle.std.proofs.Common.{◌≡◌, ◌-◌, length}
+use Rattle.std.proofs.Common.{◌≡◌, length}
 use Rattle.random_traces.proofs.paths.find_paths.Given as goal
 
 abbrev pub invariant-loop-x : goal.invariant-loop-x

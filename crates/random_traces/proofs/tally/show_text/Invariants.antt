@@ -1,4 +1,4 @@
-use Rattle.std.proofs.Common.{◌-◌, ◌≤◌, length}
+use Rattle.std.proofs.Common.{◌≤◌}
 use Rattle.random_traces.proofs.tally.show_text.Given as goal
 
 abbrev pub invariant-loop-i : goal.invariant-loop-i
