@@ -1,6 +1,7 @@
 // One trace: the position at which filling stops and the bits of the event actions that began before it, against the rules.
 use crate::rules;
-use trials::line::{number, word};
+use crate::show::number;
+use trials::line::word;
 use trials::numbers::{pick, plus};
 
 // How many traces, those that 31 refuses, pairs of event actions compared, ordered ones, and differences.

@@ -1,10 +1,9 @@
 // Records written out as text, four characters each: kind, event, target, space. A kind is b (begin), e (end), f (fork), j (join), 0 to 3 (send on that
 // link) or *: the target's character then names a digit of a number x, which says what stands there.
-
-// Bytes for 128 records.
 use slices::{get, put};
 use trials::numbers::{pick, plus};
 
+// Bytes for 128 records.
 pub(crate) fn space() -> [u8; 640] {
     [0; 640]
 }
