@@ -10,7 +10,7 @@ use borrow.Author.Tests.{eq-eqb, ne_eqb, lt-ltb, le-ltb}
 use lib.Dec.{eqb, ltb}
 use lib.ListN.{length, get_or, set, length-set, length-replicate}
 use lib.Seq.{get_or-set_same, get_or-set_other}
-use Rattle.slices.specs.Slices.{zeros}
+use Rattle.slices.specs.Slices.{filled, zeros}
 use Rattle.bits.specs.Words.{bit_at, with_bit, or_from, or_others}
 use Rattle.bits.specs.Table.{row_start, in_table, place, bit_of, put_bit, or_row, member, or_set}
 use Rattle.bits.specs.Laws.{Proper, PutsBit, TakesRow, TakesInto}
@@ -299,7 +299,7 @@ module _ (table : List ℕ) (l x : ℕ) (i : l < 4) (h : x < 1024) (ws : List �
 
 -- words without bits
 pub zeros-word : (n j : ℕ) → get_or (zeros n) j 0 ≡ 0
-unfolding zeros
+unfolding filled
 zeros-word zero j = refl
 zeros-word (suc n) zero = refl
 zeros-word (suc n) (suc j) = zeros-word n j
@@ -308,7 +308,7 @@ zeros-bit : (n j k : ℕ) → bit_at (get_or (zeros n) j 0) k ≡ false
 zeros-bit n j k = ap (λ (x : ℕ). bit_at x k) (zeros-word n j) ∙ zero_bit k
 
 pub zeros-room : (n m : ℕ) → m ≤ n → m ≤ length (zeros n)
-unfolding zeros
+unfolding filled
 zeros-room n m h = rw (length-replicate n zero) h
 
 and_none : (a b : Bool) → b ≡ false → (a && b) ≡ false

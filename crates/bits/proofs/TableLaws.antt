@@ -7,7 +7,7 @@ use mathlib.Core.Logic.{◌⊎◌, inl, inr}
 use native.Mathlib.Omega.{arith}
 use native.Mathlib.Decide.{dec_lt}
 use borrow.Author.Tests.{lt-ltb, le-ltb, le-leb, lt-leb}
-use lib.Dec.{leb, ltb}
+use lib.Dec.{ltb}
 use lib.ListN.{length, get_or, set}
 use Rattle.bits.specs.Words.{bit_at, with_bit, or_from, or_others}
 use Rattle.bits.specs.Table.{row_start, in_table, place, bit_of, put_bit, or_row, member, or_set}
@@ -55,17 +55,9 @@ module _ (p u : ℕ) where
     unfolding bit_of
     bit_is e = rw e
 
-    pub put-none : in_table p u ≡ false → ws ≡ put_bit p u ws
-    unfolding put_bit
-    put-none e = rw e
-
     pub put_is : in_table p u ≡ true → put_bit p u ws ≡ set ws (place p u) (with_bit (get_or ws (place p u) 0) (p % 64))
     unfolding put_bit
     put_is e = rw e
-
-    pub or-row-none : ((ltb p u && ltb u 1024) && leb 8704 (length ws)) ≡ false → ws ≡ or_row p u ws
-    unfolding or_row
-    or-row-none e = rw e
 
     pub or-row-is : p < u → u < 1024 → 8704 ≤ length ws → or_row p u ws ≡ or_from (row_start u) (row_start p) 0 (p / 64 + 1) ws
     unfolding or_row
@@ -81,10 +73,6 @@ module _ (l x : ℕ) (ws : List ℕ) where
   member_is h k = rw (lt-ltb l 4 h, lt-ltb x 1024 k)
 
   module _ (table : List ℕ) where
-    pub or-set-none : ((ltb l 4 && ltb x 1024) && (leb 64 (length ws) && leb 8704 (length table))) ≡ false → ws ≡ or_set table l x ws
-    unfolding or_set
-    or-set-none e = rw e
-
     pub or-set-is : l < 4 → x < 1024 → 64 ≤ length ws → 8704 ≤ length table → or_set table l x ws ≡ or_others table (16 * l) (row_start x) 0 (x / 64 + 1) ws
     unfolding or_set
     or-set-is h k i j = rw (lt-ltb l 4 h, lt-ltb x 1024 k, le-leb 64 (length ws) i, le-leb 8704 (length table) j)

@@ -5,8 +5,9 @@
 mod relay;
 mod show;
 
-use races::Listing;
-use show::{number, word};
+use races::Summary;
+use trace::Refusal;
+use trials::line::{number, word};
 
 // T: begin 1, fork 1 2, fork 1 3, end 1, begin 2, write 2 1, write 2 2, end 2, begin 3, read 3 2, read 3 1, end 3.
 const T: [u8; 68] = [
@@ -108,7 +109,7 @@ fn made(
     clocks: &mut [u16],
     work: &mut [u8],
     list: &mut [u16],
-) -> Listing {
+) -> Result<Summary, Refusal> {
     if short {
         return races::short_list(t, width, clocks, work, list);
     }

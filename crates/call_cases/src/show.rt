@@ -1,33 +1,21 @@
 // What a call answered and left, as numbers on the line.
 use clocks::Relation;
-use order::Filling;
-use pair::PairAnswer;
-use question::Answer;
-use races::Listing;
+use pair::Verdict;
+use races::Summary;
 use trace::Refusal;
-
-pub(crate) fn word(text: &[u8]) {
-    io::write_all(1, text);
-}
-
-pub(crate) fn number(n: usize) {
-    io::write_all(1, b" ");
-    io::print_decimal(1, n as u64);
-}
+use trials::line::{self, number, word};
 
 fn refusal(f: Refusal) {
-    word(b" refused");
-    number(f.number as usize);
-    number(f.place.0 as usize);
+    line::refusal(f.reason.number(), f.place.0);
 }
 
-pub(crate) fn filling(r: Filling) {
+pub(crate) fn filling(r: Result<usize, Refusal>) {
     match r {
-        Filling::Filled(chains) => {
+        Ok(chains) => {
             word(b" filled");
             number(chains);
         }
-        Filling::Refused(f) => refusal(f),
+        Err(f) => refusal(f),
     }
 }
 
@@ -40,55 +28,47 @@ fn relation(r: Relation) {
     }
 }
 
-pub(crate) fn answer(r: Answer) {
+pub(crate) fn answer(r: Result<Relation, Refusal>) {
     match r {
-        Answer::Related(way) => relation(way),
-        Answer::Refused(f) => refusal(f),
+        Ok(way) => relation(way),
+        Err(f) => refusal(f),
     }
 }
 
-pub(crate) fn listing(r: Listing) {
+pub(crate) fn listing(r: Result<Summary, Refusal>) {
     match r {
-        Listing::Listed(s) => {
+        Ok(s) => {
             word(b" listed");
             number(s.events);
             number(s.records);
             number(s.chains);
             number(s.count);
         }
-        Listing::Refused(f) => refusal(f),
+        Err(f) => refusal(f),
     }
 }
 
-pub(crate) fn pair(r: PairAnswer) {
+pub(crate) fn pair(r: Result<Verdict, Refusal>) {
     match r {
-        PairAnswer::Open(k) => {
+        Ok(Verdict::Open(k)) => {
             word(b" open");
             number(k);
         }
-        PairAnswer::Covered(k) => {
+        Ok(Verdict::Covered(k)) => {
             word(b" covered");
             number(k);
         }
-        PairAnswer::Refused(f) => refusal(f),
+        Err(f) => refusal(f),
     }
 }
 
 // The first n of them, after a bar.
 pub(crate) fn numbers(list: &[u16], n: usize) {
     word(b" |");
-    for i in 0..n {
-        if i < list.len() {
-            number(list[i] as usize);
-        }
-    }
+    line::numbers(list, n);
 }
 
 pub(crate) fn bytes(list: &[u8], n: usize) {
     word(b" |");
-    for i in 0..n {
-        if i < list.len() {
-            number(list[i] as usize);
-        }
-    }
+    line::bytes(list, n);
 }

@@ -15,7 +15,7 @@ use lib.Dec.{leb, ltb}
 use lib.ListN.{length, get_or, set, take, drop, replicate, length-append, length-take, length-drop, length-set, length-replicate, replicate-append-replicate}
 use lib.ListN.{get_or-replicate, get_or-append}
 use lib.Seq.{length-take-le, get_or-append-add, get_or-take, get_or-drop, take_at, drop-append-add, drop-drop}
-use Rattle.slices.specs.Slices.{zeros, cleared}
+use Rattle.slices.specs.Slices.{filled, cleared}
 use Rattle.slices.proofs.Cleared.{cleared-whole, cleared-long}
 use Rattle.clocks.specs.Rows.{one_more, has_row, rows_if, reach, merge_at, merge_from, merge_row, span, clear_past, copy_at, copy_from, copy_row, clear_row, clear_rows}
 
@@ -215,7 +215,7 @@ past-at w u c xs ys h i e =
 
 -- clearing the part of a row
 pub cleared_at : (w u : ℕ) (xs ys : List ℕ) → u * w + w ≤ length xs → ys ≡ cleared w (take (u * w + w - u * w) (drop (u * w) xs)) → put_mid (u * w) (u * w + w - u * w) xs ys ≡ take (u * w) xs ++ (replicate w 0 ++ drop (u * w + w) xs)
-unfolding zeros
+unfolding filled
 cleared_at w u xs ys h e =
     let part = take (u * w + w - u * w) (drop (u * w) xs) in
     let l : w ≡ length part = sym (mid_len (u * w) (u * w + w) xs h ∙ omega arith) in

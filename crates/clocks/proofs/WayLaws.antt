@@ -1,14 +1,13 @@
 -- What a reply says, by the tests that it is made of: x, both are the same; y, first before second; z, second before first. Assumes nothing.
-use Prim.Native.Nat.{ℕ, ◌+◌, ◌*◌, ◌≤◌, ◌<◌}
+use Prim.Native.Nat.{ℕ, ◌+◌, ◌*◌}
 use mathlib.Core.Path.{◌≡◌, refl, ap}
 use mathlib.Core.Bool.{Bool, true, false, not, ◌&&◌}
 use mathlib.Core.List.{List}
 use lib.Dec.{T, eqb, leb, eqb→eq, le→leb}
 use lib.ListN.{get_or}
 use native.Mathlib.Omega.{arith}
-use borrow.Author.Tests.{le-leb, lt-leb}
 use Rattle.clocks.specs.Rows.{compare_in}
-use Rattle.clocks.specs.WayRound.{same_action, first_before, second_before, unordered, way_round, relate_entries, relate_in, says_unordered, says_before}
+use Rattle.clocks.specs.WayRound.{way_round, relate_entries, relate_in, says_unordered, says_before}
 
 pub says-before : (x y z : Bool) → (T x → T y) → says_before (way_round x y z) ≡ y
 says-before true true z h = refl
@@ -25,25 +24,7 @@ says-unordered false true z h k = refl
 says-unordered false false true h k = absurd (k tt)
 says-unordered false false false h k = refl
 
--- the reply by entries, by its tests
-module _ (same : Bool) (own there second back : ℕ) where
-  pub entries-same : own ≤ there → same ≡ true → same_action ≡ relate_entries same own there second back
-  unfolding relate_entries
-  entries-same h e = rw (le-leb own there h, e) refl
-
-  pub entries-before : own ≤ there → same ≡ false → first_before ≡ relate_entries same own there second back
-  unfolding relate_entries
-  entries-before h e = rw (le-leb own there h, e) refl
-
-  pub entries-after : there < own → second ≤ back → second_before ≡ relate_entries same own there second back
-  unfolding relate_entries
-  entries-after h k = rw (lt-leb own there h, le-leb second back k) refl
-
-  pub entries-unordered : there < own → back < second → unordered ≡ relate_entries same own there second back
-  unfolding relate_entries
-  entries-unordered h k = rw (lt-leb own there h, lt-leb second back k) refl
-
--- and it is that of their rows
+-- the reply by entries is that of their rows
 implied : (x y : Bool) → (T x → T y) → (y && x) ≡ x
 implied true true h = refl
 implied true false h = absurd (h tt)

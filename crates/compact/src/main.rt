@@ -1,8 +1,8 @@
 // The compactor as a program: reads a trace from standard input and writes its slim trace, or the line that the trace program prints for a refusal.
 #![tactic(auto)]
 
-use compactor::Compacting;
 use records::Operation;
+use trace::Reason;
 
 // At most that many bytes of input; more is refusal 13.
 const LONGEST: usize = 32768;
@@ -10,11 +10,11 @@ const LONGEST: usize = 32768;
 // What is written for that input, in the first bytes of the space; their number.
 fn slim(input: &[u8], out: &mut [u8]) -> usize {
     if LONGEST < input.len() {
-        return listing::put_refusal(out, 0, 13, Operation(0));
+        return listing::put_refusal(out, 0, Reason::TooLong.number() as usize, Operation(0));
     }
     match compactor::compact(input, out) {
-        Compacting::Compacted(s) => s.length,
-        Compacting::Refused(f) => listing::put_refusal(out, 0, f.number as usize, f.place),
+        Ok(s) => s.length,
+        Err(f) => listing::put_refusal(out, 0, f.reason.number() as usize, f.place),
     }
 }
 

@@ -1,12 +1,10 @@
 // The compactor's boundary cases. Each line has the bytes given and the space lent, the answer, and the first bytes of the space, which held 9 before.
 #![tactic(auto)]
 
-mod draft;
 mod show;
 
-use compactor::Compacting;
-use draft::{put_record, put_times, put_trailer};
-use show::{number, word};
+use trials::draft::{put_record, put_times, put_trailer};
+use trials::line::{number, word};
 
 fn compact_in(bytes: &[u8], n: usize, out: &mut [u8], space: usize) -> usize {
     if bytes.len() < n {
@@ -20,8 +18,8 @@ fn compact_in(bytes: &[u8], n: usize, out: &mut [u8], space: usize) -> usize {
     let r = compactor::compact(&bytes[..n], &mut out[..space]);
     show::compacting(r);
     match r {
-        Compacting::Compacted(s) => s.length,
-        Compacting::Refused(_) => 0,
+        Ok(s) => s.length,
+        Err(_) => 0,
     }
 }
 

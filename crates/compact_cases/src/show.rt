@@ -1,26 +1,18 @@
 // What the compactor answered and left, as numbers on the line.
-use compactor::Compacting;
 
-pub(crate) fn word(text: &[u8]) {
-    io::write_all(1, text);
-}
+use compactor::Slim;
+use trace::Refusal;
+use trials::line::{self, number, word};
 
-pub(crate) fn number(n: usize) {
-    io::write_all(1, b" ");
-    io::print_decimal(1, n as u64);
-}
-
-pub(crate) fn compacting(r: Compacting) {
+pub(crate) fn compacting(r: Result<Slim, Refusal>) {
     match r {
-        Compacting::Compacted(s) => {
+        Ok(s) => {
             word(b" compacted");
             number(s.length);
             number(s.dropped);
         }
-        Compacting::Refused(f) => {
-            word(b" refused");
-            number(f.number as usize);
-            number(f.place.0 as usize);
+        Err(f) => {
+            line::refusal(f.reason.number(), f.place.0);
         }
     }
 }
@@ -28,9 +20,5 @@ pub(crate) fn compacting(r: Compacting) {
 // The first n of them, after a bar.
 pub(crate) fn bytes(list: &[u8], n: usize) {
     word(b" |");
-    for i in 0..n {
-        if i < list.len() {
-            number(list[i] as usize);
-        }
-    }
+    line::bytes(list, n);
 }

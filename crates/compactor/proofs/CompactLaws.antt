@@ -18,8 +18,9 @@ use Rattle.trace.proofs.ReplyLaws.{then-given}
 use Rattle.trace.proofs.Accepted.{accepts, records-read}
 use Rattle.order.specs.Fill.{events_in}
 use Rattle.coverage.proofs.Indexed.{size-most, sizes-together}
-use Rattle.compactor.specs.declared.Compacting.{Compacting}
-use Rattle.compactor.specs.declared.Compacting.TheVariants.{Compacted}
+use Rattle.std.proofs.Common.{Result, Ok}
+use Rattle.trace.specs.declared.Refusal.{Refusal}
+use Rattle.compactor.specs.declared.Slim.{Slim}
 use Rattle.compactor.specs.SlimTrace.{dropped, kept, slim_of, dropped_in}
 use Rattle.compactor.specs.Compact.{compact_paper, slim_bytes, compact_trace, compact_reply, out_after, Compacts}
 use Rattle.compactor.specs.loops.Keeping.{Passes, Fits, WritesSlim}
@@ -73,7 +74,7 @@ writes-slim {tr} acc {events} {k} {out} {out'} {out''} e room p w =
 
 module _ (b : List ℕ) where
   -- the reading is refused
-  pub reading-refused : {n p : ℕ} (out : List ℕ) (r : Compacting) → refused n p ≡ read_reply b → compact_paper r ≡ refused n p → Compacts b out out r
+  pub reading-refused : {n p : ℕ} (out : List ℕ) (r : Result Slim Refusal) → refused n p ≡ read_reply b → compact_paper r ≡ refused n p → Compacts b out out r
   unfolding compact_reply then out_after unless
   reading-refused out r e q = record { answer = rw (← e) q; out-after = rw (← e) }
 
@@ -86,7 +87,7 @@ module _ (b : List ℕ) where
     replies space = then-given e (λ t. compact_trace (records_in b t) space)
 
     -- the output space is too short
-    pub space-short : {out out' : List ℕ} (f : Bool) (r : Compacting) → Fits tr out out' f → f ≡ false → compact_paper r ≡ refused 24 0 → Compacts b out out' r
+    pub space-short : {out out' : List ℕ} (f : Bool) (r : Result Slim Refusal) → Fits tr out out' f → f ≡ false → compact_paper r ≡ refused 24 0 → Compacts b out out' r
     unfolding compact_trace demand out_after unless
     space-short {out} f r w n q =
         let z : leb (length (slim_bytes tr)) (length out) ≡ false = sym w.tells ∙ n in
@@ -95,7 +96,7 @@ module _ (b : List ℕ) where
 
     -- the slim trace is written
     pub slim-written : {k : ℕ} {out out' out'' : List ℕ} (f : Bool) → Fits tr out out' f → f ≡ true → WritesSlim tr out' out'' k
-        → Compacts b out out'' (Compacted (record { length = 5 * k + 8; dropped = t.records - k }))
+        → Compacts b out out'' (Ok (record { length = 5 * k + 8; dropped = t.records - k }))
     unfolding compact_trace demand out_after unless dropped_in
     slim-written {k} {out} {out'} f h n w =
         let a = accepts b t e in

@@ -13,7 +13,7 @@ use lib.ListN.{length, get_or, set, drop, length-map, length-drop, length-set, l
 use lib.Seq.{get_or-set_same, get_or-set_other, drop-drop, take_at, drop_at}
 use Rattle.records.specs.declared.Record.{Record}
 use Rattle.records.specs.Records.{at, event_of}
-use Rattle.slices.specs.Slices.{zeros}
+use Rattle.slices.specs.Slices.{filled, zeros}
 use Rattle.trace.specs.Rule.{numbered}
 use Rattle.trace.specs.Reading.{Acceptable}
 use Rattle.records.specs.Encoding.{encode, stored, stored_within}
@@ -161,7 +161,7 @@ module _ {tr : List Record} (acc : Acceptable tr) where
   stamped-other kind i n s = rw (add-one i) (record { size = s.size; tells = λ c l. s.tells c l ∙ sym (miss tr kind c i (λ h. n h.0)) })
 
   pub stamps-start : Stamps tr 0 (zeros 1025) (zeros 1025)
-  unfolding zeros last_by
+  unfolding filled last_by
   stamps-start = record {
     acceptable = acc;
     reads = record { size = length-replicate {A = ℕ} 1025 0; tells = λ c l. get_or-replicate {A = ℕ} 1025 c 0 0 l };

@@ -1,17 +1,16 @@
 -- The compactor's reply, and the lent bytes at its end. Assumes nothing.
-use Rattle.std.specs.Prelude.{ℕ, ◌≡◌, List, ◌++◌, leb, length, drop}
+use Rattle.std.specs.Prelude.{ℕ, ◌≡◌, List, ◌++◌, Result, leb, length, drop}
 use Rattle.records.specs.declared.Record.{Record}
 use Rattle.records.specs.Encoding.{trace_of}
-use Rattle.trace.specs.Reply.{Reply, refused, gives, demand, then, unless}
+use Rattle.trace.specs.declared.Refusal.{Refusal}
+use Rattle.trace.specs.Reply.{Reply, gives, demand, then, unless}
+use Rattle.trace.specs.Paper.{paper}
 use Rattle.trace.specs.Reading.{records_in, read_reply, records_read}
 use Rattle.compactor.specs.declared.Slim.{Slim}
-use Rattle.compactor.specs.declared.Compacting.{Compacting}
-use Rattle.compactor.specs.declared.Compacting.TheVariants.{Compacted, Refused}
 use Rattle.compactor.specs.SlimTrace.{slim_of, dropped_in}
 
-abbrev pub compact_paper : Compacting → Reply Slim
-compact_paper (Compacted s) = gives s
-compact_paper (Refused f) = refused f.number f.place.0
+abbrev pub compact_paper : Result Slim Refusal → Reply Slim
+compact_paper = paper
 
 -- the bytes of the slim trace of the records tr
 abbrev pub slim_bytes : List Record → List ℕ
@@ -29,6 +28,6 @@ unfoldable pub out_after : List ℕ → List ℕ → List ℕ
 out_after b out = unless (compact_reply b (length out)) out (λ s. slim_bytes (records_read b) ++ drop s.length out)
 
 -- the promise of the compactor: the answer, and the lent bytes
-pub record Compacts (b out out' : List ℕ) (r : Compacting) : Type 0 where
+pub record Compacts (b out out' : List ℕ) (r : Result Slim Refusal) : Type 0 where
   pub answer : compact_paper r ≡ compact_reply b (length out)
   pub out-after : out' ≡ out_after b out

@@ -9,7 +9,7 @@ ghost use Rattle.compactor.specs.loops.Keeping.{Stamps, Passes};
 
 use records::store::put_record;
 use records::{EventId, RECORD_BYTES, Var, access};
-use slices::{numbers, zeros};
+use slices::zeros;
 
 // Has cell c another stamp than e? It is stamped by e then.
 fn stamp(stamps: &mut [u16], c: Var, e: EventId) -> bool
@@ -17,8 +17,8 @@ fn stamp(stamps: &mut [u16], c: Var, e: EventId) -> bool
         × (stamps.new ≡ set stamps.old c.0 e.0) }
 {
     let at = c.0 as usize;
-    let other = numbers::get(stamps, at) != e.0;
-    numbers::put(stamps, at, e.0);
+    let other = slices::get(stamps, at) != e.0;
+    slices::put(stamps, at, e.0);
     other
 }
 
@@ -59,18 +59,14 @@ pub(crate) fn pass(recs: &[u8], out: &mut [u8], writing: bool) -> usize
     ensures { Passes writing (decode recs.now) out.old out.new result }
 {
     let n = access::count(recs);
-    let mut read = zeros::numbers_1025();
-    let mut written = zeros::numbers_1025();
+    let mut read = zeros::<u16, 1025>();
+    let mut written = zeros::<u16, 1025>();
     let mut k = 0;
-    let mut i = 0;
-    while i < n {
-        if !keeps(recs, i, &mut read, &mut written) {
-            i += 1;
-            continue;
+    for i in 0..n {
+        if keeps(recs, i, &mut read, &mut written) {
+            put(recs, i, out, k, writing);
+            k += 1;
         }
-        put(recs, i, out, k, writing);
-        k += 1;
-        i += 1;
     }
     k
 }

@@ -12,20 +12,13 @@ ghost use Rattle.compactor.specs.loops.Keeping.{Fits, WritesSlim};
 
 use records::store::put_trailer;
 use records::{Operation, RECORD_BYTES, TRAILER_BYTES, access};
-use trace::{Reading, Refusal};
+use trace::{Reason, Refusal};
 
 // A slim trace: its length in bytes, and how many records it leaves out.
 #[derive(Clone, Copy)]
 pub struct Slim {
     pub length: usize,
     pub dropped: usize,
-}
-
-// What the compactor finds.
-#[derive(Clone, Copy)]
-pub enum Compacting {
-    Compacted(Slim),
-    Refused(Refusal),
 }
 
 // Does the space hold the slim trace of an accepted trace's records? It does where it holds them all; else what is kept is counted.
@@ -53,22 +46,16 @@ fn write_slim(recs: &[u8], out: &mut [u8], events: usize) -> usize
 }
 
 // Writes the slim trace of the trace that the bytes end with: of the reads of a cell by one event action, and of the writes, the first alone.
-pub fn compact(bytes: &[u8], out: &mut [u8]) -> Compacting
+pub fn compact(bytes: &[u8], out: &mut [u8]) -> Result<Slim, Refusal>
     ensures { Compacts bytes.now out.old out.new result }
 {
-    let reading = trace::read(bytes);
-    let Reading::Accepted(t) = reading else {
-        return Compacting::Refused(trace::refusal_of(reading));
-    };
+    let t = trace::read(bytes)?;
     let recs = access::records(bytes, t);
     if !fits(recs, out) {
-        return Compacting::Refused(Refusal {
-            number: trace::LIST_SPACE,
-            place: Operation(0),
-        });
+        return Err(Reason::ListSpace.at(Operation(0)));
     }
     let kept = write_slim(recs, out, t.events);
-    Compacting::Compacted(Slim {
+    Ok(Slim {
         length: RECORD_BYTES * kept + TRAILER_BYTES,
         dropped: t.records - kept,
     })

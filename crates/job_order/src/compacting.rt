@@ -3,7 +3,8 @@ ghost use Rattle.std.specs.Prelude.{◌≡◌, [], ◌∷◌};
 ghost use Rattle.compactor.specs.Compact.{compact_paper};
 ghost use Rattle.job_order.specs.Calls.{slim_numbers, CompactsOut};
 
-use compactor::Compacting;
+use compactor::Slim;
+use trace::Refusal;
 
 #[derive(Clone, Copy)]
 struct Slimmed {
@@ -13,18 +14,18 @@ struct Slimmed {
     dropped: usize,
 }
 
-fn numbers_of(r: Compacting) -> Slimmed
+fn numbers_of(r: Result<Slim, Refusal>) -> Slimmed
     ensures { result.number ∷ result.place ∷ result.length ∷ result.dropped ∷ [] ≡ slim_numbers (compact_paper r) }
 {
     match r {
-        Compacting::Compacted(s) => Slimmed {
+        Ok(s) => Slimmed {
             number: 0,
             place: 0,
             length: s.length,
             dropped: s.dropped,
         },
-        Compacting::Refused(f) => Slimmed {
-            number: f.number,
+        Err(f) => Slimmed {
+            number: f.reason.number(),
             place: f.place.0,
             length: 0,
             dropped: 0,

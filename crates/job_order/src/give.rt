@@ -9,11 +9,10 @@ ghost use Rattle.pair.specs.Pair.{pair_paper, entries_given};
 ghost use Rattle.job_order.specs.Calls.{read_numbers, fill_numbers, way_number, order_numbers, list_numbers, pair_numbers};
 
 use clocks::Relation;
-use order::Filling;
-use pair::PairAnswer;
-use question::Answer;
-use races::Listing;
-use trace::Reading;
+use pair::Verdict;
+use races::Summary;
+use records::Trace;
+use trace::Refusal;
 
 #[derive(Clone, Copy)]
 pub(crate) struct Read {
@@ -24,25 +23,24 @@ pub(crate) struct Read {
     pub(crate) events: usize,
 }
 
-pub(crate) fn reading(r: Reading) -> Read
+pub(crate) fn reading(r: Result<Trace, Refusal>) -> Read
     ensures { result.number ∷ result.place ∷ result.start ∷ result.records ∷ result.events ∷ [] ≡ read_numbers (paper r) }
 {
-    let Reading::Accepted(t) = r else {
-        let refusal = trace::refusal_of(r);
-        return Read {
-            number: refusal.number,
+    match r {
+        Ok(t) => Read {
+            number: 0,
+            place: 0,
+            start: t.start,
+            records: t.records,
+            events: t.events,
+        },
+        Err(refusal) => Read {
+            number: refusal.reason.number(),
             place: refusal.place.0,
             start: 0,
             records: 0,
             events: 0,
-        };
-    };
-    Read {
-        number: 0,
-        place: 0,
-        start: t.start,
-        records: t.records,
-        events: t.events,
+        },
     }
 }
 
@@ -53,17 +51,17 @@ pub(crate) struct Filled {
     pub(crate) chains: usize,
 }
 
-pub(crate) fn filling(r: Filling) -> Filled
+pub(crate) fn filling(r: Result<usize, Refusal>) -> Filled
     ensures { result.number ∷ result.place ∷ result.chains ∷ [] ≡ fill_numbers (fill_paper r) }
 {
     match r {
-        Filling::Filled(k) => Filled {
+        Ok(k) => Filled {
             number: 0,
             place: 0,
             chains: k,
         },
-        Filling::Refused(f) => Filled {
-            number: f.number,
+        Err(f) => Filled {
+            number: f.reason.number(),
             place: f.place.0,
             chains: 0,
         },
@@ -89,17 +87,17 @@ pub(crate) struct Told {
     pub(crate) relation: u8,
 }
 
-pub(crate) fn answer(r: Answer) -> Told
+pub(crate) fn answer(r: Result<Relation, Refusal>) -> Told
     ensures { result.number ∷ result.place ∷ result.relation ∷ [] ≡ order_numbers (order_paper r) }
 {
     match r {
-        Answer::Related(way) => Told {
+        Ok(way) => Told {
             number: 0,
             place: 0,
             relation: relation(way),
         },
-        Answer::Refused(f) => Told {
-            number: f.number,
+        Err(f) => Told {
+            number: f.reason.number(),
             place: f.place.0,
             relation: 0,
         },
@@ -116,11 +114,11 @@ pub(crate) struct Listed {
     pub(crate) count: usize,
 }
 
-pub(crate) fn listing(r: Listing) -> Listed
+pub(crate) fn listing(r: Result<Summary, Refusal>) -> Listed
     ensures { result.number ∷ result.place ∷ result.events ∷ result.records ∷ result.chains ∷ result.count ∷ [] ≡ list_numbers (list_paper r) }
 {
     match r {
-        Listing::Listed(s) => Listed {
+        Ok(s) => Listed {
             number: 0,
             place: 0,
             events: s.events,
@@ -128,8 +126,8 @@ pub(crate) fn listing(r: Listing) -> Listed
             chains: s.chains,
             count: s.count,
         },
-        Listing::Refused(f) => Listed {
-            number: f.number,
+        Err(f) => Listed {
+            number: f.reason.number(),
             place: f.place.0,
             events: 0,
             records: 0,
@@ -147,25 +145,25 @@ pub(crate) struct Asked {
     pub(crate) count: usize,
 }
 
-pub(crate) fn pair(r: PairAnswer) -> Asked
+pub(crate) fn pair(r: Result<Verdict, Refusal>) -> Asked
     ensures { (result.number ∷ result.place ∷ result.covered ∷ result.count ∷ [] ≡ pair_numbers (pair_paper r) result.count) ×
         (result.count ≡ entries_given r) }
 {
     match r {
-        PairAnswer::Open(k) => Asked {
+        Ok(Verdict::Open(k)) => Asked {
             number: 0,
             place: 0,
             covered: 0,
             count: k,
         },
-        PairAnswer::Covered(k) => Asked {
+        Ok(Verdict::Covered(k)) => Asked {
             number: 0,
             place: 0,
             covered: 1,
             count: k,
         },
-        PairAnswer::Refused(f) => Asked {
-            number: f.number,
+        Err(f) => Asked {
+            number: f.reason.number(),
             place: f.place.0,
             covered: 0,
             count: 0,

@@ -1,10 +1,11 @@
 // The recorder's calls from C. Its one state is four numbers that the caller keeps and lends to each call; nothing in them is trusted.
 ghost use Rattle.std.specs.Prelude.{◌≡◌};
-ghost use Rattle.recorder.specs.Recording.{opening_paper, stepped_paper, closing_paper};
+ghost use Rattle.trace.specs.Paper.{paper};
 ghost use Rattle.job_order.specs.Recording.{state, recorder_of, closed_after, state_after, number_of, place_of, length_of, Opens, Steps, Closes};
 
-use recorder::{Closing, Opening, Recorder, Stepped};
+use recorder::Recorder;
 use records::{EventId, Record};
+use trace::Refusal;
 
 fn recorder_of(count: u16, situation: u8, owner: u16, closed: u8) -> Recorder
     ensures { result ≡ recorder_of (state count situation owner closed) }
@@ -49,58 +50,30 @@ fn numbers_after(before: u8, r: Recorder) -> Numbers
     }
 }
 
-fn opening(r: Opening) -> u16
-    ensures { result ≡ number_of (opening_paper r) }
+// A call's result: the number of its refusal, or 0.
+fn number_of<T: Copy>(answer: Result<T, Refusal>) -> u16
+    ensures { result ≡ number_of (paper answer) }
 {
-    match r {
-        Opening::Open => 0,
-        Opening::Refused(f) => f.number,
+    match answer {
+        Ok(_) => 0,
+        Err(f) => f.reason.number(),
     }
 }
 
-#[derive(Clone, Copy)]
-struct Told {
-    number: u16,
-    place: u16,
-}
-
-fn stepped(r: Stepped) -> Told
-    ensures { (result.number ≡ number_of (stepped_paper r)) × (result.place ≡ place_of (stepped_paper r)) }
+fn place_of<T: Copy>(answer: Result<T, Refusal>) -> u16
+    ensures { result ≡ place_of (paper answer) }
 {
-    match r {
-        Stepped::Taken => Told {
-            number: 0,
-            place: 0,
-        },
-        Stepped::Refused(f) => Told {
-            number: f.number,
-            place: f.place.0,
-        },
+    match answer {
+        Ok(_) => 0,
+        Err(f) => f.place.0,
     }
 }
 
-#[derive(Clone, Copy)]
-struct Closed {
-    number: u16,
-    place: u16,
-    length: usize,
-}
-
-fn closing(r: Closing) -> Closed
-    ensures { (result.number ≡ number_of (closing_paper r)) × (result.place ≡ place_of (closing_paper r)) × (result.length ≡ length_of (closing_paper r)) }
+// The length of a trace that was closed; a refused closing gives none, 0.
+fn length_of(answer: Result<usize, Refusal>) -> usize
+    ensures { result ≡ length_of (paper answer) }
 {
-    match r {
-        Closing::Closed(n) => Closed {
-            number: 0,
-            place: 0,
-            length: n,
-        },
-        Closing::Refused(f) => Closed {
-            number: f.number,
-            place: f.place.0,
-            length: 0,
-        },
-    }
+    answer.unwrap_or(0)
 }
 
 // Opens a recorder over the space.
@@ -120,8 +93,7 @@ pub extern "C" fn jco_recorder_open(
     *situation = after.situation;
     *owner = after.owner;
     *closed = after.closed;
-    let answer = opened.answer;
-    opening(answer)
+    number_of(opened.answer)
 }
 
 // One step: the record of this kind, first and second.
@@ -154,10 +126,8 @@ pub extern "C" fn jco_recorder_step(
     *situation = after.situation;
     *owner = after.owner;
     *closed = after.closed;
-    let answer = next.answer;
-    let told = stepped(answer);
-    *place = told.place;
-    told.number
+    *place = place_of(next.answer);
+    number_of(next.answer)
 }
 
 // Closes the trace; its length is counted from the first byte of the space.
@@ -182,9 +152,7 @@ pub extern "C" fn jco_recorder_close(
     *situation = after.situation;
     *owner = after.owner;
     *closed = after.closed;
-    let answer = ended.answer;
-    let told = closing(answer);
-    *place = told.place;
-    *length = told.length;
-    told.number
+    *place = place_of(ended.answer);
+    *length = length_of(ended.answer);
+    number_of(ended.answer)
 }

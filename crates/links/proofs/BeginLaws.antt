@@ -5,9 +5,8 @@ use mathlib.Core.Logic.{◌≢◌}
 use mathlib.Core.Bool.{Bool, true, false}
 use mathlib.Core.List.{List}
 use native.Mathlib.Omega.{arith}
-use borrow.Author.Tests.{lt-ltb, le-ltb, le-leb, lt-leb, eq-eqb, ne_eqb}
-use lib.Dec.{eqb}
-use lib.ListN.{length, get_or, set}
+use borrow.Author.Tests.{lt-ltb, le-ltb, eq-eqb, ne_eqb}
+use lib.ListN.{length}
 use Rattle.slices.specs.Slices.{zeros}
 use Rattle.records.specs.declared.Record.{Record}
 use Rattle.records.specs.Records.{at, past, begins}
@@ -18,16 +17,6 @@ use Rattle.links.specs.Rule.{rank_in, walk}
 use Rattle.links.specs.Fill.{fill_from}
 use Rattle.links.specs.Begin.{send_to, last_send, may_turn, may_sent, Mayed, may, table_blocked, begin_blocked}
 
-module _ (r : Record) where
-  pub no-send-low : r.kind < 16 → is_send r ≡ false
-  no-send-low h = rw (lt-leb 16 r.kind h)
-
-  pub no-send-high : 19 < r.kind → is_send r ≡ false
-  no-send-high h = let k : 16 ≤ r.kind = omega arith in rw (le-leb 16 r.kind k, lt-leb r.kind 19 h)
-
-  pub a-send : 16 ≤ r.kind → r.kind ≤ 19 → is_send r ≡ true
-  a-send h k = rw (le-leb 16 r.kind h, le-leb r.kind 19 k)
-
 module _ (e : ℕ) (r : Record) where
   pub to_none : is_send r ≡ false → false ≡ send_to e r
   unfolding send_to
@@ -37,30 +26,11 @@ module _ (e : ℕ) (r : Record) where
   unfolding send_to
   to-it s q = rw (s, eq-eqb r.second e q)
 
-  pub to-other : is_send r ≡ true → r.second ≢ e → false ≡ send_to e r
-  unfolding send_to
-  to-other s d = rw (s, ne_eqb r.second e d)
-
 -- one turn
 module _ (ranks : ℕ → ℕ) (e : ℕ) (r : Record) (sent : List ℕ) where
   pub may_none : is_send r ≡ false → Mayed ranks e r sent false sent
   unfolding may_turn may_sent send_to
   may_none s = record { found-is = rw s; sent_is = rw s }
-
-  module _ (s : is_send r ≡ true) (k : ℕ) (kind-is : k ≡ r.kind) where
-    pub may-mark : r.second ≡ e → (sent' : List ℕ) → sent' ≡ set sent (k - 16) 1 → Mayed ranks e r sent false sent'
-    unfolding may_turn may_sent send_to
-    may-mark q sent' h = record { found-is = rw (s, eq-eqb r.second e q); sent_is = rw (s, eq-eqb r.second e q, h, kind-is) }
-
-    pub may-begun : r.second ≢ e → ranks r.second ≢ 0 → Mayed ranks e r sent false sent
-    unfolding may_turn may_sent send_to
-    may-begun d h = record { found-is = rw (s, ne_eqb r.second e d, ne_eqb (ranks r.second) 0 h); sent_is = rw (s, ne_eqb r.second e d) }
-
-    pub may-told : (b : Bool) → r.second ≢ e → ranks r.second ≡ 0 → eqb (get_or sent (k - 16) 0) 1 ≡ b → Mayed ranks e r sent b sent
-    unfolding may_turn may_sent send_to
-    may-told b d h q =
-        let n : eqb (get_or sent (r.kind - 16) 0) 1 ≡ b = rw (← kind-is) q in
-        record { found-is = rw (s, ne_eqb r.second e d, eq-eqb (ranks r.second) 0 h, n); sent_is = rw (s, ne_eqb r.second e d) }
 
 -- on the way down
 module _ (tr : List Record) (ranks : ℕ → ℕ) (e : ℕ) (sent : List ℕ) where

@@ -5,20 +5,17 @@ use mathlib.Core.Logic.{◌≢◌}
 use mathlib.Core.Bool.{Bool, true, false}
 use mathlib.Core.List.{List}
 use native.Mathlib.Omega.{arith}
-use borrow.Author.Tests.{eq-eqb, ne_eqb, le-leb, lt-leb}
+use borrow.Author.Tests.{eq-eqb, ne_eqb}
 use lib.ListN.{set}
 use Rattle.slices.specs.Slices.{zeros}
 use Rattle.records.specs.declared.Record.{Record}
 use Rattle.records.specs.Records.{at}
+use Rattle.records.specs.Kinds.{is_send}
 use Rattle.bits.specs.Table.{put_bit, or_row}
 use Rattle.links.specs.Rule.{Leaves, walk}
 use Rattle.links.specs.Fill.{linked, begin_row, begun, step_words, step_last, step_stuck, Stepped, fill_from}
 
 module _ (p u : ℕ) (ws : List ℕ) where
-  pub linked-none : p ≡ 0 → ws ≡ linked p u ws
-  unfolding linked
-  linked-none e = rw (eq-eqb p 0 e)
-
   pub linked-to-none : p ≢ 0 → u ≡ 0 → ws ≡ linked p u ws
   unfolding linked
   linked-to-none d e = rw (ne_eqb p 0 d, eq-eqb u 0 e)
@@ -28,10 +25,6 @@ module _ (p u : ℕ) (ws : List ℕ) where
   linked-is d f = rw (ne_eqb p 0 d, ne_eqb u 0 f)
 
 module _ (tr : List Record) (ranks : ℕ → ℕ) (e u from : ℕ) (ws : List ℕ) where
-  pub begin-none : u ≡ 0 → record { words = ws; stuck = false } ≡ begin_row tr ranks e u from ws
-  unfolding begin_row
-  begin-none z = rw (eq-eqb u 0 z)
-
   pub begin-is : u ≢ 0 → walk tr ranks e u from (put_bit (u - 1) (u - 1) ws) (zeros 64) ≡ begin_row tr ranks e u from ws
   unfolding begin_row
   begin-is d = rw (ne_eqb u 0 d)
@@ -53,29 +46,21 @@ module _ (tr : List Record) (ranks : ℕ → ℕ) (i : ℕ) (ws last : List ℕ)
   unfolding step_stuck step_words step_last
   step-fork ws' k h = record { stuck_is = rw k; words_are = rw k h; last-is = rw k }
 
-  pub step-low : r.kind ≢ 1 → r.kind ≢ 4 → r.kind ≢ 3 → r.kind < 16 → Stepped tr ranks i ws last false ws last
+  pub step-other : r.kind ≢ 1 → r.kind ≢ 4 → r.kind ≢ 3 → is_send r ≡ false → Stepped tr ranks i ws last false ws last
   unfolding step_stuck step_words step_last
-  step-low a b c h = record {
+  step-other a b c n = record {
     stuck_is = rw (ne_eqb r.kind 1 a);
-    words_are = rw (ne_eqb r.kind 1 a, ne_eqb r.kind 4 b, ne_eqb r.kind 3 c, lt-leb 16 r.kind h);
-    last-is = rw (lt-leb 16 r.kind h);
+    words_are = rw (ne_eqb r.kind 1 a, ne_eqb r.kind 4 b, ne_eqb r.kind 3 c, n);
+    last-is = rw n;
   }
 
-  pub step-high : r.kind ≢ 1 → r.kind ≢ 4 → r.kind ≢ 3 → 16 ≤ r.kind → 19 < r.kind → Stepped tr ranks i ws last false ws last
-  unfolding step_stuck step_words step_last
-  step-high a b c l h = record {
-    stuck_is = rw (ne_eqb r.kind 1 a);
-    words_are = rw (ne_eqb r.kind 1 a, ne_eqb r.kind 4 b, ne_eqb r.kind 3 c, le-leb 16 r.kind l, lt-leb r.kind 19 h);
-    last-is = rw (le-leb 16 r.kind l, lt-leb r.kind 19 h);
-  }
-
-  pub step-send : (ws' last' : List ℕ) → r.kind ≢ 1 → r.kind ≢ 4 → r.kind ≢ 3 → 16 ≤ r.kind → r.kind ≤ 19
+  pub step-send : (ws' last' : List ℕ) → r.kind ≢ 1 → r.kind ≢ 4 → r.kind ≢ 3 → is_send r ≡ true
       → ws' ≡ linked (ranks r.first) (ranks r.second) ws → last' ≡ set last r.second ((i + 1) % 65536) → Stepped tr ranks i ws last false ws' last'
   unfolding step_stuck step_words step_last
-  step-send ws' last' a b c l h f g = record {
+  step-send ws' last' a b c s f g = record {
     stuck_is = rw (ne_eqb r.kind 1 a);
-    words_are = rw (ne_eqb r.kind 1 a, ne_eqb r.kind 4 b, ne_eqb r.kind 3 c, le-leb 16 r.kind l, le-leb r.kind 19 h) f;
-    last-is = rw (le-leb 16 r.kind l, le-leb r.kind 19 h) g;
+    words_are = rw (ne_eqb r.kind 1 a, ne_eqb r.kind 4 b, ne_eqb r.kind 3 c, s) f;
+    last-is = rw s g;
   }
 
 -- the records in turn

@@ -2,14 +2,15 @@
 use Prim.Native.Nat.{ℕ, zero, suc, ◌+◌, ◌-◌, ◌≤◌, ◌<◌}
 use mathlib.Core.Path.{◌≡◌, refl, sym, ap, ap₂, ◌∙◌}
 use mathlib.Core.Logic.{◌≢◌}
-use mathlib.Core.Bool.{Bool, true, false}
+use mathlib.Core.Bool.{true, false}
 use mathlib.Core.List.{List}
 use native.Mathlib.Omega.{arith}
 use native.Mathlib.Decide.{ℕ_discrete}
 use lib.ListN.{length, get_or-eq_default}
-use borrow.Author.Tests.{lt-ltb, le-ltb, le-leb, lt-leb, eq-eqb, ne_eqb}
+use borrow.Author.Tests.{lt-ltb, le-ltb, lt-leb, eq-eqb, ne_eqb}
 use Rattle.records.specs.declared.Record.{Record}
 use Rattle.records.specs.Records.{no_record, at}
+use Rattle.records.specs.Kinds.{is_send}
 use Rattle.bits.specs.Table.{bit_of, or_row, member, or_set}
 use Rattle.links.specs.Rule.{missing, behind, reach, sends, hits, turn_words, turn_sets, turn_stuck, Turned, walk}
 
@@ -26,10 +27,6 @@ module _ (t u : ℕ) (ws : List ℕ) where
   pub not-missing : t ≢ 0 → t ≤ u → false ≡ missing t u
   unfolding missing
   not-missing d h = rw (ne_eqb t 0 d, le-ltb u t h)
-
-  pub behind-missing : true ≡ missing t u → ws ≡ behind t u ws
-  unfolding behind
-  behind-missing e = rw (← e)
 
   pub behind-already : false ≡ missing t u → bit_of ws (t - 1) (u - 1) ≡ true → ws ≡ behind t u ws
   unfolding behind
@@ -49,51 +46,17 @@ reach-new l x ws sets h = rw h
 
 -- one turn
 module _ (ranks : ℕ → ℕ) (e u : ℕ) (r : Record) (ws sets : List ℕ) where
-  pub sends-low : r.kind < 16 → sends ranks e u r ws sets ≡ false
+  pub sends-none : is_send r ≡ false → sends ranks e u r ws sets ≡ false
   unfolding sends
-  sends-low h = rw (lt-leb 16 r.kind h)
+  sends-none n = rw n
 
-  pub sends-high : 19 < r.kind → sends ranks e u r ws sets ≡ false
+  pub sends-is : is_send r ≡ true → ranks r.first ≢ 0 → sends ranks e u r ws sets ≡ true
   unfolding sends
-  sends-high h = let k : 16 ≤ r.kind = omega arith in rw (le-leb 16 r.kind k, lt-leb r.kind 19 h)
-
-  pub sends-unranked : 16 ≤ r.kind → r.kind ≤ 19 → ranks r.first ≡ 0 → sends ranks e u r ws sets ≡ false
-  unfolding sends
-  sends-unranked h k z = rw (le-leb 16 r.kind h, le-leb r.kind 19 k, eq-eqb (ranks r.first) 0 z)
-
-  pub sends-is : 16 ≤ r.kind → r.kind ≤ 19 → ranks r.first ≢ 0 → sends ranks e u r ws sets ≡ true
-  unfolding sends
-  sends-is h k d = rw (le-leb 16 r.kind h, le-leb r.kind 19 k, ne_eqb (ranks r.first) 0 d)
+  sends-is s d = rw (s, ne_eqb (ranks r.first) 0 d)
 
   pub turn-none : sends ranks e u r ws sets ≡ false → Turned ranks e u r ws sets false ws sets
   unfolding turn_stuck turn_words turn_sets hits
   turn-none s = record { stuck_is = rw s; words_are = rw s; sets_are = rw s }
-
-  module _ (k x : ℕ) (kind-is : k ≡ r.kind) (rank_is : x ≡ ranks r.first) (s : sends ranks e u r ws sets ≡ true) where
-    pub turn-reach : r.second ≡ e → (sets' : List ℕ) → sets' ≡ reach (k - 16) (x - 1) ws sets → Turned ranks e u r ws sets false ws sets'
-    unfolding turn_stuck turn_words turn_sets hits
-    turn-reach z sets' q = record {
-      stuck_is = rw (s, eq-eqb r.second e z);
-      words_are = rw (s, eq-eqb r.second e z);
-      sets_are = rw (s, eq-eqb r.second e z, q, kind-is, rank_is);
-    }
-
-    pub turn-unreached : r.second ≢ e → member sets (k - 16) (x - 1) ≡ false → Turned ranks e u r ws sets false ws sets
-    unfolding turn_stuck turn_words turn_sets hits
-    turn-unreached d m =
-        let n : member sets (r.kind - 16) (ranks r.first - 1) ≡ false = rw (← kind-is, ← rank_is) m in
-        record { stuck_is = rw (s, ne_eqb r.second e d, n); words_are = rw (s, ne_eqb r.second e d, n); sets_are = rw (s, ne_eqb r.second e d) }
-
-    pub turn-behind : (t : ℕ) → t ≡ ranks r.second → r.second ≢ e → member sets (k - 16) (x - 1) ≡ true → (b : Bool) (ws' : List ℕ)
-        → b ≡ missing t u → ws' ≡ behind t u ws → Turned ranks e u r ws sets b ws' sets
-    unfolding turn_stuck turn_words turn_sets hits
-    turn-behind t z d m b ws' f g =
-        let n : member sets (r.kind - 16) (ranks r.first - 1) ≡ true = rw (← kind-is, ← rank_is) m in
-        record {
-          stuck_is = rw (s, ne_eqb r.second e d, n) (f ∙ ap (λ (v : ℕ). missing v u) z);
-          words_are = rw (s, ne_eqb r.second e d, n) (g ∙ ap (λ (v : ℕ). behind v u ws) z);
-          sets_are = rw (s, ne_eqb r.second e d);
-        }
 
 -- the walk
 module _ (tr : List Record) (ranks : ℕ → ℕ) (e u : ℕ) (ws sets : List ℕ) where
@@ -125,7 +88,9 @@ module _ (tr : List Record) (ranks : ℕ → ℕ) (e u : ℕ) (ws sets : List �
   past-suc : (j : ℕ) → length tr ≤ j → walk tr ranks e u j ws sets ≡ walk tr ranks e u (suc j) ws sets
   past-suc j h =
       let k = ap (λ (r : Record). r.kind) (get_or-eq_default tr no_record h) in
-      let t = turn-none ranks e u (at tr j) ws sets (sends-low ranks e u (at tr j) ws sets (omega arith)) in
+      let low : (at tr j).kind < 16 = omega arith in
+      let none : is_send (at tr j) ≡ false = rw (lt-leb 16 (at tr j).kind low) refl in
+      let t = turn-none ranks e u (at tr j) ws sets (sends-none ranks e u (at tr j) ws sets none) in
       ap₂ (λ (a b : List ℕ). walk tr ranks e u j a b) t.words_are t.sets_are ∙ walk-suc j (sym t.stuck_is)
 
   walk-past : (n d : ℕ) → length tr ≤ n → walk tr ranks e u n ws sets ≡ walk tr ranks e u (d + n) ws sets

@@ -1,6 +1,6 @@
 -- Refusal 31 for an event that is to begin after all records: the tests that need no order, then the table and one walk. Over any records.
 -- Assumes nothing.
-use Rattle.std.specs.Prelude.{ℕ, zero, suc, ◌+◌, ◌-◌, ◌≡◌, Bool, true, false, not, ◌&&◌, ◌||◌, List, eqb, ltb, length, get_or, set}
+use Rattle.std.specs.Prelude.{ℕ, zero, suc, ◌+◌, ◌-◌, ◌≡◌, Bool, true, false, not, ◌&&◌, ◌||◌, List, Option, None, Some, eqb, ltb, length, get_or, set}
 use Rattle.slices.specs.Slices.{zeros}
 use Rattle.records.specs.declared.Record.{Record}
 use Rattle.records.specs.Records.{at, past, begins}
@@ -22,6 +22,11 @@ number_if false a b = b
 unfoldable pub last_send : List Record → ℕ → ℕ → ℕ
 last_send tr e zero = 0
 last_send tr e (suc j) = number_if (send_to e (at tr j)) (suc j) (last_send tr e j)
+
+-- the same number, where the position is given
+abbrev pub from_last : Option ℕ → ℕ
+from_last None = 0
+from_last (Some j) = suc j
 
 -- one record on the way down, where `sent` holds 1 for each link that sends to e further on
 module _ (ranks : ℕ → ℕ) (e : ℕ) (r : Record) (sent : List ℕ) where

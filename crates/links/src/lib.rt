@@ -8,22 +8,19 @@ ghost use Rattle.ranks.specs.Ranks.{ranks_of};
 ghost use Rattle.records.specs.Records.{at};
 ghost use Rattle.links.specs.Rule.{rank_in, missing, behind, reach, Turned, Leaves, walk};
 ghost use Rattle.links.specs.Fill.{linked, begin_row, Stepped, Stops, fill_from, fill_all};
-ghost use Rattle.links.specs.Begin.{send_to, last_send, Mayed, may, table_blocked, begin_blocked};
+ghost use Rattle.links.specs.Begin.{send_to, last_send, from_last, Mayed, may, table_blocked, begin_blocked};
 
 use bits::{clear, get, has, or_row, or_set, put};
 use ranks::{fill_ranks, rank_of, ranks};
-use records::{EventId, RECORD_BYTES, access};
-use slices::numbers;
-use slices::zeros::numbers_1025;
+use records::{EventId, Kind, RECORD_BYTES, access};
+use slices::zeros;
 
 // The event of rank u comes behind that of rank t; true where that has not begun.
+#[tactic(auto, unfolding(crate::specs::Rule::missing, crate::specs::Rule::behind))]
 fn put_behind(table: &mut [u64], t: u16, u: u16) -> bool
     ensures { (result ≡ missing t u) × (table.new ≡ behind t u table.old) }
 {
-    if t == 0 {
-        return true;
-    }
-    if u < t {
+    if t == 0 || u < t {
         return true;
     }
     let p = (t - 1) as usize;
@@ -35,6 +32,7 @@ fn put_behind(table: &mut [u64], t: u16, u: u16) -> bool
 }
 
 // Row x reaches link l.
+#[tactic(auto, unfolding(crate::specs::Rule::reach))]
 fn reach_link(sets: &mut [u64], l: usize, table: &[u64], x: usize)
     ensures { sets.new ≡ reach l x table.now sets.old }
 {
@@ -56,37 +54,19 @@ fn link_turn(
     ensures { Turned (rank_in ranks.now) e.0 u (at (decode recs.now) j)
         table.old sets.old result table.new sets.new }
 {
-    let kind = access::kind_at(recs, j);
-    if kind < 16 {
+    let Some(link) = access::link_at(recs, j) else {
         return false;
-    }
-    if 19 < kind {
-        return false;
-    }
+    };
     let x = rank_of(ranks, access::event_at(recs, j));
     if x == 0 {
         return false;
     }
     let target = access::target_at(recs, j);
-    if target.0 == e.0 {
-        reach_link(sets, (kind - 16) as usize, table, (x - 1) as usize);
+    if target == e {
+        reach_link(sets, link, table, (x - 1) as usize);
         return false;
     }
-    if !has(sets, (kind - 16) as usize, (x - 1) as usize) {
-        return false;
-    }
-    put_behind(table, rank_of(ranks, target), u)
-}
-
-// The position `from`, or the number of records where that is less.
-fn within(recs: &[u8], from: usize) -> usize
-    ensures { (result ≤ from) × (result ≢ from → result ≡ length (decode recs.now)) }
-{
-    let n = access::count(recs);
-    if n < from {
-        return n;
-    }
-    from
+    has(sets, link, (x - 1) as usize) && put_behind(table, rank_of(ranks, target), u)
 }
 
 // The walk down from position `from`. Begun within the records, no turn needs a test that its record is there.
@@ -102,9 +82,7 @@ fn link_walk(
     ensures { Leaves (walk (decode recs.now) (rank_in ranks.now) e.0 u from
         table.old sets.old) result table.new }
 {
-    let mut j = within(recs, from);
-    while 0 < j {
-        j -= 1;
+    for j in (0..from.min(access::count(recs))).rev() {
         if link_turn(recs, ranks, j, e, u, table, sets) {
             return true;
         }
@@ -112,35 +90,26 @@ fn link_walk(
     false
 }
 
-// Four empty sets.
-fn no_sets() -> [u64; 64]
-    ensures { result ≡ zeros 64 }
-{
-    [0; 64]
-}
-
 fn link_rule(recs: &[u8], ranks: &[u16], from: usize, e: EventId, u: u16, table: &mut [u64]) -> bool
     ensures { Leaves (walk (decode recs.now) (rank_in ranks.now) e.0 u from
         table.old (zeros 64)) result table.new }
 {
-    let mut sets = no_sets();
+    let mut sets = zeros::<u64, 64>();
     link_walk(recs, ranks, from, e, u, table, &mut sets)
 }
 
 // A direct link by ranks.
+#[tactic(auto, unfolding(crate::specs::Fill::linked))]
 fn link_rows(table: &mut [u64], p: u16, u: u16)
     ensures { table.new ≡ linked p u table.old }
 {
-    if p == 0 {
-        return;
+    if p != 0 && u != 0 {
+        or_row(table, (p - 1) as usize, (u - 1) as usize);
     }
-    if u == 0 {
-        return;
-    }
-    or_row(table, (p - 1) as usize, (u - 1) as usize);
 }
 
 // The begin of e, the last send to which is the last of the first `from` records; true where 31 refuses it.
+#[tactic(auto, unfolding(crate::specs::Fill::begin_row))]
 fn begin_row(recs: &[u8], ranks: &[u16], from: usize, e: EventId, table: &mut [u64]) -> bool
     ensures { Leaves (begin_row (decode recs.now) (rank_in ranks.now) e.0 (rank_in ranks.now e.0) from
         table.old) result table.new }
@@ -166,29 +135,21 @@ fn fill_record(recs: &[u8], ranks: &[u16], i: usize, table: &mut [u64], last: &m
     ensures { Stepped (decode recs.now) (rank_in ranks.now) i
         table.old last.old result table.new last.new }
 {
-    let kind = access::kind_at(recs, i);
     let e = access::event_at(recs, i);
-    if kind == 1 {
-        let from = numbers::get(last, e.0 as usize);
-        return begin_row(recs, ranks, from as usize, e, table);
-    }
     let target = access::target_at(recs, i);
-    if kind == 4 {
-        link_events(ranks, target, e, table);
-        return false;
+    match access::kind_of(recs, i) {
+        Kind::Begin => {
+            let from = slices::get(last, e.0 as usize);
+            return begin_row(recs, ranks, from as usize, e, table);
+        }
+        Kind::Join => link_events(ranks, target, e, table),
+        Kind::Fork => link_events(ranks, e, target, table),
+        Kind::Send(_) => {
+            link_events(ranks, e, target, table);
+            slices::put(last, target.0 as usize, ((i + 1) % 65536) as u16);
+        }
+        _ => {}
     }
-    if kind == 3 {
-        link_events(ranks, e, target, table);
-        return false;
-    }
-    if kind < 16 {
-        return false;
-    }
-    if 19 < kind {
-        return false;
-    }
-    link_events(ranks, e, target, table);
-    numbers::put(last, target.0 as usize, ((i + 1) % 65536) as u16);
     false
 }
 
@@ -198,12 +159,10 @@ fn fill_rows(recs: &[u8], ranks: &[u16], n: usize, table: &mut [u64], last: &mut
     ensures { Stops (fill_from (decode recs.now) (rank_in ranks.now) 0 n
         table.old last.old) result table.new }
 {
-    let mut i = 0;
-    while i < n {
+    for i in 0..n {
         if fill_record(recs, ranks, i, table, last) {
             return i;
         }
-        i += 1;
     }
     n
 }
@@ -214,11 +173,12 @@ pub fn fill(recs: &[u8], ranks: &[u16], table: &mut [u64]) -> usize
         table.old (zeros 1025)) result table.new }
 {
     let n = access::count(recs);
-    let mut last = numbers_1025();
+    let mut last = zeros::<u16, 1025>();
     fill_rows(recs, ranks, n, table, &mut last)
 }
 
 // The ranks and the table over all records, in lent memory; the position of the first begin that 31 refuses, or the number of records.
+#[tactic(auto, unfolding(crate::specs::Fill::fill_all))]
 pub fn fill_all(recs: &[u8], ranks: &mut [u16; 1025], table: &mut [u64; 8704]) -> usize
     ensures { Stops (fill_all (decode recs.now)) result table.new × (ranks.new ≡ ranks_of (decode recs.now)) }
 {
@@ -231,94 +191,67 @@ pub fn fill_all(recs: &[u8], ranks: &mut [u16; 1025], table: &mut [u64; 8704]) -
 pub fn no_bits() -> [u64; 8704]
     ensures { result ≡ zeros 8704 }
 {
-    [0; 8704]
+    zeros::<u64, 8704>()
 }
 
 // No table, for a trace without sends.
 pub fn no_words() -> [u64; 1]
     ensures { result ≡ zeros 1 }
 {
-    [0; 1]
+    zeros::<u64, 1>()
 }
 
-// The position of the first begin that 31 refuses, or the number of records, with a table of its own. Bytes past the last whole record count for nothing:
-// where there are any it asks itself again without them. A function that calls itself is not inlined, so the table stands in no caller's frame.
+// The position of the first begin that 31 refuses, or the number of records, with a table of its own. Not inlined, so that the table stands in no caller's
+// frame.
+#[inline(never)]
 pub fn first_blocked(recs: &[u8]) -> usize
     ensures { result ≡ (fill_all (decode recs.now)).stop }
 {
     let all = ranks(recs);
     let mut table = no_bits();
-    let stop = fill(recs, &all, &mut table);
-    let whole = recs.len() / RECORD_BYTES;
-    if recs.len() == RECORD_BYTES * whole {
-        return stop;
-    }
-    first_blocked(access::records_from(recs, 0, whole))
+    fill(recs, &all, &mut table)
 }
 
 // Record j is a send to e.
+#[tactic(auto, using(records::proofs::KindLaws::a_send), unfolding(crate::specs::Begin::send_to))]
 fn is_send_to(recs: &[u8], j: usize, e: EventId) -> bool
     ensures { result ≡ send_to e.0 (at (decode recs.now) j) }
 {
-    let kind = access::kind_at(recs, j);
-    if kind < 16 {
-        return false;
-    }
-    if 19 < kind {
-        return false;
-    }
-    let target = access::target_at(recs, j);
-    if target.0 == e.0 {
-        return true;
-    }
-    false
+    access::link_at(recs, j).is_some() && access::target_at(recs, j) == e
 }
 
-// One more than the position of the last send to e, or 0.
-fn last_send_to(recs: &[u8], e: EventId) -> usize
-    ensures { result ≡ last_send (decode recs.now) e.0 (length (decode recs.now)) }
+// The position of the last send to e.
+fn last_send_to(recs: &[u8], e: EventId) -> Option<usize>
+    ensures last { from_last result ≡ last_send (decode recs.now) e.0 (length (decode recs.now)) }
+    ensures inside { from_last result ≤ length (decode recs.now) }
 {
-    let mut j = access::count(recs);
-    while 0 < j {
-        if is_send_to(recs, j - 1, e) {
-            return j;
+    for j in (0..access::count(recs)).rev() {
+        if is_send_to(recs, j, e) {
+            return Some(j);
         }
-        j -= 1;
     }
-    0
+    None
 }
 
 // Record j on the way down, where `sent` marks the links that send to e further on; true where such a link sends to another event that has not begun.
 fn may_turn(recs: &[u8], ranks: &[u16], j: usize, e: EventId, sent: &mut [u16]) -> bool
     ensures { Mayed (rank_in ranks.now) e.0 (at (decode recs.now) j) sent.old result sent.new }
 {
-    let kind = access::kind_at(recs, j);
-    if kind < 16 {
+    let Some(link) = access::link_at(recs, j) else {
         return false;
-    }
-    if 19 < kind {
-        return false;
-    }
+    };
     let target = access::target_at(recs, j);
-    if target.0 == e.0 {
-        numbers::put(sent, (kind - 16) as usize, 1);
+    if target == e {
+        slices::put(sent, link, 1);
         return false;
     }
-    if rank_of(ranks, target) != 0 {
-        return false;
-    }
-    if numbers::get(sent, (kind - 16) as usize) == 1 {
-        return true;
-    }
-    false
+    rank_of(ranks, target) == 0 && slices::get(sent, link) == 1
 }
 
 fn may_walk(recs: &[u8], ranks: &[u16], from: usize, e: EventId, sent: &mut [u16]) -> bool
     ensures { result ≡ may (decode recs.now) (rank_in ranks.now) e.0 from sent.old }
 {
-    let mut j = from;
-    while 0 < j {
-        j -= 1;
+    for j in (0..from).rev() {
         if may_turn(recs, ranks, j, e, sent) {
             return true;
         }
@@ -326,23 +259,16 @@ fn may_walk(recs: &[u8], ranks: &[u16], from: usize, e: EventId, sent: &mut [u16
     false
 }
 
-// No link marked.
-fn no_links() -> [u16; 4]
-    ensures { result ≡ zeros 4 }
-{
-    [0; 4]
-}
-
 // A link sends to another event that has not begun, before one of the first `from` records sends to e on it. Where not, no order needs to be known.
 fn may_block(recs: &[u8], ranks: &[u16], from: usize, e: EventId) -> bool
     ensures { result ≡ may (decode recs.now) (rank_in ranks.now) e.0 from (zeros 4) }
 {
-    let mut sent = no_links();
+    let mut sent = zeros::<u16, 4>();
     may_walk(recs, ranks, from, e, &mut sent)
 }
 
-// The table over all records, and the walk for e, whose row would be u. It asks itself again without bytes past the last whole record, as
-// `first_blocked` does, and so has its frame to itself.
+// The table over all records, and the walk for e, whose row would be u. Not inlined, as `first_blocked`.
+#[inline(never)]
 fn blocked_by_table(recs: &[u8], ranks: &[u16], from: usize, e: EventId, u: usize) -> bool
     ensures { result ≡ table_blocked (decode recs.now) (rank_in ranks.now) from e.0 u }
 {
@@ -352,25 +278,17 @@ fn blocked_by_table(recs: &[u8], ranks: &[u16], from: usize, e: EventId, u: usiz
     let mut table = no_bits();
     fill(recs, ranks, &mut table);
     put(&mut table, u, u);
-    let stuck = link_rule(recs, ranks, from, e, (u + 1) as u16, &mut table);
-    let whole = recs.len() / RECORD_BYTES;
-    if recs.len() == RECORD_BYTES * whole {
-        return stuck;
-    }
-    blocked_by_table(access::records_from(recs, 0, whole), ranks, from, e, u)
+    link_rule(recs, ranks, from, e, (u + 1) as u16, &mut table)
 }
 
 // 31 would refuse the begin of e after these records.
 pub fn begin_blocked(recs: &[u8], e: EventId) -> bool
     ensures { result ≡ begin_blocked (decode recs.now) e.0 }
 {
-    let from = last_send_to(recs, e);
-    if from == 0 {
+    let Some(last) = last_send_to(recs, e) else {
         return false;
-    }
+    };
     let all = ranks(recs);
-    if !may_block(recs, &all, from, e) {
-        return false;
-    }
-    blocked_by_table(recs, &all, from, e, access::count_begins(recs))
+    may_block(recs, &all, last + 1, e)
+        && blocked_by_table(recs, &all, last + 1, e, access::count_begins(recs))
 }

@@ -1,7 +1,8 @@
 // One trace: the position at which filling stops and the bits of the event actions that began before it, against the rules.
 use crate::rules;
-use crate::show::{number, word};
-use crate::slots::{pick, plus};
+use crate::show::number;
+use trials::line::word;
+use trials::numbers::{pick, plus};
 
 // How many traces, those that 31 refuses, pairs of event actions compared, ordered ones, and differences.
 #[derive(Clone, Copy)]
@@ -56,12 +57,10 @@ fn count_pair(c: Counts, order: &[usize], table: &[u64], t: usize, u: usize) -> 
 
 fn count_pairs(before: Counts, order: &[usize], table: &[u64]) -> Counts {
     let mut c = before;
-    let mut x = 0;
-    while x < 1024 {
+    for x in 0..1024 {
         if are_rows(order, x % 32, x / 32) {
             c = count_pair(c, order, table, x % 32, x / 32);
         }
-        x += 1;
     }
     c
 }
@@ -98,12 +97,10 @@ fn show_pair(order: &[usize], table: &[u64], t: usize, u: usize) {
 
 // Those that the bits order, by the later one.
 fn show_pairs(order: &[usize], table: &[u64]) {
-    let mut x = 0;
-    while x < 1024 {
+    for x in 0..1024 {
         if are_rows(order, x % 32, x / 32) & (x % 32 != x / 32) {
             show_pair(order, table, x % 32, x / 32);
         }
-        x += 1;
     }
 }
 

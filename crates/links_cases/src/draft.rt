@@ -1,6 +1,7 @@
 // Records written out as text, four characters each: kind, event, target, space. A kind is b (begin), e (end), f (fork), j (join), 0 to 3 (send on that
 // link) or *: the target's character then names a digit of a number x, which says what stands there.
-use crate::slots::{get_byte, pick, plus, put_byte};
+use slices::{get, put};
+use trials::numbers::{pick, plus};
 
 // Bytes for 128 records.
 pub(crate) fn space() -> [u8; 640] {
@@ -12,9 +13,9 @@ pub(crate) fn put_record(bytes: &mut [u8], i: usize, kind: u8, first: u8, second
     if 128 <= i {
         return;
     }
-    put_byte(bytes, 5 * i, kind);
-    put_byte(bytes, 5 * i + 1, first);
-    put_byte(bytes, 5 * i + 3, second);
+    put(bytes, 5 * i, kind);
+    put(bytes, 5 * i + 1, first);
+    put(bytes, 5 * i + 3, second);
 }
 
 // The value of a digit's character; of any other 0.
@@ -59,13 +60,13 @@ fn further(d: usize) -> u8 {
 }
 
 fn kind_at(text: &[u8], at: usize, x: usize) -> u8 {
-    let c = get_byte(text, at);
+    let c = get(text, at);
     match c {
         b'b' => 1,
         b'e' => 2,
         b'f' => 3,
         b'j' => 4,
-        b'*' => kind_by(digit(x, get_byte(text, plus(at, 2)))),
+        b'*' => kind_by(digit(x, get(text, plus(at, 2)))),
         b'0' => 16,
         b'1' => 17,
         b'2' => 18,
@@ -74,9 +75,9 @@ fn kind_at(text: &[u8], at: usize, x: usize) -> u8 {
 }
 
 fn second_at(text: &[u8], at: usize, x: usize) -> u8 {
-    let c = get_byte(text, plus(at, 2));
-    if get_byte(text, at) == b'*' {
-        return value(get_byte(text, plus(at, 1))) % 16 + further(digit(x, c)) % 4;
+    let c = get(text, plus(at, 2));
+    if get(text, at) == b'*' {
+        return value(get(text, plus(at, 1))) % 16 + further(digit(x, c)) % 4;
     }
     value(c)
 }
@@ -89,7 +90,7 @@ fn put_next(bytes: &mut [u8], text: &[u8], at: usize, x: usize) {
         bytes,
         at / 4,
         kind_at(text, at, x),
-        value(get_byte(text, plus(at, 1))),
+        value(get(text, plus(at, 1))),
         second_at(text, at, x),
     );
 }
@@ -100,9 +101,7 @@ pub(crate) fn count(text: &[u8]) -> usize {
 }
 
 pub(crate) fn put_text(bytes: &mut [u8], text: &[u8], x: usize) {
-    let mut at = 0;
-    while at < 512 {
+    for at in (0..512).step_by(4) {
         put_next(bytes, text, at, x);
-        at += 4;
     }
 }

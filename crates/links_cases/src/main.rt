@@ -3,16 +3,14 @@
 #![tactic(auto)]
 
 mod cases;
-mod chance;
 mod draft;
 mod random;
 mod rules;
 mod show;
-mod slots;
 
 use cases::Counts;
 use records::access;
-use show::word;
+use trials::line::word;
 
 fn count_text(text: &[u8], x: usize, before: Counts) -> Counts {
     let mut bytes = draft::space();
@@ -118,10 +116,8 @@ fn joins() {
 // Every x below n.
 fn form(text: &[u8], n: usize, before: Counts) -> Counts {
     let mut c = before;
-    let mut x = 0;
-    while x < n {
+    for x in 0..n {
         c = count_text(text, x, c);
-        x += 1;
     }
     c
 }
@@ -148,10 +144,8 @@ fn count_random(seed: usize, before: Counts) -> Counts {
 
 fn randoms(before: Counts) -> Counts {
     let mut c = before;
-    let mut seed = 0;
-    while seed < 1000 {
+    for seed in 0..1000 {
         c = count_random(seed, c);
-        seed += 1;
     }
     c
 }

@@ -1,9 +1,9 @@
 // Traces put together by chance: event actions in begin order, each with joins of earlier ones, and forks and sends to later ones or to two that never
 // begin. Acceptable but for 31.
-use crate::chance::roll;
 use crate::draft::put_record;
-use crate::slots::{pick, plus, wide};
 use records::access;
+use trials::chance::roll;
+use trials::numbers::{pick, plus};
 
 // What a seed settles: how many event actions, at most how many forks and sends each (less 1), how often it joins, forks and sends to any target (of 8),
 // how many links, and a mask for the numbers. Other sends go no lower than the last target on their link.
@@ -88,13 +88,11 @@ fn kind_of(s: Shape, x: Action, at: usize, r: usize) -> u8 {
 // The highest rank of a target of that kind, from `lowest` on.
 fn highest(bytes: &[u8], s: Shape, n: usize, kind: u8, lowest: usize) -> usize {
     let mut most = lowest;
-    let mut i = 0;
-    while i < n {
-        let t = rank(s, wide(access::target_at(bytes, i).0));
+    for i in 0..n {
+        let t = rank(s, usize::from(access::target_at(bytes, i).0));
         if (access::kind_at(bytes, i) == kind) & (most < t) {
             most = t;
         }
-        i += 1;
     }
     most
 }
@@ -129,13 +127,11 @@ fn second_of(bytes: &[u8], s: Shape, x: Action, at: usize, kind: u8) -> u8 {
 fn put_action(bytes: &mut [u8], s: Shape, x: Action) -> usize {
     let n = plus(plus(x.joins, x.body), 2);
     let mut at = x.from;
-    let mut r = 0;
-    while r < n {
+    for r in 0..n {
         let kind = kind_of(s, x, at, r);
         let second = second_of(bytes, s, x, at, kind);
         put_record(bytes, at, kind, number(s, x.j), second);
         at = plus(at, 1);
-        r += 1;
     }
     at
 }
@@ -144,10 +140,8 @@ fn put_action(bytes: &mut [u8], s: Shape, x: Action) -> usize {
 pub(crate) fn put_trace(bytes: &mut [u8], s: Shape) -> usize {
     let n = s.events;
     let mut at = 0;
-    let mut j = 0;
-    while j < n {
+    for j in 0..n {
         at = put_action(bytes, s, action_at(s, at, j));
-        j += 1;
     }
     at
 }

@@ -1,7 +1,10 @@
 // Happens-before by its rules, and refusal 31 by its words, of at most 128 records whose events are numbered below 32. Records are known by position,
 // from 0.
-use crate::slots::{bit, get, is_in, pick, plus, put, wide};
 use records::access;
+use slices::{get, put};
+use trials::numbers::{pick, plus};
+use trials::recs::{event_of, is_kind, target_of};
+use trials::sets::{bit, is_in};
 
 // What is found stands in one table: of each event u the set of the t ≼ u, then the set of those that begin, then of each event its row.
 const BEGUN: usize = 32;
@@ -10,18 +13,6 @@ const ROWS: usize = 33;
 
 pub(crate) fn space() -> [usize; 65] {
     [0; 65]
-}
-
-fn is_kind(recs: &[u8], i: usize, kind: u8) -> bool {
-    access::kind_at(recs, i) == kind
-}
-
-fn event_of(recs: &[u8], i: usize) -> usize {
-    wide(access::event_at(recs, i).0)
-}
-
-fn target_of(recs: &[u8], i: usize) -> usize {
-    wide(access::target_at(recs, i).0)
 }
 
 fn is_send(recs: &[u8], i: usize) -> bool {
@@ -91,10 +82,8 @@ fn by_path(table: &mut [usize], t: usize, u: usize) {
 }
 
 fn records_once(recs: &[u8], table: &mut [usize], n: usize) {
-    let mut i = 0;
-    while i < n {
+    for i in 0..n {
         by_record(recs, table, i);
-        i += 1;
     }
 }
 
@@ -114,27 +103,21 @@ fn by_pair(recs: &[u8], table: &mut [usize], n: usize, x: usize) {
 
 fn links_once(recs: &[u8], table: &mut [usize], n: usize) {
     let end = pairs(n);
-    let mut x = 0;
-    while x < end {
+    for x in 0..end {
         by_pair(recs, table, n, x);
-        x += 1;
     }
 }
 
 fn paths_once(table: &mut [usize]) {
-    let mut x = 0;
-    while x < 1024 {
+    for x in 0..1024 {
         by_path(table, x % 32, x / 32);
-        x += 1;
     }
 }
 
 // No event has begun, each is before itself alone.
 fn clear(table: &mut [usize]) {
-    let mut e = 0;
-    while e < 32 {
+    for e in 0..32 {
         put(table, e, bit(e));
-        e += 1;
     }
     put(table, BEGUN, 0);
 }
@@ -153,20 +136,16 @@ fn note_begin(recs: &[u8], table: &mut [usize], i: usize, found: usize) -> usize
 // Those that begin among the first n records, with their rows.
 fn find_begun(recs: &[u8], table: &mut [usize], n: usize) {
     let mut found = 0usize;
-    let mut i = 0;
-    while i < n {
+    for i in 0..n {
         found = note_begin(recs, table, i, found);
-        i += 1;
     }
 }
 
 // Sets only grow, and so does this where one grows.
 fn sum(table: &[usize]) -> usize {
     let mut all = 0usize;
-    let mut e = 0usize;
-    while e < 32 {
+    for e in 0..32 {
         all = plus(all, get(table, e));
-        e += 1;
     }
     all
 }
@@ -175,8 +154,7 @@ fn sum(table: &[usize]) -> usize {
 pub(crate) fn find_order(recs: &[u8], table: &mut [usize], n: usize) {
     clear(table);
     find_begun(recs, table, n);
-    let mut k = 0usize;
-    while k < 1024 {
+    for k in 0..1024 {
         let old = sum(table);
         records_once(recs, table, n);
         links_once(recs, table, n);
@@ -184,7 +162,6 @@ pub(crate) fn find_order(recs: &[u8], table: &mut [usize], n: usize) {
         if sum(table) == old {
             return;
         }
-        k += 1;
     }
 }
 
@@ -201,12 +178,10 @@ fn is_behind(recs: &[u8], table: &[usize], a: usize, b: usize, e: usize) -> bool
 // A link puts e behind another target, by the first i records.
 fn is_put_behind(recs: &[u8], table: &[usize], i: usize, e: usize) -> bool {
     let end = pairs(i);
-    let mut x = 0;
-    while x < end {
+    for x in 0..end {
         if (x % 128 < i) & is_behind(recs, table, x % 128, x / 128, e) {
             return true;
         }
-        x += 1;
     }
     false
 }
@@ -222,12 +197,10 @@ fn is_blocked(recs: &[u8], table: &mut [usize], i: usize) -> bool {
 // The position of the first begin that 31 refuses, or the number of records.
 pub(crate) fn first_blocked(recs: &[u8], table: &mut [usize]) -> usize {
     let n = access::count(recs);
-    let mut i = 0;
-    while i < n {
+    for i in 0..n {
         if is_blocked(recs, table, i) {
             return i;
         }
-        i += 1;
     }
     n
 }

@@ -13,6 +13,7 @@ fn width(n: usize) -> usize
 {
     let mut digits = 1;
     let mut rest = n;
+    // Digit by digit: how many there are is what is asked.
     while 10 <= rest {
         rest = rest / 10;
         digits += 1;
@@ -24,10 +25,7 @@ fn width(n: usize) -> usize
 fn room(space: usize, at: usize) -> usize
     ensures { result ≡ space - at }
 {
-    if space < at {
-        return 0;
-    }
-    space - at
+    space.saturating_sub(at)
 }
 
 // Writes the bytes of word.
@@ -35,12 +33,10 @@ fn put_word(out: &mut [u8], at: usize, word: &[u8]) -> usize
     requires { at + length word.now ≤ length out.old }
     ensures { Written out.old at word.now (length word.now) out.new result }
 {
-    let mut i = 0;
-    while i < word.len() {
+    for i in 0..word.len() {
         out[at + i] = word[i];
-        i += 1;
     }
-    at + i
+    at + word.len()
 }
 
 // Writes the digits of n, last digit first.
@@ -51,6 +47,7 @@ fn put_digits(out: &mut [u8], at: usize, n: usize) -> usize
     let after = at + width(n);
     let mut i = after - 1;
     let mut rest = n;
+    // By hand: a range over the places would need a case of its own for 0, which has a digit too.
     while 10 <= rest {
         out[i] = 48 + (rest % 10) as u8;
         i -= 1;
@@ -81,16 +78,15 @@ fn put_named(out: &mut [u8], at: usize, name: &[u8], n: usize, end: u8) -> usize
 }
 
 // The shape of a pair, and a space.
+#[tactic(auto, unfolding(crate::specs::Lines::shape_word, crate::specs::Lines::ascii))]
 fn shape_word(shape: u16) -> [u8; 3]
     ensures { result ≡ shape_word shape ++ 32 ∷ [] }
 {
-    if shape == 1 {
-        return [b'w', b'w', b' '];
+    match shape {
+        1 => [b'w', b'w', b' '],
+        2 => [b'w', b'r', b' '],
+        _ => [b'r', b'w', b' '],
     }
-    if shape == 2 {
-        return [b'w', b'r', b' '];
-    }
-    [b'r', b'w', b' ']
 }
 
 // Writes the shape of a pair, and a space.
@@ -102,6 +98,7 @@ fn put_shape(out: &mut [u8], at: usize, shape: u16) -> usize
 }
 
 // The length of a mark's word.
+#[tactic(auto, unfolding(crate::specs::Lines::mark_word, crate::specs::Lines::ascii))]
 fn mark_width(mark: u16) -> usize
     ensures { (result ≡ length (mark_word mark)) × (result ≤ 7) }
 {
@@ -109,14 +106,16 @@ fn mark_width(mark: u16) -> usize
 }
 
 // Writes the mark of a pair, and the line feed.
+#[tactic(auto, unfolding(crate::specs::Lines::mark_word, crate::specs::Lines::ascii))]
 fn put_mark(out: &mut [u8], at: usize, mark: u16) -> usize
     requires { at + length (mark_word mark) + 1 ≤ length out.old }
     ensures { Written out.old at (mark_word mark ++ 10 ∷ []) (length (mark_word mark) + 1) out.new result }
 {
     if mark == 1 {
-        return put_word(out, at, b"open\n");
+        put_word(out, at, b"open\n")
+    } else {
+        put_word(out, at, b"covered\n")
     }
-    put_word(out, at, b"covered\n")
 }
 
 // The length of a header line.

@@ -97,35 +97,18 @@ ones-past w (suc k) =
     let z = get_or-eq_default w 0 {n = length w + k} (omega arith) in
     rw (add-suc (length w) k) (ap₂ ◌+◌ (ones-past w k) (ap Count.ones z) ∙ add-zero (ones w (length w)))
 
--- counting byte by byte: after i of the bytes that are counted
-pub record Counting (w : List ℕ) (n end total i : ℕ) : Type 0 where
-  pub to : end ≡ min (counted n) (length w)
-  pub low : i ≤ end
-  pub sum : total ≡ ones w i
-  pub small : total ≤ 8 * i
-
-pub counting-none : (w : List ℕ) {n end : ℕ} → end ≡ min (counted n) (length w) → Counting w n end 0 0
+-- one byte more
+pub ones-next : (w : List ℕ) (i : ℕ) → ones w (i + 1) ≡ ones w i + Count.ones (get_or w i 0)
 unfolding ones
-counting-none w e = record { to = e; low = omega arith; sum = refl; small = omega arith }
+ones-next w i = rw (add-one i) refl
 
-module _ {w : List ℕ} {n end total i : ℕ} (c : Counting w n end total i) where
-  pub counting-next : get_or w i 0 < 256 → i < end → Counting w n end (total + Count.ones (get_or w i 0)) (i + 1)
-  unfolding ones
-  counting-next h l =
-      let o = Count.ones-le 8 (get_or w i 0) h in
-      record {
-        to = c.to;
-        low = omega arith;
-        sum = rw (add-one i) (ap (λ (x : ℕ). x + Count.ones (get_or w i 0)) c.sum);
-        small = omega (arith, c.small);
-      }
-
-  pub counting-all : (i < end → ⊥) → total ≡ ones w (counted n)
-  counting-all h = go (decide-lt (length w) (counted n))
-    where
-      go : (length w < counted n) ⊎ (counted n ≤ length w) → total ≡ ones w (counted n)
-      go (inl l) =
-          let e : i ≡ length w = omega (arith, c.to, c.low, h) in
-          let k : length w + (counted n - length w) ≡ counted n = omega arith in
-          c.sum ∙ rw e (sym (ap (ones w) (sym k) ∙ ones-past w (counted n - length w)))
-      go (inr l) = let e : i ≡ counted n = omega (arith, c.to, c.low, h) in c.sum ∙ ap (ones w) e
+-- as many of the bytes as are there
+pub ones-there : (w : List ℕ) (n i : ℕ) → i ≡ min (counted n) (length w) → ones w i ≡ ones w (counted n)
+ones-there w n i e = go (decide-lt (length w) (counted n))
+  where
+    go : (length w < counted n) ⊎ (counted n ≤ length w) → ones w i ≡ ones w (counted n)
+    go (inl l) =
+        let a : i ≡ length w = omega arith in
+        let k : length w + (counted n - length w) ≡ counted n = omega arith in
+        rw a (sym (ap (ones w) (sym k) ∙ ones-past w (counted n - length w)))
+    go (inr l) = let a : i ≡ counted n = omega arith in ap (ones w) a

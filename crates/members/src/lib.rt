@@ -1,38 +1,18 @@
 // A set of event actions in lent bytes, one bit for each: bit t % 8 of byte t ÷ 8 is event action t, in begin order.
 #![tactic(auto)]
 
-ghost use Rattle.std.specs.Prelude.{◌≡◌, min};
-ghost use Rattle.std.specs.Int.Count as Count;
+ghost use Rattle.std.specs.Prelude.{◌≡◌};
 ghost use Rattle.members.specs.Members.{member, with_member, bytes_for, ones, counted};
 
 // The bytes whose ones a usize surely holds.
 const MOST: usize = 1152921504606846976;
 
-fn smaller(x: usize, y: usize) -> usize
-    ensures { result ≡ min x y }
-{
-    if x < y {
-        return x;
-    }
-    y
-}
-
-// The ones of a byte.
-fn ones_in(byte: u8) -> u32
-    ensures { result ≡ Count.ones byte }
-{
-    u8::count_ones(byte)
-}
-
 // Is event action t in the set? Past the bytes it is not.
+#[tactic(auto, unfolding(crate::specs::Members::member, bits::specs::Words::bit_at))]
 pub fn has(work: &[u8], t: usize) -> bool
     ensures { result ≡ member work.now t }
 {
-    let at = t / 8;
-    if at < work.len() {
-        return (work[at] >> (t % 8)) % 2 == 1;
-    }
-    false
+    (slices::get(work, t / 8) >> (t % 8)) % 2 == 1
 }
 
 // Event action t enters the set; past the bytes nothing.
@@ -41,30 +21,26 @@ pub fn add(work: &mut [u8], t: usize)
 {
     let at = t / 8;
     if at < work.len() {
-        work[at] = work[at] | (1 << (t % 8));
+        work[at] |= 1 << (t % 8);
     }
 }
 
 // The bytes that a set of that many event actions takes.
+#[tactic(auto, unfolding(crate::specs::Members::bytes_for))]
 pub fn bytes_for(events: usize) -> usize
     ensures { result ≡ bytes_for events }
 {
-    if events % 8 == 0 {
-        return events / 8;
-    }
-    events / 8 + 1
+    events.div_ceil(8)
 }
 
 // The ones of the first n bytes, or of all where there are fewer.
 pub fn count(work: &[u8], n: usize) -> usize
     ensures { result ≡ ones work.now (counted n) }
 {
-    let end = smaller(smaller(n, MOST), work.len());
+    let end = n.min(MOST).min(work.len());
     let mut total: usize = 0;
-    let mut i = 0;
-    while i < end {
-        total += ones_in(work[i]) as usize;
-        i += 1;
+    for byte in &work[..end] {
+        total += byte.count_ones() as usize;
     }
     total
 }

@@ -3,24 +3,16 @@
 use Prim.Native.Nat.{ℕ}
 use mathlib.Core.Path.{◌≡◌, sym, ap, ◌∙◌, subst}
 use mathlib.Core.List.{List}
+use mathlib.Core.Bool.{false}
 use lib.ListN.{length}
 use Rattle.records.specs.declared.Trace.{Trace}
-use Rattle.trace.specs.declared.Reading.{Reading}
 use Rattle.records.specs.Bytes.{decode, part}
 use Rattle.records.specs.Records.{past}
 use Rattle.records.specs.Kinds.{has_send}
 use Rattle.records.proofs.Sends.{past-sends}
-use Rattle.trace.specs.Reply.{refused}
-use Rattle.trace.specs.Reading.{records_in, read_reply, Accepts, Acceptable}
-use Rattle.trace.specs.Paper.{paper, refusal_in}
+use Rattle.trace.specs.Reading.{records_in, Accepts, Acceptable}
 use Rattle.trace.proofs.Accepted.{accepts}
-use Rattle.trace.proofs.Upward.{upward}
-use Rattle.trace.specs.contracts.Reading.{enum}
-use denote.Enum.Declared.{tag_of, declared}
 use Rattle.order.specs.Fill.{events_in}
-
-pub refused-reading : (b : List ℕ) (r : Reading) → paper r ≡ read_reply b → tag_of (declared enum) r ≡ 1 → read_reply b ≡ refused (refusal_in r).number (refusal_in r).place.0
-refused-reading b r e t = sym e ∙ sym (upward r t)
 
 module _ (b : List ℕ) (t : Trace) (e : Accepts b t) (recs : List ℕ) (r : recs ≡ part b t.start t.records) where
   pub records-are : decode recs ≡ records_in b t
@@ -43,3 +35,8 @@ module _ (b : List ℕ) (t : Trace) (e : Accepts b t) (recs : List ℕ) (r : rec
 
   pub read_count : length (decode recs) ≡ t.records
   read_count = rw records-are (accepts b t e).counts
+
+pub no-send : (b : List ℕ) (t : Trace) → Accepts b t → t.sends ≡ false → has_send (records_in b t) ≡ false
+no-send b t e s =
+    let p = accepts b t e in
+    sym (subst (λ (n : ℕ). has_send (past (records_in b t) n) ≡ has_send (records_in b t)) p.counts (past-sends (records_in b t))) ∙ p.sent ∙ s

@@ -17,7 +17,8 @@ use Rattle.clocks.proofs.RowLaws.{clear-rows-fit}
 use Rattle.trace.specs.Reply.{refused, gives, demand, unless}
 use Rattle.order.specs.Fill.{events_in, row_past_width, chains_used, no_chains}
 use Rattle.order.specs.Lent.{enough_chains, clocks_filled, chains_filled}
-use Rattle.order.specs.declared.Filling.{Filling}
+use Rattle.std.proofs.Common.{Result}
+use Rattle.trace.specs.declared.Refusal.{Refusal}
 use Rattle.order.specs.Paper.{fill_paper}
 use Rattle.order.specs.loops.FillsTrace.{FillsTrace}
 use Rattle.order.specs.loops.PassEnds.{Ready, Passes}
@@ -66,7 +67,7 @@ module _ (tr : List Record) (a : Acceptable tr) (events width : ℕ) (ee : event
       short-clocks cs₃ l e =
           rw short-reply (e ∙ (clear-rows-fit width cs₂ events narrow (omega (arith, fits)) ∙ ap (λ r. replicate (events * width) 0 ++ r) rest_of))
 
-      pub ends-short : (cs₃ chosen₃ ranks : List ℕ) → length cs₂ ≡ length cs → cs₃ ≡ clear_rows width events cs₂ → chosen₃ ≡ no_chains → ranks ≡ ranks_of tr → (r : Filling) → fill_paper r ≡ refused 23 (position + 1) → FillsTrace tr events width cs cs₃ r chosen₃ ranks
+      pub ends-short : (cs₃ chosen₃ ranks : List ℕ) → length cs₂ ≡ length cs → cs₃ ≡ clear_rows width events cs₂ → chosen₃ ≡ no_chains → ranks ≡ ranks_of tr → (r : Result ℕ Refusal) → fill_paper r ≡ refused 23 (position + 1) → FillsTrace tr events width cs cs₃ r chosen₃ ranks
       unfolding chains_filled unless
       ends-short cs₃ chosen₃ ranks l e o k r q = record { answer = q ∙ sym short-reply; clocks-after = short-clocks cs₃ l e; chains_after = rw short-reply o; ranks_after = k }
 
@@ -88,5 +89,5 @@ module _ (tr : List Record) (a : Acceptable tr) (events width : ℕ) (ee : event
       unfolding chains_filled unless
       whole-chains = rw whole-reply (p.whole enough).chosen_are
 
-      pub ends-whole : (ranks : List ℕ) → ranks ≡ ranks_of tr → (r : Filling) → fill_paper r ≡ gives chains → FillsTrace tr events width cs cs₂ r chosen ranks
+      pub ends-whole : (ranks : List ℕ) → ranks ≡ ranks_of tr → (r : Result ℕ Refusal) → fill_paper r ≡ gives chains → FillsTrace tr events width cs cs₂ r chosen ranks
       ends-whole ranks k r q = record { answer = q ∙ sym whole-reply; clocks-after = whole-clocks; chains_after = whole-chains; ranks_after = k }

@@ -10,7 +10,7 @@ use lib.Dec.{eqb}
 use lib.ListN.{length, get_or, set, drop, replicate, length-append, length-set, length-replicate, get_or-append}
 use native.Mathlib.Nat.{mul-le-mul_right, suc-mul}
 use lib.Seq.{set_at, set-set, get_or-set_same, drop_at}
-use Rattle.slices.specs.Slices.{zeros}
+use Rattle.slices.specs.Slices.{filled}
 use Rattle.clocks.specs.Rows.{clear_row}
 use Rattle.order.specs.Links.{Links, Forward, leq}
 use Rattle.order.specs.Chains.{used, needs}
@@ -56,7 +56,7 @@ module _
 
   pub made-start : (cs : List ℕ) (rows : ℕ → ℕ → ℕ) → cs ≡ flat w m rows ++ rest
       → Made 0 (record { clocks = cs; sizes = no_chains; chosen = no_chains; chains = 0 })
-  unfolding zeros table
+  unfolding filled table
   made-start cs rows e = record { rows = rows; clocks_are = e; done = λ t c h. absurd (omega arith); taken = taken_start l w 1024 narrow; chosen_are = refl }
 
   module _ (u : ℕ) (s : Rows) (p : Made u s) (h : u < m) where
@@ -239,12 +239,12 @@ module _ (before : ℕ → ℕ → Bool) (m w : ℕ) (clocks₀ : List ℕ) wher
             rest = ap (drop (m * w)) e.clocks_are ∙ same_rest j;
           }
 
-    pub going_end : m ≤ u → MakesRows l m w clocks₀ clocks chosen u chains
+    pub going_end : m ≤ u → MakesRows l m w clocks₀ clocks chosen m chains
     going_end k =
         let n : u ≡ m = omega (arith, g.within) in
         let x = made-end l g.tells.forward m before g.tells.tests w g.narrow g.few (drop (m * w) clocks₀) state (rw n at g.made) in
         record {
-          rows_are = n ∙ sym ((needs-none (leq l) w m).1 (omega (arith, x.2, g.made.taken.chains_fit)));
+          rows_are = sym ((needs-none (leq l) w m).1 (omega (arith, x.2, g.made.taken.chains_fit)));
           clocks_are = λ z. x.0;
           chosen_are = λ z. x.1;
           chains_are = λ z. x.2;

@@ -42,7 +42,6 @@ pub mod FilledTrace
 pub mod ByEvent
 pub mod OwnPart
 pub mod Variants
-pub mod Upward
 -- Rows from the table of bits
 pub mod BeginLaws
 pub mod TablePass

@@ -31,7 +31,7 @@ use Rattle.order.specs.loops.Pass.{tick, choose_in, Rows, enter_row, begin_row, 
 use Rattle.order.specs.loops.PassEnds.{Ready, Passes}
 use Rattle.order.specs.loops.RecordLinks.{ordering_at}
 use Rattle.order.specs.HappensBefore.{trace_links}
-use Rattle.slices.specs.Slices.{zeros}
+use Rattle.slices.specs.Slices.{filled}
 use Rattle.order.specs.Fill.{events_in, begin_position, row_past_width, chains_used, chain_table, trace_clocks, no_chains}
 use Rattle.slices.proofs.Tests.{both, and, eq→eqb, decide_eq}
 use Rattle.order.proofs.CountLaws.{first_from-local, first-first, first-only}
@@ -128,7 +128,7 @@ module _ {tr : List Record} (a : Acceptable tr) (w : ℕ) (rest : List ℕ) wher
 
   pub passing-start :
       (cs : List ℕ) → w ≤ 1024 → cs ≡ flat w m (λ u c. get_or cs (u * w + c) 0) ++ rest → Passing 0 (record { clocks = cs; sizes = no_chains; chosen = no_chains; chains = 0 })
-  unfolding zeros
+  unfolding filled
   passing-start cs h e =
       let b = begins-zero op in
       let k = length-replicate {A = ℕ} 1024 0 in

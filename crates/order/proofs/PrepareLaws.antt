@@ -16,7 +16,8 @@ use Rattle.trace.specs.Reading.{records_in, read_reply, Accepts}
 use Rattle.trace.proofs.ReplyLaws.{same-given, unless-given}
 use Rattle.ranks.specs.Ranks.{ranks_of}
 use Rattle.clocks.specs.Rows.{space_for}
-use Rattle.order.specs.declared.Filling.{Filling}
+use Rattle.std.proofs.Common.{Result}
+use Rattle.trace.specs.declared.Refusal.{Refusal}
 use Rattle.order.specs.Fill.{row_past_width, chains_used, chain_table, trace_clocks, no_chains}
 use Rattle.order.specs.Lent.{asking, work_for, no_work, spaced, enough_chains, on_clocks, clocks_after, chains_filled, fill_ready, fill_reply}
 use Rattle.order.specs.Prepare.{asked, read_within, within, no_trace}
@@ -29,13 +30,13 @@ use Rattle.order.proofs.FilledTrace.{clocks-whole}
 
 module _ (b : List ℕ) (ready : Reply Trace) (w : ℕ) (cs ranks : List ℕ) where
   -- refused by the reader, by 11, by 21 or by 22
-  pub stopped : (chosen : List ℕ) (n p : ℕ) (r : Filling) (t : Trace) → fill_paper r ≡ refused n p → t ≡ no_trace → chosen ≡ no_chains → ready ≡ refused n p
+  pub stopped : (chosen : List ℕ) (n p : ℕ) (r : Result ℕ Refusal) (t : Trace) → fill_paper r ≡ refused n p → t ≡ no_trace → chosen ≡ no_chains → ready ≡ refused n p
       → Prepares b ready w cs cs chosen ranks ranks r t
   unfolding on_clocks then unless clocks_after
   stopped chosen n p r t a i o e = record { answer = rw e a; trace_is = rw e i; clocks-after = rw e refl; chains_after = rw e o; ranks_after = rw e refl }
 
   -- 23, or the clocks are filled
-  pub passed : (t : Trace) → gives t ≡ ready → (cs' chosen ranks' : List ℕ) (r : Filling) (rs : List Record) → rs ≡ records_in b t → FillsTrace rs t.events w cs cs' r chosen ranks'
+  pub passed : (t : Trace) → gives t ≡ ready → (cs' chosen ranks' : List ℕ) (r : Result ℕ Refusal) (rs : List Record) → rs ≡ records_in b t → FillsTrace rs t.events w cs cs' r chosen ranks'
       → Prepares b ready w cs cs' chosen ranks ranks' r t
   unfolding on_clocks then unless clocks_after
   passed t e cs' chosen ranks' r rs q g =
@@ -66,7 +67,7 @@ unfolding read_within asked
 none-asked b w space room = ap (λ (x : Reply Trace). spaced x w space (work_for room)) (none-asking b _ (λ t. le-leb 0 t.records (omega arith)))
 
 -- so with room for 1,024 event actions preparing is filling
-pub fills : (b : List ℕ) (w : ℕ) (cs cs' chosen ranks ranks' : List ℕ) (r : Filling) (t : Trace) → Prepares b (read_within b 1 0 w (length cs) 1024) w cs cs' chosen ranks ranks' r t → Fills b w cs cs' r
+pub fills : (b : List ℕ) (w : ℕ) (cs cs' chosen ranks ranks' : List ℕ) (r : Result ℕ Refusal) (t : Trace) → Prepares b (read_within b 1 0 w (length cs) 1024) w cs cs' chosen ranks ranks' r t → Fills b w cs cs' r
 unfolding fill_reply
 fills b w cs cs' chosen ranks ranks' r t p = record { answer = rw (← same) p.answer; clocks-after = rw (← same) p.clocks-after }
   where
@@ -88,7 +89,7 @@ pub record Prepared (b : List ℕ) (ready : Reply Trace) (w : ℕ) (cs cs' chose
   pub ranks_are : ranks' ≡ ranks_of (records_in b t)
 
 -- what preparing says of a trace that a call goes on with, and of one that is refused
-module _ {b : List ℕ} {ready : Reply Trace} {w : ℕ} {cs cs' chosen ranks ranks' : List ℕ} {r : Filling} {t : Trace} (p : Prepares b ready w cs cs' chosen ranks ranks' r t) where
+module _ {b : List ℕ} {ready : Reply Trace} {w : ℕ} {cs cs' chosen ranks ranks' : List ℕ} {r : Result ℕ Refusal} {t : Trace} (p : Prepares b ready w cs cs' chosen ranks ranks' r t) where
   pub none-ready : (n i : ℕ) → refused n i ≡ ready → t ≡ no_trace
   unfolding unless
   none-ready n i e = rw (← e) at p.trace_is

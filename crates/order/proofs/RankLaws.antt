@@ -19,7 +19,7 @@ use Rattle.trace.proofs.Going.{in_range}
 use Rattle.ranks.specs.OrderingOf.{ordering_of}
 use Rattle.order.specs.Rank.{rank_in, rank}
 use Rattle.order.specs.loops.RecordLinks.{ordering_at}
-use Rattle.slices.specs.Slices.{zeros}
+use Rattle.slices.specs.Slices.{filled}
 use Rattle.ranks.specs.Ranks.{with_rank, rank_if, ranks_upto, ranks_of}
 use Rattle.ranks.proofs.RankLaws.{ranks-length}
 use Rattle.order.proofs.Counted.{counted, counted-zero, counted-begin, counted-other}
@@ -54,7 +54,7 @@ module _ (tr : List Record) where
           past_end z = rw (set_out m e (k % 65536) z, ne_eqb e f (λ p. omega arith)) q
 
   ranks-at : (i e : ℕ) → i < 65535 → e < 1025 → get_or (ranks_upto tr i) e 0 ≡ rank_in e (past tr i)
-  unfolding ranks_upto zeros rank_in past
+  unfolding ranks_upto filled rank_in past
   ranks-at zero e l h = get_or-replicate {A = ℕ} 1025 e 0 0 h
   ranks-at (suc i) e l h =
       let f = few i in

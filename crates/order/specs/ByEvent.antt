@@ -1,5 +1,5 @@
 -- Chains, clock rows and filling by event number, over forks, joins and happens-before as the records make them. Assumes nothing.
-use Rattle.std.specs.Prelude.{ℕ, zero, suc, ◌+◌, ◌*◌, ◌-◌, ◌≤◌, ◌<◌, ◌≡◌, List, ◌++◌, ◌≢◌, ◌⊎◌, ◌↔◌, length, get_or, take, drop}
+use Rattle.std.specs.Prelude.{ℕ, zero, suc, ◌+◌, ◌*◌, ◌-◌, ◌≤◌, ◌<◌, ◌≡◌, List, ◌++◌, ◌≢◌, ◌⊎◌, ◌↔◌, length, get_or, take, drop, Ok}
 use Rattle.records.specs.declared.Record.{Record}
 use Rattle.records.specs.declared.Trace.{Trace}
 use Rattle.trace.specs.Reading.{records_in, Accepts}
@@ -8,7 +8,6 @@ use Rattle.order.specs.Clocks.{table, chain_of, entry}
 use Rattle.order.specs.HappensBefore.{Begins, Link, HappensBefore, trace_links}
 use Rattle.order.specs.Rank.{rank}
 use Rattle.order.specs.loops.Pass.{Rows, begin_row}
-use Rattle.order.specs.declared.Filling.TheVariants.{Filled}
 use Rattle.order.specs.Paper.{Fills}
 
 module _ (tr : List Record) where
@@ -71,7 +70,7 @@ pub record ByEvent : Type 0 where
   pub chain_rule : (bytes : List ℕ) (t : Trace) → Accepts bytes t
       → (e : ℕ) → Begins (records_in bytes t) e → ChainRule (records_in bytes t) (chain_in (records_in bytes t)) e
   pub clock-row : (bytes : List ℕ) (t : Trace) → Accepts bytes t
-      → (width : ℕ) (clocks clocks' : List ℕ) (k : ℕ) → Fills bytes width clocks clocks' (Filled k)
+      → (width : ℕ) (clocks clocks' : List ℕ) (k : ℕ) → Fills bytes width clocks clocks' (Ok k)
       → (e : ℕ) → Begins (records_in bytes t) e → ClockRow (records_in bytes t) width clocks' e
 
 -- "that row's part of the lent clocks and no other": what stands before the part of row u, and what stands after it, is as it was
@@ -92,7 +91,7 @@ put_rows tr width (suc u) clocks = put_row width u (table width (entry (trace_li
 pub record ThatRowAndNoOther : Type 0 where
   -- filling is each row in turn, put in its part
   pub in-turn : (bytes : List ℕ) (t : Trace) → Accepts bytes t
-      → (width : ℕ) (clocks clocks' : List ℕ) (k : ℕ) → Fills bytes width clocks clocks' (Filled k)
+      → (width : ℕ) (clocks clocks' : List ℕ) (k : ℕ) → Fills bytes width clocks clocks' (Ok k)
       → clocks' ≡ put_rows (records_in bytes t) width t.events clocks
   pub put : (width u : ℕ) (row clocks : List ℕ) → length row ≡ width → u * width + width ≤ length clocks
       → OnlyRow width u clocks (put_row width u row clocks)

@@ -32,10 +32,8 @@ pub(crate) fn take_before(table: &[u64], u: usize, width: usize, clocks: &mut [u
     requires { RoomToTake width u clocks.old chosen.now }
     ensures { clocks.new ≡ take_before (λ t. bit_of table.now t u) width u chosen.now u clocks.old }
 {
-    let mut t = 0;
-    while t < u {
+    for t in 0..u {
         take_own(table, t, u, width, clocks, chosen);
-        t += 1;
     }
 }
 
@@ -81,8 +79,7 @@ pub(crate) fn make_rows(
         → MakesRows l events width clocks.old clocks.new chosen.new result.rows result.chains }
 {
     let mut chains = 0;
-    let mut u = 0;
-    while u < events {
+    for u in 0..events {
         let next = make_row(table, u, width, clocks, sizes, chosen, chains);
         if width < next {
             return MadeRows {
@@ -91,10 +88,9 @@ pub(crate) fn make_rows(
             };
         }
         chains = next;
-        u += 1;
     }
     MadeRows {
-        rows: u,
+        rows: events,
         chains: chains,
     }
 }
@@ -105,15 +101,13 @@ pub fn begin_of(recs: &[u8], u: usize) -> usize
 {
     let n = access::count(recs);
     let mut begun = 0usize;
-    let mut i = 0;
-    while i < n {
+    for i in 0..n {
         if access::kind_at(recs, i) == 1 {
             if begun == u {
                 return i;
             }
             begun += 1;
         }
-        i += 1;
     }
     n
 }

@@ -8,7 +8,7 @@ ghost use Rattle.order.specs.loops.Walk.{ordering_by, TakesLink, FillWalks};
 use clocks::{copy_row, merge_row};
 use ranks::Ordering;
 use records::access;
-use slices::numbers::get;
+use slices::get;
 
 fn hint_of(c: u16) -> u16
     ensures { result ≡ 1024 - c }
@@ -85,12 +85,11 @@ pub(crate) fn pass_links(
         clocks.old hints.old clocks.new hints.new result }
 {
     let n = access::count(recs);
-    let mut i = access::skip_accesses(recs, from);
-    while i < n {
+    let first = access::skip_accesses(recs, from);
+    for i in first..n {
         if pass_record(recs, ranks, i, width, chains, clocks, hints) {
             return i;
         }
-        i += 1;
     }
-    i
+    first.max(n)
 }

@@ -9,12 +9,10 @@ fn among_sixteen(clocks: &[u16], at: usize, sizes: &[u16], c: usize) -> bool
     ensures { result ≡ false → (j : ℕ) → j < 16 → get_or clocks.now (at + j) 0 ≡ get_or sizes.now (c + j) 0 → ⊥ }
 {
     let mut hit: u16 = 0;
-    let mut j = 0;
-    while j < 16 {
+    for j in 0..16 {
         if clocks[at + j] == sizes[c + j] {
             hit = 1;
         }
-        j += 1;
     }
     hit == 1
 }
@@ -24,14 +22,12 @@ fn choose_near(clocks: &[u16], a: usize, sizes: &[u16], from: usize, chains: usi
     requires { (from ≤ chains) × (a + chains ≤ length clocks.now) × (chains ≤ length sizes.now) }
     ensures { result ≡ first_from (full_at a clocks.now sizes.now) from (chains - from) }
 {
-    let mut c = from;
-    while c < chains {
+    for c in from..chains {
         if clocks[a + c] == sizes[c] {
             return c;
         }
-        c += 1;
     }
-    c
+    chains
 }
 
 // The lowest chain all of whose members are in the merged row u, or a new one, where none below `from` is such; sixteen entries at a time.

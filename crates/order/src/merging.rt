@@ -43,12 +43,11 @@ pub fn merge_links(
         clocks.old clocks.new result }
 {
     let n = access::count(recs);
-    let mut i = access::skip_accesses(recs, from);
-    while i < n {
+    let first = access::skip_accesses(recs, from);
+    for i in first..n {
         if pass_record(recs, ranks, i, width, chains, clocks) {
             return i;
         }
-        i += 1;
     }
-    i
+    first.max(n)
 }

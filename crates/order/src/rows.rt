@@ -1,5 +1,5 @@
 // All rows in one pass over the records: at a link the earlier row is merged into the later one, and at a begin the chain is read off the merged row.
-ghost use Rattle.std.specs.Prelude.{◌≡◌, true, false, ◌+◌, ◌*◌, ◌-◌, ◌≤◌, ◌<◌, min, T, eqb, length, get_or};
+ghost use Rattle.std.specs.Prelude.{◌≡◌, true, false, ◌+◌, ◌*◌, ◌-◌, ◌≤◌, ◌<◌, Err, min, eqb, length, get_or};
 ghost use Rattle.records.specs.Bytes.{decode};
 ghost use Rattle.records.specs.Kinds.{has_send};
 ghost use Rattle.links.specs.Fill.{fill_all};
@@ -9,18 +9,19 @@ ghost use Rattle.clocks.specs.Rows.{space_for, rows_if, clear_row};
 ghost use Rattle.order.specs.Fill.{events_in, no_chains};
 ghost use Rattle.order.specs.Paper.{fill_paper};
 ghost use Rattle.order.specs.Prepare.{no_trace};
+ghost use Rattle.std.specs.Option.{option_copied};
+ghost use Rattle.order.specs.loops.TablePass.{TellsOrder};
 ghost use Rattle.order.specs.loops.FillsTrace.{FillsTrace};
 ghost use Rattle.order.specs.loops.PassEnds.{Ready, Passes};
 ghost use Rattle.order.specs.loops.Pass.{Rows, choose_in, NoneFull, begin_row, RoomToChoose, RoomToBegin, Are};
 
 use crate::from_table::pass_table;
 use crate::linking::pass_links;
-use crate::{Filling, Prepared, merge};
+use crate::{Prepared, merge};
 use clocks::{add_one, clear_row, clear_rows};
 use records::{Operation, Trace, access};
-use slices::numbers::clear;
-use slices::zeros::numbers_1024;
-use trace::Refusal;
+use slices::{clear, zeros};
+use trace::{Reason, Refusal};
 
 // The chain of row u, by its hint: no chain below 1,024 less that has all its members in the row.
 fn choose_hinted(
@@ -122,35 +123,33 @@ fn pass(
     }
 }
 
-// By links that deliver in order from the table, where a record is a send; else over the records.
+// By links that deliver in order, from the table; without one over the records.
 fn pass_rows(
     recs: &[u8],
     events: usize,
-    sends: bool,
     ranks: &[u16],
-    table: &[u64],
+    table: Option<&[u64]>,
     clocks: &mut [u16],
     width: usize,
     sizes: &mut [u16],
     chosen: &mut [u16],
 ) -> Passed
     requires { Ready (decode recs.now) width ranks.now clocks.old sizes.old chosen.old
-        × (events ≡ events_in (decode recs.now)) × (sends ≡ has_send (decode recs.now))
-        × (T sends → table.now ≡ (fill_all (decode recs.now)).words) }
+        × (events ≡ events_in (decode recs.now)) × TellsOrder (decode recs.now) (option_copied table) }
     ensures { Passes (decode recs.now) width clocks.old clocks.new chosen.new result.chains result.position }
 {
-    if sends {
-        return pass_table(recs, events, ranks, table, clocks, width, sizes, chosen);
+    match table {
+        Some(words) => pass_table(recs, events, ranks, words, clocks, width, sizes, chosen),
+        None => pass(recs, ranks, clocks, width, sizes, chosen),
     }
-    pass(recs, ranks, clocks, width, sizes, chosen)
 }
 
 // Refused before the clocks are filled.
 pub(crate) fn unfilled(why: Refusal) -> Prepared
-    ensures { (result.answer ≡ Filling.Refused why) × (result.trace ≡ no_trace) }
+    ensures { (result.answer ≡ Err why) × (result.trace ≡ no_trace) }
 {
     Prepared {
-        answer: Filling::Refused(why),
+        answer: Err(why),
         trace: Trace {
             start: 0,
             records: 0,
@@ -161,18 +160,15 @@ pub(crate) fn unfilled(why: Refusal) -> Prepared
 }
 
 // Refused at the begin at that position, whose chain has no place in the width.
-fn past_width(position: usize) -> Filling
+fn past_width(position: usize) -> Result<usize, Refusal>
     requires { position < 65535 }
     ensures { fill_paper result ≡ Reply.refused 23 (position + 1) }
 {
-    Filling::Refused(Refusal {
-        number: trace::CHAINS,
-        place: Operation((position + 1) as u16),
-    })
+    Err(Reason::Chains.at(Operation((position + 1) as u16)))
 }
 
-// The rows of an accepted trace that has the space for them, the chain of each row, all 0 after 23, and the ranks of all events; where a record is a
-// send, from the table.
+// The rows of an accepted trace that has the space for them, the chain of each row, all 0 after 23, and the ranks of all events; from the
+// table, where there is one.
 pub(crate) fn fill_rows(
     recs: &[u8],
     events: usize,
@@ -180,20 +176,19 @@ pub(crate) fn fill_rows(
     clocks: &mut [u16],
     chosen: &mut [u16],
     ranks: &mut [u16; 1025],
-    sends: bool,
-    table: &[u64],
-) -> Filling
+    table: Option<&[u64]>,
+) -> Result<usize, Refusal>
     requires { Acceptable (decode recs.now) × (events ≡ events_in (decode recs.now))
-        × (space_for width events (length clocks.old) ≡ true) × (chosen.old ≡ no_chains) × (sends ≡ has_send (decode recs.now))
-        × (T sends → table.now ≡ (fill_all (decode recs.now)).words) }
+        × (space_for width events (length clocks.old) ≡ true) × (chosen.old ≡ no_chains)
+        × TellsOrder (decode recs.now) (option_copied table) }
     ensures { FillsTrace (decode recs.now) events width clocks.old clocks.new result
         chosen.new ranks.new }
 {
     let rows = events as u16;
     ranks::fill_ranks(recs, ranks);
-    let mut sizes = numbers_1024();
+    let mut sizes = zeros::<u16, 1024>();
     let passed = pass_rows(
-        recs, events, sends, ranks, table, clocks, width, &mut sizes, chosen,
+        recs, events, ranks, table, clocks, width, &mut sizes, chosen,
     );
     let position = passed.position;
     if position < access::count(recs) {
@@ -201,5 +196,5 @@ pub(crate) fn fill_rows(
         clear(chosen, 1024);
         return past_width(position);
     }
-    Filling::Filled(passed.chains)
+    Ok(passed.chains)
 }

@@ -1,3 +1,4 @@
+pub mod RankedClocks
 pub mod RecordRows
 pub mod RowMarks
 pub mod MergeLaws

@@ -14,7 +14,6 @@ use Rattle.slices.specs.Slices.{cleared}
 use Rattle.trace.specs.Reply.{Reply, refused, gives}
 use Rattle.trace.specs.Reading.{records_in, records_read}
 use Rattle.trace.proofs.Accepted.{accepts, records-read}
-use Rattle.order.specs.declared.Filling.{Filling}
 use Rattle.order.specs.Fill.{chains_used}
 use Rattle.order.specs.Lent.{asking, work_for, spaced}
 use Rattle.order.specs.Prepare.{asked, read_within}
@@ -24,7 +23,9 @@ use Rattle.order.proofs.LentLaws.{Asks, asks, same-asking, stays}
 use Rattle.order.proofs.LentLaws.{filled as made}
 use Rattle.order.proofs.PrepareLaws.{prepared}
 use Rattle.slices.proofs.Tests.{both, and, same}
-use Rattle.pair.specs.declared.PairAnswer.{PairAnswer}
+use Rattle.std.proofs.Common.{Result}
+use Rattle.trace.specs.declared.Refusal.{Refusal}
+use Rattle.pair.specs.declared.Verdict.{Verdict}
 use Rattle.races.specs.loops.FilledClocks as hand
 use Rattle.pair.specs.Pair.{PairMark, pair_paper, is_record, are_records, pair_filled, pair_ready, pair_reply, PairPromise, ListAfter, entries_given}
 use Rattle.pair.specs.loops.Answers.{AnswersFilled}
@@ -70,7 +71,7 @@ are-asked tr a b n e = same _ _ there back
         and (leb 1 (min a b)) (leb (max a b) n) (le→leb 1 (min a b) (omega arith)) (le→leb (max a b) n (omega arith))
 
 -- the trace was prepared for both records
-pub for-pair : (a b room : ℕ) {bytes : List ℕ} {lo hi w : ℕ} {cs cs' chosen ranks ranks' : List ℕ} {f : Filling} {t : Trace} → lo ≡ min a b → hi ≡ max a b
+pub for-pair : (a b room : ℕ) {bytes : List ℕ} {lo hi w : ℕ} {cs cs' chosen ranks ranks' : List ℕ} {f : Result ℕ Refusal} {t : Trace} → lo ≡ min a b → hi ≡ max a b
     → Prepares bytes (read_within bytes lo hi w (length cs) room) w cs cs' chosen ranks ranks' f t → Prepares bytes (pair_ready bytes w (length cs) room a b) w cs cs' chosen ranks ranks' f t
 unfolding read_within pair_ready
 for-pair a b room {bytes} {lo} {hi} {w} {cs} {cs'} {chosen} {ranks} {ranks'} {f} {t} low high p =
@@ -78,9 +79,9 @@ for-pair a b room {bytes} {lo} {hi} {w} {cs} {cs'} {chosen} {ranks} {ranks'} {f}
     (same-asking bytes _ _ (λ x e. rw (low, high) (are-asked (records_in bytes x) a b x.records (accepts bytes x e).counts))) p
 
 -- and then the marks of its event actions were taken away
-module _ (bytes : List ℕ) (a b w : ℕ) (cs cs' work work' chosen list : List ℕ) (f : Filling) (t : Trace) {ranks ranks' : List ℕ}
+module _ (bytes : List ℕ) (a b w : ℕ) (cs cs' work work' chosen list : List ℕ) (f : Result ℕ Refusal) (t : Trace) {ranks ranks' : List ℕ}
     (p : Prepares bytes (pair_ready bytes w (length cs) (length work) a b) w cs cs' chosen ranks ranks' f t) (clears : work' ≡ cleared t.events work) where
-  abbrev Promise : List ℕ → List ℕ → PairAnswer → Type 0
+  abbrev Promise : List ℕ → List ℕ → Result Verdict Refusal → Type 0
   Promise work'' list' r = PairPromise bytes w cs cs' work work'' list list' a b r
 
   abbrev found : Reply Trace
@@ -91,7 +92,7 @@ module _ (bytes : List ℕ) (a b w : ℕ) (cs cs' work work' chosen list : List 
   zeros = marks-cleared work found p clears
 
   -- the promise, by the reply
-  promise : (work'' list' : List ℕ) (r : PairAnswer) (y : Reply PairMark) → pair_reply bytes w (length cs) (length work) (length list) a b ≡ y → pair_paper r ≡ y → work'' ≡ work'
+  promise : (work'' list' : List ℕ) (r : Result Verdict Refusal) (y : Reply PairMark) → pair_reply bytes w (length cs) (length work) (length list) a b ≡ y → pair_paper r ≡ y → work'' ≡ work'
       → ListAfter (records_read bytes) (a - 1) (b - 1) y (entries_given r) list list' → Promise work'' list' r
   promise work'' list' r y q g k l = record {
     answer = g ∙ sym q;
@@ -100,7 +101,7 @@ module _ (bytes : List ℕ) (a b w : ℕ) (cs cs' work work' chosen list : List 
     list-after = rw q l;
   }
 
-  pub not-asked : (k i : ℕ) → fill_paper f ≡ refused k i → (r : PairAnswer) → pair_paper r ≡ refused k i → Promise work' list r
+  pub not-asked : (k i : ℕ) → fill_paper f ≡ refused k i → (r : Result Verdict Refusal) → pair_paper r ≡ refused k i → Promise work' list r
   unfolding pair_reply
   not-asked k i z r g = promise work' list r (refused k i) (stays bytes _ w _ _ k i (sym p.answer ∙ z)) g refl refl
 
@@ -111,7 +112,7 @@ module _ (bytes : List ℕ) (a b w : ℕ) (cs cs' work work' chosen list : List 
       pub chains-used : k ≡ chains_used (decode recs)
       pub both_in : InTrace (decode recs) a b
       pub clear : Clear (decode recs) t.events work'
-      pub answers : (work'' list' : List ℕ) (r : PairAnswer) → AnswersFilled (decode recs) t.events (a - 1) (b - 1) list list' r → work'' ≡ work' → Promise work'' list' r
+      pub answers : (work'' list' : List ℕ) (r : Result Verdict Refusal) → AnswersFilled (decode recs) t.events (a - 1) (b - 1) list list' r → work'' ≡ work' → Promise work'' list' r
 
     has : Asks bytes (λ x. are_records (records_in bytes x) a b) t
     unfolding pair_ready

@@ -15,8 +15,10 @@ use Rattle.order.specs.Fill.{chains_used}
 use Rattle.coverage.specs.Race.{Race, raceb}
 use Rattle.coverage.specs.Leading.{coveredb, entries}
 use Rattle.coverage.proofs.Order.{race-of}
-use Rattle.pair.specs.declared.PairAnswer.{PairAnswer}
-use Rattle.pair.specs.declared.PairAnswer.TheVariants.{Open, Covered}
+use Rattle.std.proofs.Common.{Result, Ok}
+use Rattle.trace.specs.declared.Refusal.{Refusal}
+use Rattle.pair.specs.declared.Verdict.{Verdict}
+use Rattle.pair.specs.declared.Verdict.TheVariants.{Open, Covered}
 use Rattle.races.specs.Traces.{setting_of}
 use Rattle.races.specs.loops.FilledClocks.{FilledClocks, rows, Clear}
 use Rattle.pair.specs.loops.Leading.{mark, Marks}
@@ -32,16 +34,16 @@ use Rattle.pair.proofs.CoverLaws.{row_told}
 
 -- A race, by its mark.
 module _ (tr : List Record) (a b : ℕ) (list list' : List ℕ) (k : ℕ) where
-  pub answers-covered : coveredb (setting_of tr) a b ≡ true → GivesCover tr a b k list list' → AnswersRace tr a b list list' (Covered k)
+  pub answers-covered : coveredb (setting_of tr) a b ≡ true → GivesCover tr a b k list list' → AnswersRace tr a b list list' (Ok (Covered k))
   unfolding answered
   answers-covered e g = record { answer = rw e; list-after = rw e g }
 
-  pub answers-open : coveredb (setting_of tr) a b ≡ false → k ≡ length (entries (setting_of tr) b) → list' ≡ with_entries (kept_entries tr b) list → AnswersRace tr a b list list' (Open k)
+  pub answers-open : coveredb (setting_of tr) a b ≡ false → k ≡ length (entries (setting_of tr) b) → list' ≡ with_entries (kept_entries tr b) list → AnswersRace tr a b list list' (Ok (Open k))
   unfolding answered
   answers-open e n g = record { answer = rw e (ap (λ (x : ℕ). gives (is_open x)) n); list-after = rw e g }
 
 -- Records a and b over filled clocks.
-module _ (tr : List Record) (events a b : ℕ) (list : List ℕ) (r : PairAnswer) where
+module _ (tr : List Record) (events a b : ℕ) (list : List ℕ) (r : Result Verdict Refusal) where
   refuses-filled : (n : ℕ) → pair_filled tr events (length list) a b ≡ refused n 0 → pair_paper r ≡ refused n 0 → AnswersFilled tr events a b list list r
   refuses-filled n e f = record { answer = f ∙ sym e; list-after = rw e refl }
 
@@ -110,11 +112,11 @@ module _ {tr : List Record} {ranks chosen : List ℕ} {width : ℕ} {clocks : Li
     pub for-kept : (list : List ℕ) → events ≤ length list / 2 → Marks tr (ranks_of tr) work' b × (2 * rows tr ≤ length list)
     for-kept list l = (m.marks, room list l)
 
-    pub covered : get_or work' t 0 ≡ 1 → (list list' : List ℕ) (k : ℕ) → events ≤ length list / 2 → GivesCover tr a b k list list' → AnswersFilled tr events a b list list' (Covered k)
-    covered z list list' k l g = race-answered tr events a b list (Covered k) e l list' (answers-covered tr a b list list' k (is-covered z) g)
+    pub covered : get_or work' t 0 ≡ 1 → (list list' : List ℕ) (k : ℕ) → events ≤ length list / 2 → GivesCover tr a b k list list' → AnswersFilled tr events a b list list' (Ok (Covered k))
+    covered z list list' k l g = race-answered tr events a b list (Ok (Covered k)) e l list' (answers-covered tr a b list list' k (is-covered z) g)
 
-    pub uncovered : get_or work' t 0 ≢ 1 → (list list' : List ℕ) (k : ℕ) → events ≤ length list / 2 → (k ≡ length (entries (setting_of tr) b)) × (list' ≡ with_entries (kept_entries tr b) list) → AnswersFilled tr events a b list list' (Open k)
-    uncovered n list list' k l (x, y) = race-answered tr events a b list (Open k) e l list' (answers-open tr a b list list' k (open-if (coveredb (setting_of tr) a b) mark-of-a n) x y)
+    pub uncovered : get_or work' t 0 ≢ 1 → (list list' : List ℕ) (k : ℕ) → events ≤ length list / 2 → (k ≡ length (entries (setting_of tr) b)) × (list' ≡ with_entries (kept_entries tr b) list) → AnswersFilled tr events a b list list' (Ok (Open k))
+    uncovered n list list' k l (x, y) = race-answered tr events a b list (Ok (Open k)) e l list' (answers-open tr a b list list' k (open-if (coveredb (setting_of tr) a b) mark-of-a n) x y)
 
   module _ {work' : List ℕ} (m : MarksKept tr b work work') where
     pub marks-fit : events ≤ length work'

@@ -16,8 +16,10 @@ use Rattle.races.specs.Traces.{setting_of}
 use Rattle.races.proofs.Instance.{laws}
 use Rattle.races.proofs.ThirdDemand.{acceptable}
 use Rattle.races.proofs.SomeOpen.{some-open}
-use Rattle.pair.specs.declared.PairAnswer.{PairAnswer}
-use Rattle.pair.specs.declared.PairAnswer.TheVariants as pair
+use Rattle.std.proofs.Common.{Result, Ok}
+use Rattle.trace.specs.declared.Refusal.{Refusal}
+use Rattle.pair.specs.declared.Verdict.{Verdict}
+use Rattle.pair.specs.declared.Verdict.TheVariants as pair
 use Rattle.pair.specs.Pair.{is_open, answered, kept_entries, PairPromise}
 use Rattle.pair.specs.Demand.{PairSuffices}
 use Rattle.pair.specs.Retelling.{GivesShortest, ShortestRetelling}
@@ -30,10 +32,10 @@ counted true k n q = let z : ◌≡◌ {A = ℕ} 0 1 = cc in absurd (omega arith
 counted false k n q = cc
 
 module _ (bytes : List ℕ) (t : Trace) (e : Accepts bytes t) where
-  gives-shortest : (width : ℕ) (clocks clocks' work work' list list' : List ℕ) (a b : ℕ) (r : PairAnswer)
+  gives-shortest : (width : ℕ) (clocks clocks' work work' list list' : List ℕ) (a b : ℕ) (r : Result Verdict Refusal)
       → PairSuffices (records_in bytes t) width (length clocks) (length work) (length list) → Race (setting_of (records_in bytes t)) a b
       → PairPromise bytes width clocks clocks' work work' list list' (a + 1) (b + 1) r
-      → (count : ℕ) → r ≡ pair.Open count → GivesShortest (records_in bytes t) a b count list list'
+      → (count : ℕ) → r ≡ Ok (pair.Open count) → GivesShortest (records_in bytes t) a b count list list'
   unfolding kept_entries
   gives-shortest width clocks clocks' work work' list list' a b r s race p count o =
       let d = third-demand.pairs bytes t e width clocks clocks' work work' list list' a b r s race p in

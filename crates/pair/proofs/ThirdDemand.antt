@@ -25,8 +25,10 @@ use Rattle.slices.proofs.Tests as tests
 use Rattle.coverage.proofs.Theorems.{race-iff}
 use Rattle.races.specs.Traces.{setting_of}
 use Rattle.races.proofs.ThirdDemand.{passes-21, passes-22, passes-23, passes-24, suffices, lists-suffice, exactly, open_by, acceptable, lists-demand}
-use Rattle.pair.specs.declared.PairAnswer.{PairAnswer}
-use Rattle.pair.specs.declared.PairAnswer.TheVariants as pair
+use Rattle.std.proofs.Common.{Result, Ok, Err}
+use Rattle.trace.specs.declared.Refusal.{Refusal}
+use Rattle.pair.specs.declared.Verdict.{Verdict}
+use Rattle.pair.specs.declared.Verdict.TheVariants as pair
 use Rattle.pair.specs.Pair.{PairMark, pair_paper, entries_given, is_record, are_records, answered, pair_filled, pair_ready, pair_reply, ListAfter, GivesCover}
 use Rattle.pair.specs.Pair.{PairPromise}
 use Rattle.pair.specs.Demand.{PairSuffices, PairDemand, SufficesExactly, ThirdDemand}
@@ -74,14 +76,14 @@ suffices-exactly = record { lists = lists-suffice; pairs = λ bytes t e width cl
 
 module _ {tr : List Record} (a : Acceptable tr) (x b : ℕ) (r : Race (setting_of tr) x b) (list list' : List ℕ) where
   -- by the mark
-  by-mark : (v : PairAnswer) (t : Bool) → coveredb (setting_of tr) x b ≡ t → pair_paper v ≡ gives (answered t (length (entries (setting_of tr) b)))
+  by-mark : (v : Result Verdict Refusal) (t : Bool) → coveredb (setting_of tr) x b ≡ t → pair_paper v ≡ gives (answered t (length (entries (setting_of tr) b)))
       → ListAfter tr x b (gives (answered t (length (entries (setting_of tr) b)))) (entries_given v) list list' → PairDemand tr x b list list' v
   unfolding answered
-  by-mark (pair.Refused f) true e q l = let z : ◌≡◌ {A = ℕ} 0 1 = cc in absurd (omega arith)
-  by-mark (pair.Refused f) false e q l = let z : ◌≡◌ {A = ℕ} 0 1 = cc in absurd (omega arith)
-  by-mark (pair.Open k) true e q l = let z : ◌≡◌ {A = ℕ} 0 1 = cc in absurd (omega arith)
-  by-mark (pair.Covered k) false e q l = let z : ◌≡◌ {A = ℕ} 0 1 = cc in absurd (omega arith)
-  by-mark (pair.Open k) false e q l =
+  by-mark (Err f) true e q l = let z : ◌≡◌ {A = ℕ} 0 1 = cc in absurd (omega arith)
+  by-mark (Err f) false e q l = let z : ◌≡◌ {A = ℕ} 0 1 = cc in absurd (omega arith)
+  by-mark (Ok (pair.Open k)) true e q l = let z : ◌≡◌ {A = ℕ} 0 1 = cc in absurd (omega arith)
+  by-mark (Ok (pair.Covered k)) false e q l = let z : ◌≡◌ {A = ℕ} 0 1 = cc in absurd (omega arith)
+  by-mark (Ok (pair.Open k)) false e q l =
       let o = exactly a x b r in
       record {
         is_answered = inl (k, refl);
@@ -89,18 +91,18 @@ module _ {tr : List Record} (a : Acceptable tr) (x b : ℕ) (r : Race (setting_o
         arrangement = λ i y. (l, subst (Accesses (setting_of tr) x b) (sym o.spelled) (o.given e));
         cover = λ i y. let z : ◌≡◌ {A = ℕ} 0 1 = cc in absurd (omega arith);
       }
-  by-mark (pair.Covered k) true e q l = record {
+  by-mark (Ok (pair.Covered k)) true e q l = record {
     is_answered = inr (k, refl);
     open_exactly = open_by a x b r _ (λ y. wrong y.0 y.1, λ y. let z : true ≡ false = sym e ∙ y in let o : ◌≡◌ {A = ℕ} 0 1 = cc in absurd (omega arith));
     arrangement = λ i y. wrong i y;
     cover = λ i y. let z : k ≡ i = cc in subst (λ (j : ℕ). GivesCover tr x b j list list') z l;
   }
     where
-      wrong : {A : Type 0} (i : ℕ) → pair.Covered k ≡ pair.Open i → A
+      wrong : {A : Type 0} (i : ℕ) → ◌≡◌ {A = Result Verdict Refusal} (Ok (pair.Covered k)) (Ok (pair.Open i)) → A
       wrong i y = let z : ◌≡◌ {A = ℕ} 0 1 = cc in absurd (omega arith)
 
 module _ (bytes : List ℕ) (t : Trace) (e : Accepts bytes t) where
-  pairs : (width : ℕ) (clocks clocks' work work' list list' : List ℕ) (a b : ℕ) (r : PairAnswer)
+  pairs : (width : ℕ) (clocks clocks' work work' list list' : List ℕ) (a b : ℕ) (r : Result Verdict Refusal)
       → PairSuffices (records_in bytes t) width (length clocks) (length work) (length list) → Race (setting_of (records_in bytes t)) a b
       → PairPromise bytes width clocks clocks' work work' list list' (a + 1) (b + 1) r → PairDemand (records_in bytes t) a b list list' r
   pairs width clocks clocks' work work' list list' a b r s race p =

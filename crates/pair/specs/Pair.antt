@@ -1,15 +1,17 @@
 -- The pair question: its reply, and the lent memory at its end. Assumes nothing.
-use Rattle.std.specs.Prelude.{ℕ, ◌+◌, ◌-◌, ◌/◌, ◌≡◌, Bool, true, false, ◌&&◌, List, [], ◌∷◌, ◌++◌, map, leb, length, drop}
+use Rattle.std.specs.Prelude.{ℕ, ◌+◌, ◌-◌, ◌/◌, ◌≡◌, Bool, true, false, ◌&&◌, List, [], ◌∷◌, ◌++◌, map, leb, length, drop, Result, Ok, Err}
 use Rattle.records.specs.declared.Record.{Record}
 use Rattle.records.specs.declared.Trace.{Trace}
 use Rattle.trace.specs.Reply.{Reply, refused, gives, demand}
+use Rattle.trace.specs.Paper.{number_of}
 use Rattle.trace.specs.Reading.{records_in, records_read}
 use Rattle.order.specs.Lent.{asking, work_for, spaced, on_clocks, clocks_after, work_after}
 use Rattle.coverage.specs.Race.{raceb}
 use Rattle.coverage.specs.Cover.{Covers}
 use Rattle.coverage.specs.Leading.{coveredb, entries}
-use Rattle.pair.specs.declared.PairAnswer.{PairAnswer}
-use Rattle.pair.specs.declared.PairAnswer.TheVariants.{Open, Covered, Refused}
+use Rattle.trace.specs.declared.Refusal.{Refusal}
+use Rattle.pair.specs.declared.Verdict.{Verdict}
+use Rattle.pair.specs.declared.Verdict.TheVariants.{Open, Covered}
 use Rattle.races.specs.Traces.{setting_of}
 
 -- "entries (event, last record kept)", "a cover as entries (first, second)"
@@ -21,16 +23,16 @@ pub data PairMark : Type 0 where
   is_open : ℕ → PairMark
   is_covered : PairMark
 
-abbrev pub pair_paper : PairAnswer → Reply PairMark
-pair_paper (Open k) = gives (is_open k)
-pair_paper (Covered k) = gives is_covered
-pair_paper (Refused f) = refused f.number f.place.0
+abbrev pub pair_paper : Result Verdict Refusal → Reply PairMark
+pair_paper (Ok (Open k)) = gives (is_open k)
+pair_paper (Ok (Covered k)) = gives is_covered
+pair_paper (Err f) = refused (number_of f.reason) f.place.0
 
 -- the number of entries that the answer names
-abbrev pub entries_given : PairAnswer → ℕ
-entries_given (Open k) = k
-entries_given (Covered k) = k
-entries_given (Refused f) = 0
+abbrev pub entries_given : Result Verdict Refusal → ℕ
+entries_given (Ok (Open k)) = k
+entries_given (Ok (Covered k)) = k
+entries_given (Err f) = 0
 
 -- "Record numbers run from 1 in trace order."
 unfoldable pub is_record : List Record → ℕ → Bool
@@ -99,7 +101,7 @@ ListAfter tr a b (gives (is_open n)) count list list' = list' ≡ with_entries (
 ListAfter tr a b (gives is_covered) count list list' = GivesCover tr a b count list list'
 
 -- The promise of the pair question: the answer, and all that is lent.
-pub record PairPromise (bytes : List ℕ) (width : ℕ) (clocks clocks' work work' list list' : List ℕ) (a b : ℕ) (r : PairAnswer) : Type 0 where
+pub record PairPromise (bytes : List ℕ) (width : ℕ) (clocks clocks' work work' list list' : List ℕ) (a b : ℕ) (r : Result Verdict Refusal) : Type 0 where
   pub answer : pair_paper r ≡ pair_reply bytes width (length clocks) (length work) (length list) a b
   pub clocks-after : clocks' ≡ clocks_after bytes (pair_ready bytes width (length clocks) (length work) a b) width clocks
   pub work-after : work' ≡ work_after (pair_ready bytes width (length clocks) (length work) a b) work

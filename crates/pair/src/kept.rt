@@ -6,23 +6,21 @@ ghost use Rattle.races.specs.loops.FilledClocks.{rows};
 ghost use Rattle.pair.specs.loops.Kept.{Starts, Split, Block, Noted, clashes, OneClashes, Bytes, Merged};
 ghost use Rattle.pair.specs.loops.Kept.{Passing, Passes, PassesAll, Markable, MarksKept};
 
+use crate::filled::Filled;
 use records::access;
-use slices::numbers::{clear, larger};
-use slices::zeros::bytes_1025;
+use slices::{clear, zeros};
 
 // The first record of the event action of record i.
 pub(crate) fn block_start(recs: &[u8], i: usize) -> usize
     ensures { Starts (decode recs.now) result i }
 {
     let e = access::event_at(recs, i);
-    let mut lo = i;
-    while 0 < lo {
-        if access::event_at(recs, lo - 1).0 != e.0 {
-            return lo;
+    for before in (0..i).rev() {
+        if access::event_at(recs, before) != e {
+            return before + 1;
         }
-        lo -= 1;
     }
-    lo
+    0
 }
 
 // A cell's byte is 2 where a kept access writes it, 1 where kept accesses only read it.
@@ -47,13 +45,11 @@ fn note(recs: &[u8], lo: usize, hi: usize, cells: &mut [u8])
     if access::count(recs) < hi {
         return;
     }
-    let mut i = lo;
-    while i < hi {
+    for i in lo..hi {
         let kind = access::base_kind_at(recs, i);
         if 4 < kind {
             note_access(cells, kind, access::cell_at(recs, i).0 as usize);
         }
-        i += 1;
     }
 }
 
@@ -77,24 +73,22 @@ fn have_conflict(recs: &[u8], lo: usize, hi: usize, cells: &[u8]) -> bool
     if access::count(recs) < hi {
         return false;
     }
-    let mut i = lo;
-    while i < hi {
+    // By `for`: with `any` a test of bounds stays in the loop, which takes the pair question up to 1.08.
+    for i in lo..hi {
         if has_conflict(recs, cells, i) {
             return true;
         }
-        i += 1;
     }
     false
 }
 
+// By index: nothing is known of what a zip leaves behind.
 fn merge_part(part: &[u16], row: &mut [u16], chains: usize)
     requires { (chains ≤ length part.now) × (chains ≤ length row.old) }
     ensures { Merged part.now 0 chains row.old row.new }
 {
-    let mut c = 0;
-    while c < chains {
-        row[c] = larger(row[c], part[c]);
-        c += 1;
+    for c in 0..chains {
+        row[c] = row[c].max(part[c]);
     }
 }
 
@@ -109,11 +103,7 @@ fn merge_into(clocks: &[u16], at: usize, row: &mut [u16], chains: usize)
 
 // Passes row t, whose records stand from lo on, before hi: it is kept where it happens before a kept one, or conflicts with one.
 fn pass_row(
-    recs: &[u8],
-    chosen: &[u16],
-    width: usize,
-    chains: usize,
-    clocks: &[u16],
+    filled: Filled<'_>,
     work: &mut [u8],
     row: &mut [u16],
     cells: &mut [u8],
@@ -121,73 +111,54 @@ fn pass_row(
     lo: usize,
     hi: usize,
 )
-    requires { Passing (decode recs.now) chosen.now width chains clocks.now work.old row.old cells.old × Block (decode recs.now) t lo hi }
-    ensures { Passes (decode recs.now) chosen.now width chains clocks.now (suc t) hi t lo
+    requires { Passing (decode filled.recs.now) filled.chosen.now filled.width filled.chains filled.clocks.now
+        work.old row.old cells.old × Block (decode filled.recs.now) t lo hi }
+    ensures { Passes (decode filled.entry.recs.now) filled.entry.chosen.now filled.entry.width filled.entry.chains filled.entry.clocks.now (suc t) hi t lo
         work.old row.old cells.old work.new row.new cells.new }
 {
-    let c = chosen[t] as usize;
-    if row[c] < clocks[t * width + c] {
-        if !have_conflict(recs, lo, hi, cells) {
+    let c = filled.chosen[t] as usize;
+    if row[c] < filled.clocks[t * filled.width + c] {
+        if !have_conflict(filled.recs, lo, hi, cells) {
             return;
         }
-        merge_into(clocks, t * width, row, chains);
+        merge_into(filled.clocks, t * filled.width, row, filled.chains);
     }
     work[t] = 1;
-    note(recs, lo, hi, cells);
+    note(filled.recs, lo, hi, cells);
 }
 
 // Passes all event actions before row u, whose records end before `end`, the last first.
 fn pass_down(
-    recs: &[u8],
-    chosen: &[u16],
-    width: usize,
-    chains: usize,
-    clocks: &[u16],
+    filled: Filled<'_>,
     work: &mut [u8],
     row: &mut [u16],
     cells: &mut [u8],
     u: usize,
     end: usize,
 )
-    requires passing { Passing (decode recs.now) chosen.now width chains clocks.now work.old row.old cells.old }
-    requires split { Split (decode recs.now) u end × (u ≤ rows (decode recs.now)) }
-    ensures { PassesAll (decode recs.now) chosen.now width chains clocks.now u end
+    requires passing { Passing (decode filled.recs.now) filled.chosen.now filled.width filled.chains filled.clocks.now work.old row.old cells.old }
+    requires split { Split (decode filled.recs.now) u end × (u ≤ rows (decode filled.recs.now)) }
+    ensures { PassesAll (decode filled.entry.recs.now) filled.entry.chosen.now filled.entry.width filled.entry.chains filled.entry.clocks.now u end
         work.old row.old cells.old work.new row.new cells.new }
 {
-    let mut t = u;
     let mut hi = end;
-    while 0 < t {
-        t -= 1;
-        let lo = block_start(recs, hi - 1);
-        pass_row(
-            recs, chosen, width, chains, clocks, work, row, cells, t, lo, hi,
-        );
+    for t in (0..u).rev() {
+        let lo = block_start(filled.recs, hi - 1);
+        pass_row(filled, work, row, cells, t, lo, hi);
         hi = lo;
     }
 }
 
 // Marks the event actions that lead to record b, of row u. The row is what happens before them.
-pub(crate) fn mark_leading(
-    recs: &[u8],
-    chosen: &[u16],
-    width: usize,
-    chains: usize,
-    clocks: &[u16],
-    work: &mut [u8],
-    row: &mut [u16],
-    u: usize,
-    b: usize,
-)
-    requires { Markable (decode recs.now) chosen.now width chains clocks.now work.old row.old u b }
-    ensures { MarksKept (decode recs.now) b work.old work.new }
+pub(crate) fn mark_leading(filled: Filled<'_>, work: &mut [u8], row: &mut [u16], u: usize, b: usize)
+    requires { Markable (decode filled.recs.now) filled.chosen.now filled.width filled.chains filled.clocks.now work.old row.old u b }
+    ensures { MarksKept (decode filled.entry.recs.now) b work.old work.new }
 {
-    let mut cells = bytes_1025();
+    let mut cells = zeros::<u8, 1025>();
     clear(row, row.len());
-    merge_into(clocks, u * width, row, chains);
-    let lo = block_start(recs, b);
-    note(recs, lo, b, &mut cells);
+    merge_into(filled.clocks, u * filled.width, row, filled.chains);
+    let lo = block_start(filled.recs, b);
+    note(filled.recs, lo, b, &mut cells);
     work[u] = 1;
-    pass_down(
-        recs, chosen, width, chains, clocks, work, row, &mut cells, u, lo,
-    );
+    pass_down(filled, work, row, &mut cells, u, lo);
 }

@@ -2,44 +2,40 @@
 #![tactic(auto)]
 
 mod cover;
+mod filled;
 mod kept;
 mod racing;
 
 ghost use Rattle.std.specs.Prelude.{◌≡◌, ◌+◌, ◌*◌, ◌≤◌, ◌<◌, length, get_or, set};
 ghost use Rattle.records.specs.Bytes.{decode};
 ghost use Rattle.ranks.specs.Ranks.{ranks_of};
-ghost use Rattle.trace.specs.Reply.{Reply};
-ghost use Rattle.order.specs.Fill.{chains_used};
 ghost use Rattle.order.specs.Paper.{Prepares};
-ghost use Rattle.coverage.specs.Race.{raceb};
 ghost use Rattle.coverage.specs.Leading.{entries};
 ghost use Rattle.races.specs.Traces.{setting_of};
-ghost use Rattle.races.specs.loops.FilledClocks.{FilledClocks, rows, Clear};
-ghost use Rattle.pair.specs.Pair.{entry_numbers, pair_paper, with_entries, kept_entries, pair_ready, PairPromise};
+ghost use Rattle.races.specs.loops.FilledClocks.{rows, Clear};
+ghost use Rattle.pair.specs.Pair.{entry_numbers, with_entries, kept_entries, pair_ready, PairPromise};
 ghost use Rattle.pair.specs.loops.Answers.{AnswersFilled};
 ghost use Rattle.pair.specs.loops.PairSearch.{PutsEnd};
 ghost use Rattle.pair.specs.loops.Leading.{Marks};
 
-use order::{Filling, Prepared};
+use crate::filled::{Filled, Ranked};
+use order::{Call, Prepared};
 use ranks::row_at;
 use records::{Operation, access};
-use slices::bytes::clear;
-use slices::numbers::{larger, smaller};
-use slices::zeros::{numbers_1024, numbers_1025};
-use trace::Refusal;
+use slices::{clear, zeros};
+use trace::{Reason, Refusal};
 
 // An entry's numbers: an event and its last record, or a race's two records.
 pub const ENTRY_NUMBERS: usize = 2;
 
-// What the pair question finds: open or covered, with the number of entries given, or why it is refused.
-#[derive(Clone, Copy)]
-pub enum PairAnswer {
+// What the pair question finds of a race, with the number of entries given.
+#[derive(Clone, Copy, PartialEq, Eq)]
+pub enum Verdict {
     Open(usize),
     Covered(usize),
-    Refused(Refusal),
 }
 
-// Writes entry k of the list space.
+// Writes entry k of the list space, whose numbers C reads.
 pub(crate) fn put_entry(list: &mut [u16], k: usize, first: u16, second: u16)
     requires { entry_numbers * k + 1 < length list.old }
     ensures { list.new ≡ set (set list.old (entry_numbers * k) first) (entry_numbers * k + 1) second }
@@ -68,84 +64,50 @@ fn put_kept(recs: &[u8], work: &[u8], b: usize, list: &mut [u16]) -> usize
 {
     let mut k = 0;
     let mut t = 0;
-    let mut i = 0;
-    while i < b {
+    for i in 0..b {
         if access::kind_at(recs, i) == 2 {
             k = put_end(recs, work, t, i, list, k);
             t += 1;
         }
-        i += 1;
     }
     put_entry(list, k, access::event_at(recs, b).0, (b + 1) as u16);
     k + 1
 }
 
-// Are records a and b a race, first then second?
-fn is_race_in_order(
-    recs: &[u8],
-    ranks: &[u16],
-    chosen: &[u16],
-    width: usize,
-    clocks: &[u16],
-    a: usize,
-    b: usize,
-) -> bool
-    requires { FilledClocks (decode recs.now) ranks.now chosen.now width clocks.now × (b < length (decode recs.now)) }
-    ensures { result ≡ raceb (setting_of (decode recs.now)) a b }
-{
-    if b <= a {
-        return false;
-    }
-    racing::is_race(recs, ranks, chosen, width, clocks, a, b)
-}
-
-fn refused(number: u16) -> PairAnswer
-    ensures { pair_paper result ≡ Reply.refused number 0 }
-{
-    PairAnswer::Refused(Refusal {
-        number: number,
-        place: Operation(0),
-    })
-}
-
 // Records a and b of an accepted trace whose clocks are filled, over a work space that is 0 for its event actions. The table of ranks is lent for what leads
 // to b, and filled again before a cover is looked for.
 fn ask_filled(
-    recs: &[u8],
+    filled: Filled<'_>,
     ranks: &mut [u16; 1025],
-    chosen: &[u16],
     events: usize,
-    width: usize,
-    chains: usize,
-    clocks: &[u16],
     work: &mut [u8],
     list: &mut [u16],
     a: usize,
     b: usize,
-) -> PairAnswer
-    requires filled_clocks { FilledClocks (decode recs.now) ranks.old chosen.now width clocks.now × (chains ≡ chains_used (decode recs.now))
-        × (b < length (decode recs.now)) }
-    requires clear { Clear (decode recs.now) events work.old }
-    ensures { AnswersFilled (decode recs.now) events a b list.old list.new result × (work.new ≡ work.old) }
+) -> Result<Verdict, Refusal>
+    requires ranks_are { (ranks.old ≡ ranks_of (decode filled.recs.now)) × (b < length (decode filled.recs.now)) }
+    requires clear { Clear (decode filled.recs.now) events work.old }
+    ensures { AnswersFilled (decode filled.entry.recs.now) events a b list.old list.new result × (work.new ≡ work.old) }
 {
-    if !is_race_in_order(recs, ranks, chosen, width, clocks, a, b) {
-        return refused(trace::NO_RACE);
+    let ranked = Ranked { filled, ranks };
+    if !ranked.is_race(a, b) {
+        return Err(Reason::NoRace.at(Operation(0)));
     }
     if list.len() / ENTRY_NUMBERS < events {
-        return refused(trace::LIST_SPACE);
+        return Err(Reason::ListSpace.at(Operation(0)));
     }
-    let t = row_at(recs, ranks, a);
-    let u = row_at(recs, ranks, b);
-    kept::mark_leading(recs, chosen, width, chains, clocks, work, ranks, u, b);
+    let t = row_at(filled.recs, ranks, a);
+    let u = row_at(filled.recs, ranks, b);
+    kept::mark_leading(filled, work, ranks, u, b);
     if work[t] == 1 {
-        ranks::fill_ranks(recs, ranks);
-        let count = cover::put_cover(recs, ranks, chosen, width, clocks, work, list, a, b);
+        ranks::fill_ranks(filled.recs, ranks);
+        let count = cover::put_cover(Ranked { filled, ranks }, work, list, a, b);
         clear(work, events);
-        return PairAnswer::Covered(count);
+        return Ok(Verdict::Covered(count));
     }
-    let count = put_kept(recs, work, b, list);
+    let count = put_kept(filled.recs, work, b, list);
     clear(work, events);
-    PairAnswer::Open(count)
+    Ok(Verdict::Open(count))
 }
 
 // Reads the trace and fills the clocks, for a question about records a and b.
@@ -162,9 +124,13 @@ fn prepare_pair(
     ensures { Prepares bytes.now (pair_ready bytes.now width (length clocks.old) room a.0 b.0) width
         clocks.old clocks.new chosen.new ranks.old ranks.new result.answer result.trace }
 {
-    let lowest = Operation(smaller(a.0, b.0));
-    let highest = Operation(larger(a.0, b.0));
-    order::prepare(bytes, lowest, highest, width, room, clocks, chosen, ranks)
+    let call = Call {
+        lowest: a.min(b),
+        highest: a.max(b),
+        width,
+        room,
+    };
+    order::prepare(bytes, call, clocks, chosen, ranks)
 }
 
 // The pair question: clocks are filled on the way, and entries are two numbers each in the list space.
@@ -176,34 +142,26 @@ pub fn ask_pair(
     list: &mut [u16],
     a: Operation,
     b: Operation,
-) -> PairAnswer
+) -> Result<Verdict, Refusal>
     ensures { PairPromise bytes.now width clocks.old clocks.new
         work.old work.new list.old list.new a.0 b.0 result }
 {
-    let mut chosen = numbers_1024();
-    let mut ranks = numbers_1025();
+    let mut chosen = zeros::<u16, 1024>();
+    let mut ranks = zeros::<u16, 1025>();
     let room = work.len();
     let prepared = prepare_pair(bytes, a, b, width, room, clocks, &mut chosen, &mut ranks);
     let t = prepared.trace;
     let events = t.events;
     clear(work, events);
-    let answer = prepared.answer;
-    let Filling::Filled(chains) = answer else {
-        return PairAnswer::Refused(order::refusal_of(answer));
-    };
+    let chains = prepared.answer?;
     let i = (a.0 - 1) as usize;
     let j = (b.0 - 1) as usize;
-    ask_filled(
-        access::records(bytes, t),
-        &mut ranks,
-        &chosen,
-        events,
+    let filled = Filled {
+        recs: access::records(bytes, t),
+        chosen: &chosen,
         width,
         chains,
         clocks,
-        work,
-        list,
-        i,
-        j,
-    )
+    };
+    ask_filled(filled, &mut ranks, events, work, list, i, j)
 }

@@ -4,12 +4,13 @@ ghost use Rattle.pair_lists.specs.Pairs.{PairLists};
 ghost use Rattle.pair_cases.specs.FourPairs.{zero_pairs};
 
 use pair_lists::{Pair, all_races_into, short_list_into};
-use races::Listing;
+use races::Summary;
 use records::{Operation, Var};
+use trace::Refusal;
 
 #[derive(Clone, Copy)]
 pub(crate) struct Few {
-    pub answer: Listing,
+    pub answer: Result<Summary, Refusal>,
     pub pairs: [Pair; 4],
 }
 

@@ -6,8 +6,9 @@ mod four;
 
 use four::Few;
 use pair_lists::Pair;
-use races::Listing;
+use races::Summary;
 use trace::Refusal;
+use trials::line::{self, number, word};
 
 // T: begin 1, fork 1 2, fork 1 3, end 1, begin 2, write 2 1, write 2 2, end 2, begin 3, read 3 2, read 3 1, end 3.
 const T: [u8; 68] = [
@@ -30,35 +31,24 @@ const V: [u8; 78] = [
     0, 2, 3, 0, 0, 0, 70, 0, 0, 0, 3, 0, 1, 167,
 ];
 
-fn word(text: &[u8]) {
-    io::write_all(1, text);
-}
-
-fn number(n: usize) {
-    io::write_all(1, b" ");
-    io::print_decimal(1, n as u64);
-}
-
 fn small(n: u16) {
     number(n as usize);
 }
 
 fn refusal(f: Refusal) {
-    word(b" refused");
-    small(f.number);
-    small(f.place.0);
+    line::refusal(f.reason.number(), f.place.0);
 }
 
-fn listing(r: Listing) {
+fn listing(r: Result<Summary, Refusal>) {
     match r {
-        Listing::Listed(s) => {
+        Ok(s) => {
             word(b" listed");
             number(s.events);
             number(s.records);
             number(s.chains);
             number(s.count);
         }
-        Listing::Refused(f) => refusal(f),
+        Err(f) => refusal(f),
     }
 }
 

@@ -17,13 +17,12 @@ use Rattle.trace.proofs.Accepted.{records-read}
 use Rattle.trace.proofs.ReplyLaws.{same-given, passed}
 use Rattle.order.specs.Lent.{work_for}
 use Rattle.order.proofs.LentLaws as lent
-use Rattle.races.specs.declared.Listing.{Listing}
-use Rattle.races.specs.declared.Listing.TheVariants.{Listed, Refused}
+use Rattle.std.proofs.Common.{Result, Ok, Err}
+use Rattle.trace.specs.declared.Refusal.{Refusal}
 use Rattle.races.specs.declared.Summary.{Summary}
 use Rattle.races.specs.Lists.{pairs_of, entry, numbers, list_for, list_filled, list_ready, list_reply, list_after}
 use Rattle.races.specs.Paper.{list_paper, Lists}
 use Rattle.pair_lists.specs.declared.Pair.{Pair}
-use Rattle.pair_lists.specs.declared.Made.{Made}
 use Rattle.pair_lists.specs.Pairs.{no_pair, pair_of, space, pairs_after, PairLists}
 use Rattle.pair_lists.specs.loops.Copying.{count_in, Within, pair_at, puts}
 
@@ -32,10 +31,10 @@ unfoldable count_of : Reply Summary → ℕ
 count_of (refused n p) = 0
 count_of (gives s) = s.count
 
-counted_is : (l : Listing) → count_in l ≡ count_of (list_paper l)
+counted_is : (l : Result Summary Refusal) → count_in l ≡ count_of (list_paper l)
 unfolding count_of
-counted_is (Listed s) = refl
-counted_is (Refused f) = refl
+counted_is (Ok s) = refl
+counted_is (Err f) = refl
 
 unfoldable Fine : List (ℕ × ℕ) → ℕ → Reply Summary → Type 0
 Fine ps list (refused n p) = Unit {0}
@@ -142,9 +141,9 @@ module _ (short : Bool) (b : List ℕ) (width clocks work : ℕ) where
 -- ---- the promises
 module _ {short : Bool} {b : List ℕ} {width : ℕ} {clocks clocks' work work' : List ℕ} where
   -- the list over a front of the numbers
-  pub within : (l part' : List ℕ) (k room n : ℕ) (r : Listing) → k ≡ space (length l) room → n ≡ count_in r → Lists short b width clocks clocks' work work' (take k l) part' r
-      → Within short b width clocks clocks' work work' l (part' ++ drop k l) room (record { answer = r; count = n })
-  within l part' k room n r e c w =
+  pub within : (l part' : List ℕ) (k room : ℕ) (r : Result Summary Refusal) → k ≡ space (length l) room → Lists short b width clocks clocks' work work' (take k l) part' r
+      → Within short b width clocks clocks' work work' l (part' ++ drop k l) room r
+  within l part' k room r e w =
       let h : k ≤ length l = subst (λ (i : ℕ). i ≤ length l) (sym e) (min-le_left (length l) (5 * room)) in
       let t = length-take-le k l h in
       record {
@@ -153,14 +152,13 @@ module _ {short : Bool} {b : List ℕ} {width : ℕ} {clocks clocks' work work' 
         work-after = w.work-after;
         numbers_after = ap (λ (xs : List ℕ). xs ++ drop k l) w.list-after ∙ front_read short b width (length clocks) (length work) k l t
             ∙ ap (λ (i : ℕ). list_after (records_read b) (list_reply short b width (length clocks) (length work) i) (pairs_of (records_read b) short) l) e;
-        counted = c;
       }
 
-  module _ {l l' : List ℕ} {room : ℕ} {m : Made} (w : Within short b width clocks clocks' work work' l l' room m) where
-    count-is : m.count ≡ count_of (list_reply short b width (length clocks) (length work) (space (length l) room))
-    count-is = w.counted ∙ counted_is m.answer ∙ ap count_of w.answer
+  module _ {l l' : List ℕ} {room : ℕ} {r : Result Summary Refusal} (w : Within short b width clocks clocks' work work' l l' room r) where
+    count-is : count_in r ≡ count_of (list_reply short b width (length clocks) (length work) (space (length l) room))
+    count-is = counted_is r ∙ ap count_of w.answer
 
-    pub fits : (m.count ≤ room) × (5 * m.count ≤ length l)
+    pub fits : (count_in r ≤ room) × (5 * count_in r ≤ length l)
     fits =
         let f = fine-reply short b width (length clocks) (length work) (space (length l) room) in
         let p = room_of _ (space (length l) room) room _ (min-le_right (length l) (5 * room)) f in
@@ -168,9 +166,9 @@ module _ {short : Bool} {b : List ℕ} {width : ℕ} {clocks clocks' work work' 
         let h = min-le_left (length l) (5 * room) in
         (omega (arith, p, count-is), omega (arith, q, h, count-is))
 
-  pub copied : {l l' : List ℕ} {pairs pairs' : List Pair} {m : Made} → Within short b width clocks clocks' work work' l l' (length pairs) m → pairs' ≡ puts pairs l' m.count
-      → PairLists short b width clocks clocks' work work' l l' pairs pairs' m.answer
-  copied {l} {l'} {pairs} {pairs'} {m} w e = record {
+  pub copied : {l l' : List ℕ} {pairs pairs' : List Pair} {r : Result Summary Refusal} → Within short b width clocks clocks' work work' l l' (length pairs) r → pairs' ≡ puts pairs l' (count_in r)
+      → PairLists short b width clocks clocks' work work' l l' pairs pairs' r
+  copied {l} {l'} {pairs} {pairs'} {r} w e = record {
     answer = w.answer;
     clocks-after = w.clocks-after;
     work-after = w.work-after;
@@ -179,7 +177,7 @@ module _ {short : Bool} {b : List ℕ} {width : ℕ} {clocks clocks' work work' 
   }
 
   -- the pairs and the numbers say the same: each of the first pairs is what five numbers say
-  pub both_say : {l l' : List ℕ} {pairs pairs' : List Pair} {r : Listing} → PairLists short b width clocks clocks' work work' l l' pairs pairs' r → pairs' ≡ puts pairs l' (count_in r)
+  pub both_say : {l l' : List ℕ} {pairs pairs' : List Pair} {r : Result Summary Refusal} → PairLists short b width clocks clocks' work work' l l' pairs pairs' r → pairs' ≡ puts pairs l' (count_in r)
   both_say {l} {l'} {pairs} {pairs'} {r} w =
       let c : count_in r ≡ count_of (list_reply short b width (length clocks) (length work) (space (length l) (length pairs))) = counted_is r ∙ ap count_of w.answer in
       w.pairs-after ∙ sym (rw (w.numbers_after, c) (pairs-read short b width (length clocks) (length work) (space (length l) (length pairs)) l pairs (min-le_right (length l) (5 * length pairs))))

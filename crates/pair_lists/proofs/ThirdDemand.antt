@@ -13,7 +13,9 @@ use Rattle.records.specs.declared.Trace.{Trace}
 use Rattle.trace.specs.Reply.{unless}
 use Rattle.trace.specs.Reading.{records_in, Accepts}
 use Rattle.trace.proofs.Accepted.{records-read}
-use Rattle.races.specs.declared.Listing.{Listing}
+use Rattle.std.proofs.Common.{Result}
+use Rattle.trace.specs.declared.Refusal.{Refusal}
+use Rattle.races.specs.declared.Summary.{Summary}
 use Rattle.races.specs.Lists.{pairs_of, numbers}
 use Rattle.races.specs.Demand as over-numbers
 use Rattle.races.specs.Demand.{ListSuffices, ListAnswers}
@@ -87,7 +89,7 @@ module _ (bytes : List ℕ) (t : Trace) (e : Accepts bytes t) where
   abbrev tr : List Record
   tr = records_in bytes t
 
-  lists : (short : Bool) (width : ℕ) (clocks clocks' work work' list list' : List ℕ) (pairs pairs' : List Pair) (r : Listing)
+  lists : (short : Bool) (width : ℕ) (clocks clocks' work work' list list' : List ℕ) (pairs pairs' : List Pair) (r : Result Summary Refusal)
       → PairListSuffices tr short width (length clocks) (length work) (length list) (length pairs)
       → PairLists short bytes width clocks clocks' work work' list list' pairs pairs' r → ListAnswers tr short (Calls pairs') (Names pairs') r
   unfolding pairs_after unless

@@ -1,9 +1,10 @@
 -- The third demand for the lists as pair structs. Assumes nothing.
-use Rattle.std.specs.Prelude.{ℕ, ◌+◌, ◌/◌, ◌<◌, min, ◌≡◌, Bool, List, length, get_or}
+use Rattle.std.specs.Prelude.{ℕ, ◌+◌, ◌/◌, ◌<◌, min, ◌≡◌, Bool, List, length, get_or, Result}
 use Rattle.records.specs.declared.Record.{Record}
 use Rattle.records.specs.declared.Trace.{Trace}
 use Rattle.trace.specs.Reading.{records_in, Accepts}
-use Rattle.races.specs.declared.Listing.{Listing}
+use Rattle.trace.specs.declared.Refusal.{Refusal}
+use Rattle.races.specs.declared.Summary.{Summary}
 use Rattle.races.specs.Lists.{entry_numbers, pairs_of}
 use Rattle.races.specs.Demand.{Suffices, ListAnswers}
 use Rattle.pair_lists.specs.declared.Pair.{Pair}
@@ -31,7 +32,7 @@ PairListSuffices tr short width clocks work numbers pairs = Suffices tr width cl
 -- "Take every accepted trace, whatever the lent spaces held before, so long as they and the clock width suffice for the call."
 pub record ThirdDemand : Type 0 where
   pub lists : (bytes : List ℕ) (t : Trace) → Accepts bytes t
-      → (short : Bool) (width : ℕ) (clocks clocks' work work' numbers numbers' : List ℕ) (pairs pairs' : List Pair) (r : Listing)
+      → (short : Bool) (width : ℕ) (clocks clocks' work work' numbers numbers' : List ℕ) (pairs pairs' : List Pair) (r : Result Summary Refusal)
       → PairListSuffices (records_in bytes t) short width (length clocks) (length work) (length numbers) (length pairs)
       → PairLists short bytes width clocks clocks' work work' numbers numbers' pairs pairs' r
       → ListAnswers (records_in bytes t) short (Calls pairs') (Names pairs') r

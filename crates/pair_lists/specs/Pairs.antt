@@ -1,5 +1,5 @@
 -- Both lists as pair structs: their entries, and the promise. Assumes nothing.
-use Rattle.std.specs.Prelude.{ℕ, ◌+◌, ◌*◌, min, ◌≡◌, Bool, List, ◌++◌, map, length, drop}
+use Rattle.std.specs.Prelude.{ℕ, ◌+◌, ◌*◌, min, ◌≡◌, Bool, List, ◌++◌, map, length, drop, Result}
 use Rattle.records.specs.declared.Record.{Record}
 use Rattle.records.specs.declared.Operation.{Operation}
 use Rattle.records.specs.declared.Var.{Var}
@@ -7,7 +7,7 @@ use Rattle.records.specs.Records.{at}
 use Rattle.trace.specs.Reply.{Reply, unless}
 use Rattle.trace.specs.Reading.{records_read}
 use Rattle.order.specs.Lent.{clocks_after, work_after}
-use Rattle.races.specs.declared.Listing.{Listing}
+use Rattle.trace.specs.declared.Refusal.{Refusal}
 use Rattle.races.specs.declared.Summary.{Summary}
 use Rattle.races.specs.Lists.{entry_numbers, pairs_of, shape_of, mark_of, list_ready, list_reply, list_after}
 use Rattle.races.specs.Paper.{list_paper}
@@ -39,7 +39,7 @@ pairs_after tr reply ps pairs = unless reply pairs (λ s. map (pair_of tr) ps ++
 
 -- a list, short or of all races: the answer, the lent clocks, work space and numbers, and the lent pairs
 pub record PairLists (short : Bool) (b : List ℕ) (width : ℕ) (clocks clocks' work work' numbers numbers' : List ℕ) (pairs pairs' : List Pair)
-    (r : Listing) : Type 0 where
+    (r : Result Summary Refusal) : Type 0 where
   pub answer : list_paper r ≡ list_reply short b width (length clocks) (length work) (space (length numbers) (length pairs))
   pub clocks-after : clocks' ≡ clocks_after b (list_ready b width (length clocks) (length work)) width clocks
   pub work-after : work' ≡ work_after (list_ready b width (length clocks) (length work)) work

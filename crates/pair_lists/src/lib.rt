@@ -5,10 +5,11 @@ ghost use Rattle.std.specs.Prelude.{◌≡◌, true, false, ◌+◌, ◌*◌, �
 ghost use Rattle.races.specs.Lists.{entry_numbers};
 ghost use Rattle.races.specs.Paper.{Lists};
 ghost use Rattle.pair_lists.specs.Pairs.{space, PairLists};
-ghost use Rattle.pair_lists.specs.loops.Copying.{count_in, Within, pair_at, puts};
+ghost use Rattle.pair_lists.specs.loops.Copying.{Within, pair_at, puts};
 
-use races::{ENTRY_NUMBERS, Listing};
+use races::{ENTRY_NUMBERS, Summary};
 use records::{Operation, Var};
+use trace::Refusal;
 
 // An entry of a list: its first and second record, its cell, its shape (1 ww, 2 wr, 3 rw) and its mark (1 open, 0 covered).
 #[derive(Clone, Copy)]
@@ -18,22 +19,6 @@ pub struct Pair {
     pub cell: Var,
     pub shape: u16,
     pub mark: u16,
-}
-
-// What a list over numbers finds, and how many entries it has written.
-#[derive(Clone, Copy)]
-pub(crate) struct Made {
-    pub answer: Listing,
-    pub count: usize,
-}
-
-fn count_of(answer: Listing) -> usize
-    ensures { result ≡ count_in answer }
-{
-    match answer {
-        Listing::Listed(s) => s.count,
-        Listing::Refused(_) => 0,
-    }
 }
 
 // How many numbers the list may have, so that its entries fit in both spaces.
@@ -53,7 +38,7 @@ fn list_numbers(
     work: &mut [u8],
     list: &mut [u16],
     short: bool,
-) -> Listing
+) -> Result<Summary, Refusal>
     ensures { Lists short bytes.now width clocks.old clocks.new work.old work.new
         list.old list.new result }
 {
@@ -72,16 +57,12 @@ fn list_within(
     numbers: &mut [u16],
     room: usize,
     short: bool,
-) -> Made
+) -> Result<Summary, Refusal>
     ensures { Within short bytes.now width clocks.old clocks.new work.old work.new
         numbers.old numbers.new room result }
 {
     let space = space_for(numbers.len(), room);
-    let answer = list_numbers(bytes, width, clocks, work, &mut numbers[..space], short);
-    Made {
-        answer: answer,
-        count: count_of(answer),
-    }
+    list_numbers(bytes, width, clocks, work, &mut numbers[..space], short)
 }
 
 // The pair that an entry's numbers say.
@@ -104,10 +85,8 @@ fn copy_out(pairs: &mut [Pair], numbers: &[u16], n: usize)
     requires { (n ≤ length pairs.old) × (entry_numbers * n ≤ length numbers.now) }
     ensures { pairs.new ≡ puts pairs.old numbers.now n }
 {
-    let mut i = 0;
-    while i < n {
+    for i in 0..n {
         pairs[i] = pair_at(numbers, i);
-        i += 1;
     }
 }
 
@@ -120,13 +99,13 @@ fn list_into(
     numbers: &mut [u16],
     pairs: &mut [Pair],
     short: bool,
-) -> Listing
+) -> Result<Summary, Refusal>
     ensures { PairLists short bytes.now width clocks.old clocks.new work.old work.new
         numbers.old numbers.new pairs.old pairs.new result }
 {
-    let made = list_within(bytes, width, clocks, work, numbers, pairs.len(), short);
+    let made = list_within(bytes, width, clocks, work, numbers, pairs.len(), short)?;
     copy_out(pairs, numbers, made.count);
-    made.answer
+    Ok(made)
 }
 
 // The list of all races of a trace, written into the pairs. The numbers are the list's space while it is made.
@@ -137,7 +116,7 @@ pub fn all_races_into(
     work: &mut [u8],
     numbers: &mut [u16],
     pairs: &mut [Pair],
-) -> Listing
+) -> Result<Summary, Refusal>
     ensures { PairLists false bytes.now width clocks.old clocks.new work.old work.new
         numbers.old numbers.new pairs.old pairs.new result }
 {
@@ -152,7 +131,7 @@ pub fn short_list_into(
     work: &mut [u8],
     numbers: &mut [u16],
     pairs: &mut [Pair],
-) -> Listing
+) -> Result<Summary, Refusal>
     ensures { PairLists true bytes.now width clocks.old clocks.new work.old work.new
         numbers.old numbers.new pairs.old pairs.new result }
 {

@@ -1,5 +1,4 @@
 -- What happens before the third event action of trace T, by marks: the first, and itself. Assumes nothing.
-use Prim.Native.Nat.{ℕ}
 use mathlib.Core.Path.{◌≡◌, refl}
 use mathlib.Core.List.{[], ◌∷◌}
 use Rattle.order.specs.Chains.{bit}

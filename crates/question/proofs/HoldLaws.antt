@@ -9,15 +9,16 @@ use borrow.Author.Tests.{le-leb, lt-leb, eq-eqb, ne_eqb}
 use lib.Dec.{eqb}
 use lib.ListN.{length, get_or, set, replicate, length-set, length-append, length-replicate}
 use lib.Seq.{get_or-set_same, get_or-set_other}
-use Rattle.slices.specs.Slices.{zeros}
-use Rattle.slices.proofs.Cleared.{zeros-at}
+use Rattle.slices.specs.Slices.{filled}
+use Rattle.slices.proofs.Cleared.{zeros-at, zeros-length}
 use Rattle.order.specs.Links.{Links, leq}
 use Rattle.order.specs.Chains.{lasts, chain, used}
 use Rattle.order.specs.Clocks.{table, chain_of}
 use Rattle.order.proofs.ChainLaws.{chain-le-used, used-zero, used-suc, last-own, last-other}
 use Rattle.order.proofs.RowLaws.{table-length}
 use Rattle.order.proofs.FillTable.{chains_of, chains-more}
-use Rattle.question.specs.loops.ChainPass.{Members, own_chain, enter_chain, AreMembers}
+use Rattle.question.specs.declared.chains.Members.{Members}
+use Rattle.question.specs.loops.ChainPass.{own_chain, enter_chain, no_members}
 
 pub enter-room : (x y w u : ℕ) (s : Members) (c : ℕ) → c < w
     → enter_chain x y w u s c
@@ -39,11 +40,6 @@ own-entry asked u c chosen h = go (ℕ_discrete u asked)
     go (yes e) = rw (← e, eq-eqb u u refl) (sym (get_or-set_same chosen u c 0 h))
     go (no n) = rw (ne_eqb u asked n) (sym (get_or-set_other chosen u asked c 0 (λ e. n (sym e))))
 
--- what the code has is what the definition says
-pub are-members : (s : Members) (ls : List ℕ) (chains first second : ℕ) → AreMembers s ls chains first second
-    → record { lasts = ls; chains = chains; first = first; second = second } ≡ s
-are-members s ls chains first second e = rw (e.lasts_are, e.chains_are, e.first-is, e.second_is)
-
 module _ (l : Links) (x y w : ℕ) where
   abbrev le : ℕ → ℕ → Bool
   le = leq l
@@ -57,11 +53,11 @@ module _ (l : Links) (x y w : ℕ) where
     pub first-is : s.first ≡ get_or (chains_of l u) x 0
     pub second_is : s.second ≡ get_or (chains_of l u) y 0
 
-  pub holding-start : (ls : List ℕ) → length ls ≡ 1024 → Holding 0 (record { lasts = ls; chains = 0; first = 0; second = 0 })
-  unfolding zeros table
-  holding-start ls h = record {
+  pub holding-start : Holding 0 no_members
+  unfolding filled table
+  holding-start = record {
     lasts_are = λ c k. absurd (omega (arith, used-zero le));
-    lasts_size = h;
+    lasts_size = zeros-length 1024;
     chains_are = sym (used-zero le);
     chains_fit = omega arith;
     first-is = sym (zeros-at 1024 x);

@@ -6,7 +6,7 @@ use mathlib.Core.Bool.{Bool, true, false, cond, ◌&&◌, ◌||◌, or-true, or-
 use mathlib.Core.List.{List}
 use native.Mathlib.Omega.{arith}
 use lib.Dec.{eqb}
-use lib.ListN.{length, get_or, set, length-set, length-replicate, get_or-replicate, get_or-eq_default}
+use lib.ListN.{length, set, length-set}
 use lib.Seq.{get_or-set_same, get_or-set_other}
 use borrow.Author.Tests.{eq-eqb, ne_eqb}
 use Rattle.order.specs.Links.{Links, Forward, leq}
@@ -16,7 +16,7 @@ use Rattle.order.specs.loops.Standing.{begins, Stands, Ordered, Makes}
 use Rattle.slices.specs.Slices.{zeros}
 use Rattle.slices.proofs.Cleared.{zeros-length, zeros-at}
 use Rattle.question.specs.loops.Marking.{mark_by, marks_down, marked, mark_in, marks_down_in, marks_in}
-use Rattle.slices.proofs.Tests.{decide_eq, decide-lt}
+use Rattle.slices.proofs.Tests.{decide_eq}
 use Rattle.order.proofs.ScheduleLaws.{begins-mono}
 use Rattle.question.proofs.MarkLaws.{marks_begin}
 
@@ -25,6 +25,13 @@ pub marks-down : (op : ℕ → Ordering) (i : ℕ) (ms : List ℕ) → 0 < i →
 unfolding marks_down_in
 marks-down op zero ms h = absurd (omega arith)
 marks-down op (suc i) ms h = let e : suc i - 1 ≡ i = omega arith in rw e
+
+-- a record that says no link marks nothing
+pub unlinked : (o : Ordering) → ((p u : ℕ) → o ≡ Link p u → ⊥) → (ms : List ℕ) → mark_in o ms ≡ ms
+unfolding mark_in
+unlinked (Link p u) n ms = absurd (n p u refl)
+unlinked (Begin u) n ms = refl
+unlinked Nothing n ms = refl
 
 pub mark-in-length : (o : Ordering) (ms : List ℕ) → length (mark_in o ms) ≡ length ms
 unfolding mark_in

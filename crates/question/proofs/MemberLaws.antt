@@ -9,12 +9,11 @@ use native.Mathlib.Omega.{arith}
 use native.Mathlib.Numerals.{add-one}
 use lib.ListN.{length, get_or}
 use Rattle.records.specs.declared.Record.{Record}
-use Rattle.records.specs.Records.{at}
 use Rattle.records.specs.Kinds.{has_send}
 use Rattle.trace.specs.Reading.{Acceptable}
 use Rattle.records.proofs.Positions.{lt-or-ge}
 use Rattle.order.specs.Links.{leq}
-use Rattle.order.specs.Chains.{lasts, chain, used, needs, first}
+use Rattle.order.specs.Chains.{lasts, chain, used, needs}
 use Rattle.order.specs.loops.Standing.{begins}
 use Rattle.question.specs.loops.Marking.{marked, marks_in, marks_down_in, mark_in}
 use Rattle.ranks.specs.declared.Ordering.{Ordering}
@@ -24,16 +23,26 @@ use Rattle.order.specs.HappensBefore.{trace_links}
 use Rattle.ranks.specs.Ranks.{ranks_of}
 use Rattle.order.specs.Fill.{events_in, row_past_width, chain_table}
 use Rattle.order.specs.loops.PassEnds.{Short}
-use Rattle.question.specs.loops.ChainPass.{Members, marked_chain, enter_chain, said_by, turn_members, RoomFor, AreMembers, ReadyChains, PassesChains}
+use Rattle.question.specs.declared.chains.Members.{Members}
+use Rattle.question.specs.loops.ChainPass.{marked_chain, enter_chain, no_members, said_by, turn_members, RoomFor, ReadyChains, PassesChains}
 use Rattle.order.proofs.CountLaws.{first_from-local}
 use Rattle.order.proofs.ChainLaws.{chain-search, needs-at, needs-none}
 use Rattle.order.proofs.ScheduleLaws.{begins-zero, begins-suc}
 use Rattle.question.proofs.MarkListLaws.{marks-list}
-use Rattle.question.proofs.HoldLaws.{Holding, enter-room, enter-full, are-members, holding-start, holding-next}
+use Rattle.question.proofs.HoldLaws.{Holding, enter-room, enter-full, holding-start, holding-next}
 use Rattle.order.proofs.RankLaws.{ops-are}
 use Rattle.order.proofs.RecordOrder.{records-make, ops-ordered}
 use Rattle.order.proofs.TraceOrder.{forward-links}
 use Rattle.order.proofs.PassLaws.{events_are, few, begun-below, begin-position}
+
+-- a record that says no begin leaves the members
+pub unbegun :
+    (ranks : List ℕ) (tr : List Record) (x y w i : ℕ) (o : Ordering) → ((u : ℕ) → o ≡ Begin u → ⊥) → (m : Members) →
+    turn_members ranks tr x y w i o m ≡ m
+unfolding turn_members
+unbegun ranks tr x y w i (Link p u) n m = refl
+unbegun ranks tr x y w i (Begin u) n m = absurd (n u refl)
+unbegun ranks tr x y w i Nothing n m = refl
 
 -- the marks go by what the records say, and so by whatever says the same
 down-same : (f g : ℕ → Ordering) → ((i : ℕ) → f i ≡ g i) → (i : ℕ) (ms : List ℕ) → marks_down_in f i ms ≡ marks_down_in g i ms
@@ -55,8 +64,8 @@ module _ {tr : List Record} (a : Acceptable tr) (x y w : ℕ) (narrow : w ≤ 10
   abbrev pub Keeping : ℕ → Members → Type 0
   Keeping i s = Holding (trace_links tr) x y w (begins op i) s
 
-  pub keeping_start : (ls : List ℕ) → length ls ≡ 1024 → Keeping 0 (record { lasts = ls; chains = 0; first = 0; second = 0 })
-  keeping_start ls h = rw (begins-zero op) (holding-start (trace_links tr) x y w ls h)
+  pub keeping_start : Keeping 0 no_members
+  keeping_start = rw (begins-zero op) (holding-start (trace_links tr) x y w)
 
   module _ (i : ℕ) (s : Members) (h : i < n) (k : Keeping i s) where
     -- the chain found is the chain
@@ -150,48 +159,47 @@ module _ {tr : List Record} (a : Acceptable tr) (x y w : ℕ) (narrow : w ≤ 10
 
 -- The loop of the pass, turn by turn.
 module _ (tr : List Record) (x y w : ℕ) (ranks : List ℕ) where
-  pub record Going (ls : List ℕ) (chains first second i : ℕ) : Type 0 where
+  pub record Going (s : Members) (i : ℕ) : Type 0 where
     pub within : i ≤ length tr
     pub acceptable : Acceptable tr
     pub no_sends : has_send tr ≡ false
     pub narrow : w ≤ 1024
     pub ranks_are : ranks ≡ ranks_of tr
-    pub keeping : Keeping acceptable x y w narrow i (record { lasts = ls; chains = chains; first = first; second = second })
+    pub keeping : Keeping acceptable x y w narrow i s
 
-  pub going_start : (ls : List ℕ) → length ls ≡ 1024 → ReadyChains tr w ranks → has_send tr ≡ false → Going ls 0 0 0 0
-  going_start ls h r ns = record {
+  pub going_start : ReadyChains tr w ranks → has_send tr ≡ false → Going no_members 0
+  going_start r ns = record {
     within = omega arith;
     acceptable = r.acceptable;
     no_sends = ns;
     narrow = r.narrow;
     ranks_are = r.ranks_are;
-    keeping = keeping_start r.acceptable x y w r.narrow ls h;
+    keeping = keeping_start r.acceptable x y w r.narrow;
   }
 
-  module _ {ls : List ℕ} {chains first second i : ℕ} (g : Going ls chains first second i) where
-    pub going-room : i < length tr → RoomFor (said_by ranks tr i) (record { lasts = ls; chains = chains; first = first; second = second })
-    going-room h = rw (g.ranks_are, ops-are g.acceptable i) (keeping-room g.acceptable x y w g.narrow i _ h g.keeping)
+  module _ {s : Members} {i : ℕ} (g : Going s i) where
+    pub going-room : i < length tr → RoomFor (said_by ranks tr i) s
+    going-room h = rw (g.ranks_are, ops-are g.acceptable i) (keeping-room g.acceptable x y w g.narrow i s h g.keeping)
 
-    module _ (h : i < length tr) (ls' : List ℕ) (next first' second' : ℕ)
-        (t : AreMembers (turn_members ranks tr x y w i (said_by ranks tr i) (record { lasts = ls; chains = chains; first = first; second = second })) ls' next first' second') where
-      pub going_next : next ≤ w → Going ls' next first' second' (i + 1)
+    module _ (h : i < length tr) (s' : Members) (t : s' ≡ turn_members ranks tr x y w i (said_by ranks tr i) s) where
+      pub going_next : s'.chains ≤ w → Going s' (i + 1)
       going_next l = record {
         within = omega arith;
         acceptable = g.acceptable;
         no_sends = g.no_sends;
         narrow = g.narrow;
         ranks_are = g.ranks_are;
-        keeping = rw (add-one i, are-members _ ls' next first' second' t) (keeping-next g.acceptable x y w g.narrow i _ h g.keeping ranks g.ranks_are g.no_sends (rw (← t.chains_are) l));
+        keeping = rw (add-one i, t) (keeping-next g.acceptable x y w g.narrow i s h g.keeping ranks g.ranks_are g.no_sends (rw t at l));
       }
 
-      pub going-stop : w < next → PassesChains tr x y w i first' second'
+      pub going-stop : w < s'.chains → PassesChains tr x y w i s'.first s'.second
       going-stop l =
-          let s = keeping-stop g.acceptable x y w g.narrow i _ h g.keeping ranks g.ranks_are g.no_sends (rw t.chains_are at l) in
-          record { whole = λ e. absurd (s.0 e); short = λ n. s.1 }
+          let z = keeping-stop g.acceptable x y w g.narrow i s h g.keeping ranks g.ranks_are g.no_sends (rw t at l) in
+          record { whole = λ e. absurd (z.0 e); short = λ n. z.1 }
 
-    pub going_end : length tr ≤ i → PassesChains tr x y w i first second
+    pub going_end : length tr ≤ i → PassesChains tr x y w (length tr) s.first s.second
     going_end h =
         let l = g.within in
         let e : i ≡ length tr = omega arith in
-        let k = keeping-end g.acceptable x y w g.narrow _ (rw e at g.keeping) in
-        record { whole = λ z. (k.1, k.2, e); short = λ n. absurd (n k.0) }
+        let k = keeping-end g.acceptable x y w g.narrow s (rw e at g.keeping) in
+        record { whole = λ z. (k.1, k.2, refl); short = λ n. absurd (n k.0) }

@@ -6,11 +6,11 @@ use mathlib.Core.List.{List}
 use mathlib.Core.Logic.{◌⊎◌, inl, inr}
 use native.Mathlib.Omega.{arith}
 use native.Mathlib.Numerals.{add-one}
-use lib.ListN.{length, get_or}
+use lib.ListN.{get_or}
 use Rattle.slices.proofs.Tests.{decide-lt}
 use Rattle.records.specs.declared.Record.{Record}
 use Rattle.order.specs.Links.{Links, leq}
-use Rattle.order.specs.Chains.{first, lasts, chain, used}
+use Rattle.order.specs.Chains.{lasts, chain, used}
 use Rattle.order.specs.HappensBefore.{trace_links}
 use Rattle.order.specs.Fill.{events_in, begin_position, row_past_width, chain_table}
 use Rattle.order.specs.loops.FromTable.{Tells}
@@ -18,9 +18,10 @@ use Rattle.order.proofs.CountLaws.{first_from-local}
 use Rattle.order.proofs.ChainLaws.{chain-search, lasts-last, needs-at, needs-none}
 use Rattle.order.proofs.TableLaws.{events-few}
 use Rattle.order.proofs.TablePass.{position-whole, position-short}
-use Rattle.question.specs.loops.ChainPass.{Members, enter_chain, AreMembers, ReadyChains, PassesChains}
+use Rattle.question.specs.declared.chains.Members.{Members}
+use Rattle.question.specs.loops.ChainPass.{enter_chain, no_members, ReadyChains, PassesChains}
 use Rattle.question.specs.loops.TableChains.{bit_chain, ReadyRows, EntersRows}
-use Rattle.question.proofs.HoldLaws.{Holding, enter-room, enter-full, are-members, holding-start, holding-next}
+use Rattle.question.proofs.HoldLaws.{Holding, enter-room, enter-full, holding-start, holding-next}
 
 module _ (before : ℕ → ℕ → Bool) (m x y w : ℕ) where
   -- the chain found is the chain
@@ -37,58 +38,55 @@ module _ (before : ℕ → ℕ → Bool) (m x y w : ℕ) where
           ap (λ (p : ℕ). before p u) (k.lasts_are c i) ∙ t.tests (get_or (lasts (leq l) u) c 0) u (lasts-last (leq l) u c i).before h
 
   -- row by row
-  pub record Going (l : Links) (ls : List ℕ) (chains first second u : ℕ) : Type 0 where
+  pub record Going (l : Links) (s : Members) (u : ℕ) : Type 0 where
     pub tells : Tells before m l
     pub narrow : w ≤ 1024
     pub few : m ≤ 1024
     pub within : u ≤ m
-    pub holding : Holding l x y w u (record { lasts = ls; chains = chains; first = first; second = second })
+    pub holding : Holding l x y w u s
 
-  pub going_start : ReadyRows before m w → (ls : List ℕ) → length ls ≡ 1024 → (l : Links) → Tells before m l → Going l ls 0 0 0 0
-  going_start r ls h l t = record { tells = t; narrow = r.narrow; few = r.few; within = omega arith; holding = holding-start l x y w ls h }
+  pub going_start : ReadyRows before m w → (l : Links) → Tells before m l → Going l no_members 0
+  going_start r l t = record { tells = t; narrow = r.narrow; few = r.few; within = omega arith; holding = holding-start l x y w }
 
-  module _ (l : Links) (ls : List ℕ) (chains fst snd u : ℕ) (g : Going l ls chains fst snd u) where
-    abbrev state : Members
-    state = record { lasts = ls; chains = chains; first = fst; second = snd }
+  module _ (l : Links) (s : Members) (u : ℕ) (g : Going l s u) where
+    pub going-room : u < m → (u < 1024) × (s.chains ≤ 1024)
+    going-room h = (omega (arith, g.few), omega (arith, g.holding.chains_fit, g.narrow))
 
-    pub going-room : u < m → (u < 1024) × (chains ≤ 1024) × (length ls ≡ 1024)
-    going-room h = (omega (arith, g.few), omega (arith, g.holding.chains_fit, g.narrow), g.holding.lasts_size)
+    module _ (h : u < m) (s' : Members) (e : s' ≡ enter_chain x y w u s (bit_chain before s.lasts s.chains u)) where
+      after : s' ≡ enter_chain x y w u s (chain (leq l) u)
+      after = e ∙ ap (enter_chain x y w u s) (found l g.tells u h s g.holding)
 
-    module _ (h : u < m) (ls' : List ℕ) (next fst' snd' : ℕ) (e : AreMembers (enter_chain x y w u state (bit_chain before ls chains u)) ls' next fst' snd') where
-      after : record { lasts = ls'; chains = next; first = fst'; second = snd' } ≡ enter_chain x y w u state (chain (leq l) u)
-      after = are-members _ ls' next fst' snd' e ∙ ap (enter_chain x y w u state) (found l g.tells u h state g.holding)
-
-      pub going_next : next ≤ w → Going l ls' next fst' snd' (u + 1)
+      pub going_next : s'.chains ≤ w → Going l s' (u + 1)
       going_next k = go (decide-lt (chain (leq l) u) w)
         where
-          go : (chain (leq l) u < w) ⊎ (w ≤ chain (leq l) u) → Going l ls' next fst' snd' (u + 1)
+          go : (chain (leq l) u < w) ⊎ (w ≤ chain (leq l) u) → Going l s' (u + 1)
           go (inl j) = rw (add-one u) (record {
             tells = g.tells;
             narrow = g.narrow;
             few = g.few;
             within = h;
-            holding = rw after (holding-next l x y w g.narrow u (omega (arith, g.few)) state g.holding j);
+            holding = rw after (holding-next l x y w g.narrow u (omega (arith, g.few)) s g.holding j);
           })
-          go (inr j) = absurd (omega (arith, ap (λ (s : Members). s.chains) (after ∙ enter-full x y w u state (chain (leq l) u) j)))
+          go (inr j) = absurd (omega (arith, ap (λ (z : Members). z.chains) (after ∙ enter-full x y w u s (chain (leq l) u) j)))
 
-      pub going-stop : w < next → EntersRows l m x y w u fst' snd'
+      pub going-stop : w < s'.chains → EntersRows l m x y w u s'.first s'.second
       going-stop k = go (decide-lt (chain (leq l) u) w)
         where
-          go : (chain (leq l) u < w) ⊎ (w ≤ chain (leq l) u) → EntersRows l m x y w u fst' snd'
+          go : (chain (leq l) u < w) ⊎ (w ≤ chain (leq l) u) → EntersRows l m x y w u s'.first s'.second
           go (inl j) =
-              absurd (omega (arith, ap (λ (s : Members). s.chains) (after ∙ enter-room x y w u state (chain (leq l) u) j), g.holding.chains_fit))
+              absurd (omega (arith, ap (λ (z : Members). z.chains) (after ∙ enter-room x y w u s (chain (leq l) u) j), g.holding.chains_fit))
           go (inr j) = record {
             rows_are = sym (needs-at (leq l) w m u h (omega (arith, g.holding.chains_are, g.holding.chains_fit)) j);
             first-is = λ z. absurd (omega arith);
             second_is = λ z. absurd (omega arith);
           }
 
-    pub going_end : m ≤ u → EntersRows l m x y w u fst snd
+    pub going_end : m ≤ u → EntersRows l m x y w m s.first s.second
     going_end k =
         let z : u ≡ m = omega (arith, g.within) in
         let o = rw z at g.holding in
         record {
-          rows_are = z ∙ sym ((needs-none (leq l) w m).1 (omega (arith, o.chains_are, o.chains_fit)));
+          rows_are = sym ((needs-none (leq l) w m).1 (omega (arith, o.chains_are, o.chains_fit)));
           first-is = λ q. o.first-is;
           second_is = λ q. o.second_is;
         }

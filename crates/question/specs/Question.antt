@@ -1,21 +1,22 @@
 -- The order question. "The order question takes trace, width and clocks, and compares t's entry at t's chain in both rows. t's chain is taken from
 -- the trace. It gives that comparison for any clock contents"; "The order question is to say one of four: same event action, first happens before
 -- second, second before first, unordered." Assumes nothing.
-use Rattle.std.specs.Prelude.{ℕ, ◌≡◌, Bool, not, ◌&&◌, List, ◌≢◌, ◌⊎◌, ◌↔◌, eqb, length}
+use Rattle.std.specs.Prelude.{ℕ, ◌≡◌, Bool, not, ◌&&◌, List, Result, Ok, Err, ◌≢◌, ◌↔◌, eqb, length}
 use Rattle.records.specs.declared.Record.{Record}
+use Rattle.trace.specs.declared.Refusal.{Refusal}
+use Rattle.trace.specs.Paper.{number_of}
 use Rattle.trace.specs.Reply.{Reply, refused, gives, demand, then}
 use Rattle.trace.specs.Reading.{records_in, read_reply}
-use Rattle.question.specs.declared.Answer.{Answer}
-use Rattle.question.specs.declared.Answer.TheVariants.{Related, Refused}
+use Rattle.clocks.specs.declared.Relation.{Relation}
 use Rattle.clocks.specs.WayRound.{WayRound, same_action, first_before, second_before, unordered, relation_paper, way_round}
 use Rattle.order.specs.HappensBefore.{HappensBefore}
 use Rattle.order.specs.Rank.{rank}
 use Rattle.order.specs.Compared.{compared}
 use Rattle.order.specs.Lent.{no_work, spaces, enough_chains}
 
-abbrev pub order_paper : Answer → Reply WayRound
-order_paper (Related r) = gives (relation_paper r)
-order_paper (Refused f) = refused f.number f.place.0
+abbrev pub order_paper : Result Relation Refusal → Reply WayRound
+order_paper (Ok r) = gives (relation_paper r)
+order_paper (Err f) = refused (number_of f.reason) f.place.0
 
 -- "Equal event numbers give the first reply over any clocks": else t's entry at t's chain is compared in both rows, and then u's at u's chain
 unfoldable pub related_in : List Record → ℕ → List ℕ → ℕ → ℕ → WayRound

@@ -6,44 +6,35 @@ mod chains;
 mod from_table;
 
 ghost use Rattle.std.specs.Prelude.{◌≡◌, ◌≤◌};
+ghost use Rattle.std.specs.Option.{option_copied};
 ghost use Rattle.trace.specs.Paper.{paper};
 ghost use Rattle.trace.specs.Reading.{read_reply};
 ghost use Rattle.order.specs.loops.TablePass.{TellsLinks};
 ghost use Rattle.question.specs.Question.{order_paper, order_reply};
 
 use clocks::Relation;
-use links::{no_bits, no_words};
-use records::{EventId, access};
-use slices::zeros::numbers_1025;
-use trace::{Reading, Refusal};
+use links::no_bits;
+use records::{EventId, Trace, access};
+use slices::zeros;
+use trace::Refusal;
 
-// What the order question finds: which way round the two event actions stand, as the clocks have it.
-#[derive(Clone, Copy)]
-pub enum Answer {
-    Related(Relation),
-    Refused(Refusal),
-}
-
-// The order question over a trace whose reading is at hand; where a record is a send, by the table.
+// The order question over a trace whose reading is at hand, and the table of what happens before what, where there is one.
 fn ask_read(
     bytes: &[u8],
-    reading: Reading,
+    reading: Result<Trace, Refusal>,
     width: usize,
     clocks: &[u16],
     t: EventId,
     u: EventId,
-    table: &[u64],
-) -> Answer
-    requires { (paper reading ≡ read_reply bytes.now) × TellsLinks bytes.now table.now }
+    table: Option<&[u64]>,
+) -> Result<Relation, Refusal>
+    requires { (paper reading ≡ read_reply bytes.now) × TellsLinks bytes.now (option_copied table) }
     ensures { order_paper result ≡ order_reply bytes.now width clocks.now t.0 u.0 }
 {
-    let Reading::Accepted(read) = reading else {
-        return Answer::Refused(trace::refusal_of(reading));
-    };
+    let read = reading?;
     ask::ask(
         access::records(bytes, read),
         read.events,
-        read.sends,
         width,
         clocks,
         t,
@@ -52,37 +43,38 @@ fn ask_read(
     )
 }
 
-// The same for a trace with sends, read here, with a table of its own; that many records passed. There are never more than 4,096, so it never asks itself
-// again; but a function that does is not inlined, and the table stands in no frame of a call for a trace without sends.
+// The same for a trace with sends, read here, with a table of its own. Not inlined, so that the table stands in no frame of a call for a trace without
+// sends.
+#[inline(never)]
 fn ask_linked(
     bytes: &[u8],
-    passed: usize,
     width: usize,
     clocks: &[u16],
     t: EventId,
     u: EventId,
-) -> Answer
-    requires { passed ≤ 4096 }
+) -> Result<Relation, Refusal>
     ensures { order_paper result ≡ order_reply bytes.now width clocks.now t.0 u.0 }
 {
-    if 4096 < passed {
-        return ask_linked(bytes, 4096, width, clocks, t, u);
-    }
-    let mut ranks = numbers_1025();
+    let mut ranks = zeros::<u16, 1025>();
     let mut table = no_bits();
     let reading = trace::read_linked(bytes, &mut ranks, &mut table);
-    ask_read(bytes, reading, width, clocks, t, u, &table)
+    ask_read(bytes, reading, width, clocks, t, u, Some(&table))
 }
 
 // The order question: over clocks that filling left, which of the events' actions happens before the other; over any others, the comparison of their rows.
-pub fn ask_order(bytes: &[u8], width: usize, clocks: &[u16], t: EventId, u: EventId) -> Answer
+pub fn ask_order(
+    bytes: &[u8],
+    width: usize,
+    clocks: &[u16],
+    t: EventId,
+    u: EventId,
+) -> Result<Relation, Refusal>
     ensures { order_paper result ≡ order_reply bytes.now width clocks.now t.0 u.0 }
 {
     let first = trace::read_plain(bytes);
     if first.sends {
-        return ask_linked(bytes, first.passed, width, clocks, t, u);
+        return ask_linked(bytes, width, clocks, t, u);
     }
     let reading = first.reading;
-    let none = no_words();
-    ask_read(bytes, reading, width, clocks, t, u, &none)
+    ask_read(bytes, reading, width, clocks, t, u, None)
 }

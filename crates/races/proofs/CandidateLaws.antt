@@ -15,7 +15,7 @@ use lib.Seq.{get_or-set_same, get_or-set_other}
 use Rattle.records.specs.declared.Record.{Record}
 use Rattle.records.specs.Records.{at, is_read, is_write, event_of}
 use Rattle.trace.specs.Reading.{Acceptable}
-use Rattle.slices.specs.Slices.{zeros}
+use Rattle.slices.specs.Slices.{filled, zeros}
 use Rattle.trace.specs.Rule.{numbered}
 use Rattle.records.proofs.BaseKinds.{base-known, base-kind}
 use Rattle.trace.proofs.Blocks.{passes_at, contiguous, begins_once, body-after-begin}
@@ -196,7 +196,7 @@ cell-low {tr} a x h = go (ltb (at tr x).kind 3) (formed (at tr x) (passes_at a x
 -- The numbers of the cells, one record after the other.
 module _ (tr : List Record) (short : Bool) where
   pub tables-none : Tables tr short 0 (zeros 1025) (zeros 1025)
-  unfolding zeros
+  unfolding filled
   tables-none = record {
     seen_size = length-replicate {A = ℕ} 1025 0;
     written_size = length-replicate {A = ℕ} 1025 0;

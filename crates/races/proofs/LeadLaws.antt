@@ -7,12 +7,12 @@ use mathlib.Core.Bool.{Bool, true, false, cond, ◌&&◌}
 use mathlib.Core.List.{List, ◌++◌}
 use native.Mathlib.Omega.{arith}
 use native.Mathlib.Nat.{mul-le-mul_right, suc-mul}
-use native.Mathlib.Numerals.{add-one}
 use borrow.Author.Tests.{eq-eqb, ne_eqb, le-leb, lt-leb, leb-true, ltb-false}
 use lib.Dec.{T, eqb, leb, ltb}
-use lib.ListN.{length, get_or, set, length-set, length-replicate}
-use lib.Seq.{get_or-set_same, get_or-set_other}
-use Rattle.slices.specs.Slices.{zeros}
+use lib.ListN.{length, get_or, set, take, drop, length-set, length-replicate, length-take, length-drop, length-append, get_or-append}
+use lib.Seq.{get_or-set_same, get_or-set_other, get_or-take, get_or-drop, get_or-append_right, ext_get_or}
+use Rattle.records.proofs.Positions.{lt-or-ge}
+use Rattle.slices.specs.Slices.{filled, zeros}
 use Rattle.slices.proofs.Tests.{decide_eq}
 use Rattle.clocks.specs.Rows.{rows_if, merge_row, clear_row}
 use Rattle.order.specs.Links.{Links, Forward, ◌⊢◌≼◌}
@@ -26,18 +26,14 @@ use Rattle.races.proofs.LeadRows.{Closed, ready, Leading, lead-start, lead-merge
 
 -- The entries that are kept.
 module _ (w t : ℕ) (clocks : List ℕ) where
-  pub kept-none : kept_to w t clocks 0 ≡ zeros 1024
-  unfolding kept_to
-  kept-none = refl
-
-  pub kept_next : (c a : ℕ) (kept : List ℕ) → kept ≡ kept_to w t clocks c → a ≡ t * w → set kept c (get_or clocks (a + c) 0) ≡ kept_to w t clocks (c + 1)
-  unfolding kept_to
-  kept_next c a kept e z = rw (add-one c, e, z) refl
-
   pub kept-length : (n : ℕ) → length (kept_to w t clocks n) ≡ 1024
-  unfolding kept_to zeros
+  unfolding kept_to filled
   kept-length zero = length-replicate {A = ℕ} 1024 0
   kept-length (suc c) = length-set (kept_to w t clocks c) c (get_or clocks (t * w + c) 0) ∙ kept-length c
+
+  pub zeros-long : length (zeros 1024) ≡ 1024
+  unfolding filled
+  zeros-long = length-replicate {A = ℕ} 1024 0
 
   kept_at : (n c : ℕ) → n ≤ 1024 → c < n → get_or (kept_to w t clocks n) c 0 ≡ get_or clocks (t * w + c) 0
   unfolding kept_to
@@ -47,6 +43,28 @@ module _ (w t : ℕ) (clocks : List ℕ) where
       go : (c ≡ n) ⊎ (c ≢ n) → (c < n → get_or (kept_to w t clocks n) c 0 ≡ get_or clocks (t * w + c) 0) → get_or (set (kept_to w t clocks n) n (get_or clocks (t * w + n) 0)) c 0 ≡ get_or clocks (t * w + c) 0
       go (inl e) f = rw e (get_or-set_same (kept_to w t clocks n) n (get_or clocks (t * w + n) 0) 0 (omega (arith, kept-length n)))
       go (inr e) f = get_or-set_other (kept_to w t clocks n) n c (get_or clocks (t * w + n) 0) 0 e ∙ f (omega arith)
+
+  kept_past : (n c : ℕ) → n ≤ c → get_or (kept_to w t clocks n) c 0 ≡ get_or (zeros 1024) c 0
+  unfolding kept_to
+  kept_past zero c h = refl
+  kept_past (suc n) c h = get_or-set_other (kept_to w t clocks n) n c (get_or clocks (t * w + n) 0) 0 (λ e. omega arith) ∙ kept_past n c (omega arith)
+
+  -- they are copied as one
+  pub kept_copied : (part kept : List ℕ) (d : ℕ) → d ≡ w → w ≤ 1024 → t * w + w ≤ length clocks → kept ≡ zeros 1024 → part ≡ take d (drop (t * w) clocks) → part ++ drop w kept ≡ kept_to w t clocks w
+  kept_copied part kept d z narrow room ek ep = ext_get_or 0 (part ++ drop w kept) (kept_to w t clocks w) (all ∙ sym (kept-length w)) (λ i h. at i (lt-or-ge i w) (omega (arith, h, all)))
+    where
+      long : length part ≡ w
+      long = omega (arith, ap length ep, length-take d (drop (t * w) clocks), length-drop (t * w) clocks, z)
+
+      all : length (part ++ drop w kept) ≡ 1024
+      all = omega (arith, length-append part (drop w kept), length-drop w kept, ap length ek, zeros-long, long)
+
+      at : (i : ℕ) → (i < w) ⊎ (w ≤ i) → i < 1024 → get_or (part ++ drop w kept) i 0 ≡ get_or (kept_to w t clocks w) i 0
+      at i (inl l) h =
+          get_or-append part (drop w kept) 0 i (omega (arith, long)) ∙ ap (λ (x : List ℕ). get_or x i 0) ep ∙ get_or-take d (drop (t * w) clocks) i 0 (omega (arith, z)) ∙ get_or-drop (t * w) clocks i 0 ∙ sym (kept_at w i narrow l)
+      at i (inr l) h =
+          let e : w + (i - length part) ≡ i = omega (arith, long) in
+          get_or-append_right part (drop w kept) i 0 (omega (arith, long)) ∙ get_or-drop w kept (i - length part) 0 ∙ ap (λ (n : ℕ). get_or kept n 0) e ∙ ap (λ (x : List ℕ). get_or x i 0) ek ∙ sym (kept_past w i l)
 
 -- As the functions make it.
 module _ (chosen : List ℕ) (w : ℕ) where

@@ -21,13 +21,13 @@ use Rattle.trace.proofs.Accepted.{records-read}
 use Rattle.order.specs.Fill.{events_in, chains_used}
 use Rattle.order.specs.Prepare.{read_within}
 use Rattle.order.specs.Paper.{fill_paper, Prepares}
-use Rattle.order.specs.declared.Filling.{Filling}
+use Rattle.std.proofs.Common.{Result}
+use Rattle.trace.specs.declared.Refusal.{Refusal}
 use Rattle.order.proofs.EntryLaws.{records-are, read-sends}
 use Rattle.order.proofs.LentLaws.{stays}
 use Rattle.order.proofs.LentLaws.{filled as made}
 use Rattle.order.proofs.FilledTrace.{events-of}
 use Rattle.order.proofs.PrepareLaws.{none-asked, prepared}
-use Rattle.races.specs.declared.Listing.{Listing}
 use Rattle.races.specs.declared.Summary.{Summary}
 use Rattle.races.specs.Lists.{pairs_of, numbers, list_filled, list_ready, list_reply, list_after}
 use Rattle.races.specs.Paper.{list_paper, Lists}
@@ -134,7 +134,7 @@ module _ (tr : List Record) (short : Bool) (events : ℕ) (list list₁ : List �
   unfolding total
   total-is = refl
 
-  pub all-refused : (clocks : List ℕ) → length list₁ / 5 < counted → (r : Listing) → list_paper r ≡ refused 24 0 → ListsFilled short tr events clocks clocks list list₁ r
+  pub all-refused : (clocks : List ℕ) → length list₁ / 5 < counted → (r : Result Summary Refusal) → list_paper r ≡ refused 24 0 → ListsFilled short tr events clocks clocks list list₁ r
   unfolding total
   all-refused clocks h r p =
       let q = w.long (subst (λ (xs : List ℕ). length xs / 5 < counted) k h) in
@@ -152,7 +152,7 @@ module _ (tr : List Record) (short : Bool) (events : ℕ) (list list₁ : List �
     pub all_room : 5 * length (listed_below tr short (length tr)) ≤ length list₁
     all_room = omega (arith, fit, total-is, ap length k)
 
-    pub all_listed : {clocks clocks₂ list₂ : List ℕ} {found : ℕ} → ListsAll tr short list₁ list₂ found → clocks₂ ≡ clocks → (n chains : ℕ) → n ≡ length tr → chains ≡ chains_used tr → (r : Listing) → list_paper r ≡ gives (record { events = events; records = n; chains = chains; count = found }) → ListsFilled short tr events clocks clocks₂ list list₂ r
+    pub all_listed : {clocks clocks₂ list₂ : List ℕ} {found : ℕ} → ListsAll tr short list₁ list₂ found → clocks₂ ≡ clocks → (n chains : ℕ) → n ≡ length tr → chains ≡ chains_used tr → (r : Result Summary Refusal) → list_paper r ≡ gives (record { events = events; records = n; chains = chains; count = found }) → ListsFilled short tr events clocks clocks₂ list list₂ r
     all_listed v e n chains m c r p = record {
       answer = p ∙ sym (fits tr short events list total total-is fit ∙ rw (← c, ← m, total-is, ← v.count) refl);
       clocks-after = e;
@@ -160,7 +160,7 @@ module _ (tr : List Record) (short : Bool) (events : ℕ) (list list₁ : List �
     }
 
     -- none at all
-    pub none-listed : counted ≡ 0 → (clocks : List ℕ) (n chains : ℕ) → n ≡ length tr → chains ≡ chains_used tr → (r : Listing) → list_paper r ≡ gives (record { events = events; records = n; chains = chains; count = 0 }) → ListsFilled short tr events clocks clocks list list₁ r
+    pub none-listed : counted ≡ 0 → (clocks : List ℕ) (n chains : ℕ) → n ≡ length tr → chains ≡ chains_used tr → (r : Result Summary Refusal) → list_paper r ≡ gives (record { events = events; records = n; chains = chains; count = 0 }) → ListsFilled short tr events clocks clocks list list₁ r
     unfolding numbers
     none-listed z clocks n chains m c r p = all_listed (record { count = sym (w.none z); list_is = go (listed_below tr short (length tr)) (w.none z) }) refl n chains m c r p
       where
@@ -169,16 +169,16 @@ module _ (tr : List Record) (short : Bool) (events : ℕ) (list list₁ : List �
         go (q ∷ ps) e = absurd (omega arith)
 
 -- no record is asked about
-pub for-list : (room : ℕ) {b : List ℕ} {w : ℕ} {cs cs' chosen ranks ranks' : List ℕ} {f : Filling} {t : Trace} → Prepares b (read_within b 1 0 w (length cs) room) w cs cs' chosen ranks ranks' f t
+pub for-list : (room : ℕ) {b : List ℕ} {w : ℕ} {cs cs' chosen ranks ranks' : List ℕ} {f : Result ℕ Refusal} {t : Trace} → Prepares b (read_within b 1 0 w (length cs) room) w cs cs' chosen ranks ranks' f t
     → Prepares b (list_ready b w (length cs) room) w cs cs' chosen ranks ranks' f t
 unfolding list_ready
 for-list room {b} {w} {cs} {cs'} {chosen} {ranks} {ranks'} {f} {t} p = subst (λ (x : Reply Trace). Prepares b x w cs cs' chosen ranks ranks' f t) (none-asked b w (length cs) room) p
 
 -- the trace was prepared, and then the marks of its event actions were taken away
-module _ (b : List ℕ) (short : Bool) (w : ℕ) (cs cs' work work' chosen list : List ℕ) (f : Filling) (t : Trace) {ranks ranks' : List ℕ}
+module _ (b : List ℕ) (short : Bool) (w : ℕ) (cs cs' work work' chosen list : List ℕ) (f : Result ℕ Refusal) (t : Trace) {ranks ranks' : List ℕ}
     (p : Prepares b (list_ready b w (length cs) (length work)) w cs cs' chosen ranks ranks' f t) (clears : work' ≡ cleared t.events work) where
   -- the promise, by the reply
-  lists-by : (cs'' list' : List ℕ) (r : Listing) (x : Reply Summary) → list_reply short b w (length cs) (length work) (length list) ≡ x → list_paper r ≡ x → cs'' ≡ cs'
+  lists-by : (cs'' list' : List ℕ) (r : Result Summary Refusal) (x : Reply Summary) → list_reply short b w (length cs) (length work) (length list) ≡ x → list_paper r ≡ x → cs'' ≡ cs'
       → list' ≡ list_after (records_read b) x (pairs_of (records_read b) short) list → Lists short b w cs cs'' work work' list list' r
   lists-by cs'' list' r x q a k l = record {
     answer = a ∙ sym q;
@@ -187,7 +187,7 @@ module _ (b : List ℕ) (short : Bool) (w : ℕ) (cs cs' work work' chosen list 
     list-after = rw q l;
   }
 
-  pub not_listed : (k i : ℕ) → fill_paper f ≡ refused k i → (r : Listing) → list_paper r ≡ refused k i → Lists short b w cs cs' work work' list list r
+  pub not_listed : (k i : ℕ) → fill_paper f ≡ refused k i → (r : Result Summary Refusal) → list_paper r ≡ refused k i → Lists short b w cs cs' work work' list list r
   unfolding list_reply list_after unless
   not_listed k i z r q = lists-by cs' list r (refused k i) (stays b _ w _ _ k i (sym p.answer ∙ z)) q refl refl
 
@@ -198,7 +198,7 @@ module _ (b : List ℕ) (short : Bool) (w : ℕ) (cs cs' work work' chosen list 
       pub events_are : t.events ≡ events_in (decode recs)
       pub chains-used : chains ≡ chains_used (decode recs)
       pub sends_are : t.sends ≡ has_send (decode recs)
-      pub done : (cs'' list' : List ℕ) (r : Listing) → ListsFilled short (decode recs) t.events cs' cs'' list list' r → Lists short b w cs cs'' work work' list list' r
+      pub done : (cs'' list' : List ℕ) (r : Result Summary Refusal) → ListsFilled short (decode recs) t.events cs' cs'' list list' r → Lists short b w cs cs'' work work' list list' r
 
     read : Accepts b t
     unfolding list_ready

@@ -14,7 +14,8 @@ use Rattle.trace.proofs.Accepted.{accepts}
 use Rattle.order.specs.Fill.{events_in, row_past_width}
 use Rattle.order.specs.Lent.{work_for, spaced, work_after}
 use Rattle.order.specs.Paper.{fill_paper, Prepares}
-use Rattle.order.specs.declared.Filling.{Filling}
+use Rattle.std.proofs.Common.{Result}
+use Rattle.trace.specs.declared.Refusal.{Refusal}
 use Rattle.order.proofs.SpaceLaws.{has_room, cleared-length}
 use Rattle.order.proofs.SpaceLaws.{cleared as cleared-zeros}
 use Rattle.order.proofs.LentLaws.{Fits, fits}
@@ -22,7 +23,7 @@ use Rattle.order.proofs.FilledTrace.{events-of}
 use Rattle.order.proofs.PrepareLaws.{none-ready, is-ready, prepared}
 use Rattle.races.specs.loops.FilledClocks.{FilledClocks, Clear}
 
-module _ (work : List ℕ) (found : Reply Trace) {b : List ℕ} {w : ℕ} {cs cs' chosen ranks ranks' : List ℕ} {f : Filling} {t : Trace}
+module _ (work : List ℕ) (found : Reply Trace) {b : List ℕ} {w : ℕ} {cs cs' chosen ranks ranks' : List ℕ} {f : Result ℕ Refusal} {t : Trace}
     (p : Prepares b (spaced found w (length cs) (work_for (length work))) w cs cs' chosen ranks ranks' f t) where
   abbrev ready : Reply Trace
   ready = spaced found w (length cs) (work_for (length work))

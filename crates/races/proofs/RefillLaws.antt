@@ -12,6 +12,7 @@ use lib.ListN.{length, get_or, drop, replicate, length-append, length-replicate}
 use lib.Seq.{drop_at}
 use Rattle.records.specs.declared.Record.{Record}
 use Rattle.records.specs.Kinds.{has_send}
+use Rattle.records.proofs.Positions.{lt-or-ge}
 use Rattle.trace.specs.Reading.{Acceptable}
 use Rattle.ranks.specs.declared.Ordering.TheVariants.{Begin}
 use Rattle.clocks.specs.Rows.{clear_rows}
@@ -170,6 +171,22 @@ module _ {tr : List Record} {ranks chosen : List ℕ} {count w : ℕ} {clocks₀
 
               v : Arrives (ordering_at tr) (length tr) none (entry (trace_links tr)) w (drop (events_in tr * w) clocks₀) (suc i) (walk_from tr ranks w chains' (i + 1) clocks₁)
               v = trace-walk f.acceptable ranks f.ranks_are none (entry (trace_links tr)) w chains' (drop (events_in tr * w) clocks₀) f.narrow i (add_at g.rows u c) clocks₁ h (e ∙ ticked) filled short
+
+  -- a row begins next just where not all have begun
+  module _ {i u chains : ℕ} {clocks : List ℕ} (g : Refilling i u chains clocks) where
+    pub refilling-on : u < events_in tr → i < length tr
+    refilling-on l = go (lt-or-ge i (length tr))
+      where
+        go : (i < length tr) ⊎ (length tr ≤ i) → i < length tr
+        go (inl h) = h
+        go (inr h) = let e : i ≡ length tr = omega (arith, g.within) in absurd (omega (arith, ap (begins (ordering_at tr)) e, many, g.begun))
+
+    pub refilling-over : events_in tr ≤ u → length tr ≤ i
+    refilling-over l = go (lt-or-ge i (length tr))
+      where
+        go : (i < length tr) ⊎ (length tr ≤ i) → length tr ≤ i
+        go (inl h) = absurd (omega (arith, below g h, many))
+        go (inr h) = h
 
 -- Filled clocks whose rows were overwritten are filled again.
 module _ {tr : List Record} {ranks chosen : List ℕ} {w : ℕ} {clocks : List ℕ} (f : FilledClocks tr ranks chosen w clocks) where

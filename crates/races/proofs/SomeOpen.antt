@@ -13,7 +13,9 @@ use Rattle.trace.specs.Reading.{Acceptable}
 use Rattle.coverage.specs.Below as below
 use Rattle.coverage.specs.Race.{Race}
 use Rattle.coverage.proofs.Theorems as coverage
-use Rattle.races.specs.declared.Listing.{Listing}
+use Rattle.std.proofs.Common.{Result}
+use Rattle.trace.specs.declared.Refusal.{Refusal}
+use Rattle.races.specs.declared.Summary.{Summary}
 use Rattle.races.specs.Traces.{cells_of, setting_of}
 use Rattle.races.specs.Lists.{pairs_of}
 use Rattle.races.specs.Demand.{Calls, Names, ListDemand, ListAnswers}
@@ -46,7 +48,7 @@ module _ {tr : List Record} (a : Acceptable tr) where
     open-entry false d (x, b, r, o) = let (mark, c) = d.whole refl x b r in named x b ((d.marks x b mark r c).uncovered.1 o)
 
   pub list-opens : (short : Bool) (calls : ℕ → ℕ → ℕ → ℕ → Type 0) (names : ℕ → ℕ → Type 0) → ((n x b : ℕ) → calls n x b 1 → (cell : ℕ) × names n cell)
-      → (r : Listing) → ListAnswers tr short calls names r → ListOpens tr names r
+      → (r : Result Summary Refusal) → ListAnswers tr short calls names r → ListOpens tr names r
   list-opens short calls names named r s =
       let n = s.summary.count in
       let f : AnyRace tr → (cell : ℕ) × names n cell = λ o. open-entry (calls n) (names n) (named n) short s.demand (open-race o) in

@@ -31,8 +31,8 @@ use Rattle.coverage.specs.Cover.{Open}
 use Rattle.coverage.specs.Leading.{coveredb, entries}
 use Rattle.coverage.specs.Demand.{OpenExactly}
 use Rattle.coverage.proofs.Theorems.{in_all, open_exactly, open-cells}
-use Rattle.races.specs.declared.Listing.{Listing}
-use Rattle.races.specs.declared.Listing.TheVariants.{Listed, Refused}
+use Rattle.std.proofs.Common.{Result, Ok, Err}
+use Rattle.trace.specs.declared.Refusal.{Refusal}
 use Rattle.races.specs.declared.Summary.{Summary}
 use Rattle.races.specs.Traces.{cells_of, setting_of}
 use Rattle.races.specs.Lists.{pairs_of, mark_of, numbers, list_filled, list_ready, list_reply, list_after}
@@ -173,9 +173,9 @@ alike f g d = record {
 }
 
 -- an answer that gives a list's numbers is that of a list made
-pub made-answer : (r : Listing) (s : Summary) → list_paper r ≡ gives s → r ≡ Listed s
-made-answer (Listed x) s q = ap Listed (same-given q)
-made-answer (Refused f) s q = absurd (not-both s _ _ (sym q))
+pub made-answer : (r : Result Summary Refusal) (s : Summary) → list_paper r ≡ gives s → r ≡ Ok s
+made-answer (Ok x) s q = ap Ok (same-given q)
+made-answer (Err f) s q = absurd (not-both s _ _ (sym q))
 
 module _ (bytes : List ℕ) (t : Trace) (e : Accepts bytes t) where
   abbrev tr : List Record
@@ -184,7 +184,7 @@ module _ (bytes : List ℕ) (t : Trace) (e : Accepts bytes t) where
   pub acceptable : Acceptable tr
   acceptable = (accepts bytes t e).acceptable
 
-  lists : (short : Bool) (width : ℕ) (clocks clocks' work work' list list' : List ℕ) (r : Listing)
+  lists : (short : Bool) (width : ℕ) (clocks clocks' work work' list list' : List ℕ) (r : Result Summary Refusal)
       → ListSuffices tr short width (length clocks) (length work) (length list)
       → Lists short bytes width clocks clocks' work work' list list' r → ListAnswers tr short (Calls list') (Names list') r
   unfolding list_after unless

@@ -1,5 +1,5 @@
 -- The third demand, as a statement about the answers of the two lists. Assumes nothing.
-use Rattle.std.specs.Prelude.{ℕ, ◌+◌, ◌*◌, ◌/◌, ◌≤◌, ◌<◌, ◌≡◌, Bool, true, false, List, ◌↔◌, length, get_or}
+use Rattle.std.specs.Prelude.{ℕ, ◌+◌, ◌*◌, ◌/◌, ◌≤◌, ◌<◌, ◌≡◌, Bool, true, false, List, ◌↔◌, length, get_or, Result, Ok}
 use Rattle.records.specs.declared.Record.{Record}
 use Rattle.records.specs.declared.Trace.{Trace}
 use Rattle.records.specs.Records.{at}
@@ -9,8 +9,7 @@ use Rattle.order.specs.Fill.{events_in, chains_used}
 use Rattle.coverage.specs.Race.{Race}
 use Rattle.coverage.specs.Cover.{Open}
 use Rattle.coverage.specs.Arrangement.{Accessible}
-use Rattle.races.specs.declared.Listing.{Listing}
-use Rattle.races.specs.declared.Listing.TheVariants.{Listed}
+use Rattle.trace.specs.declared.Refusal.{Refusal}
 use Rattle.races.specs.declared.Summary.{Summary}
 use Rattle.races.specs.Traces.{setting_of}
 use Rattle.races.specs.Lists.{entry_numbers, pairs_of, list_reply}
@@ -66,9 +65,9 @@ module _ (tr : List Record) where
     pub cells : short ≡ true → (c : ℕ) → names c ↔ ((a b : ℕ) × Race (setting_of tr) a b × ((at tr b).second ≡ c) × Open (setting_of tr) a b)
 
   -- the list is made: its count is that of its entries, and they say what is asked
-  pub record ListAnswers (short : Bool) (calls : ℕ → ℕ → ℕ → ℕ → Type 0) (names : ℕ → ℕ → Type 0) (r : Listing) : Type 0 where
+  pub record ListAnswers (short : Bool) (calls : ℕ → ℕ → ℕ → ℕ → Type 0) (names : ℕ → ℕ → Type 0) (r : Result Summary Refusal) : Type 0 where
     pub summary : Summary
-    pub is_made : r ≡ Listed summary
+    pub is_made : r ≡ Ok summary
     pub counted : summary.count ≡ length (pairs_of tr short)
     pub demand : ListDemand short (calls summary.count) (names summary.count)
 
@@ -80,6 +79,6 @@ pub record ListsSuffice : Type 0 where
 -- "Take every accepted trace, whatever the lent spaces held before, so long as they and the clock width suffice for the call."
 pub record ListsDemand : Type 0 where
   pub lists : (bytes : List ℕ) (t : Trace) → Accepts bytes t
-      → (short : Bool) (width : ℕ) (clocks clocks' work work' list list' : List ℕ) (r : Listing)
+      → (short : Bool) (width : ℕ) (clocks clocks' work work' list list' : List ℕ) (r : Result Summary Refusal)
       → ListSuffices (records_in bytes t) short width (length clocks) (length work) (length list)
       → Lists short bytes width clocks clocks' work work' list list' r → ListAnswers (records_in bytes t) short (Calls list') (Names list') r

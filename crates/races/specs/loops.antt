@@ -9,3 +9,4 @@ pub mod Refilling
 pub mod Keeping
 pub mod ListsFilled
 pub mod Clashes
+pub mod FilledOnce

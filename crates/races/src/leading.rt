@@ -2,12 +2,12 @@
 // first, but for those that lead to one that was merged.
 ghost use Rattle.std.specs.Prelude.{◌≡◌, ◌+◌, ◌*◌, ◌≤◌, ◌<◌, length, get_or};
 ghost use Rattle.slices.specs.Slices.{zeros};
+ghost use Rattle.clocks.specs.Rows.{merge_row};
 ghost use Rattle.races.specs.loops.FilledClocks.{RowsIn};
 ghost use Rattle.races.specs.loops.Leading.{kept_to, leads_in, lead_from, lead_down, raise_to, lead_in, MayLead};
 
 use clocks::{clear_row, merge_row};
-use slices::numbers::larger;
-use slices::zeros::numbers_1024;
+use slices::zeros;
 
 // The entries of row t are kept apart.
 fn keep_entries(clocks: &[u16], width: usize, t: usize, kept: &mut [u16])
@@ -15,24 +15,27 @@ fn keep_entries(clocks: &[u16], width: usize, t: usize, kept: &mut [u16])
     ensures { kept.new ≡ kept_to width t clocks.now width }
 {
     let a = t * width;
-    let mut c = 0usize;
-    while c < width {
-        kept[c] = clocks[a + c];
-        c += 1;
-    }
+    let e = a + width;
+    kept[..width].copy_from_slice(&clocks[a..e]);
 }
 
 // Whether row p happens before row t, by the entries kept, and does not lead to a row that was merged.
+// The chains and the width apart: as fields of a struct they would be loaded anew for each row, since clocks are written.
 fn leads_in(chosen: &[u16], width: usize, clocks: &[u16], kept: &[u16], t: usize, p: usize) -> bool
     requires { RowsIn chosen.now width clocks.now p t × (get_or chosen.now p 0 < length kept.now) }
     ensures { result ≡ leads_in chosen.now width kept.now t clocks.now p }
 {
     let c = chosen[p] as usize;
     let own = clocks[p * width + c];
-    if kept[c] < own {
-        return false;
-    }
-    clocks[t * width + c] < own
+    own <= kept[c] && clocks[t * width + c] < own
+}
+
+// Not inlined, so that nothing of it is computed for the rows that are passed by.
+#[inline(never)]
+fn merge_in(clocks: &mut [u16], width: usize, chains: usize, p: u16, t: u16)
+    ensures { clocks.new ≡ merge_row width chains p t clocks.old }
+{
+    merge_row(clocks, width, chains, p, t);
 }
 
 // Row p is merged into row t where it is such a one.
@@ -49,7 +52,7 @@ fn lead_from(
     ensures { clocks.new ≡ lead_from chosen.now width kept.now t chains p clocks.old }
 {
     if leads_in(chosen, width, clocks, kept, t, p) {
-        merge_row(clocks, width, chains, p as u16, t as u16);
+        merge_in(clocks, width, chains, p as u16, t as u16);
     }
 }
 
@@ -65,9 +68,7 @@ fn lead_down(
     requires { MayLead chosen.now width clocks.old t × (1024 ≤ length kept.now) }
     ensures { clocks.new ≡ lead_down chosen.now width kept.now t chains t clocks.old }
 {
-    let mut p = t;
-    while 0 < p {
-        p -= 1;
+    for p in (0..t).rev() {
         lead_from(chosen, width, chains, clocks, kept, t, p);
     }
 }
@@ -77,17 +78,18 @@ fn raise_to(clocks: &mut [u16], place: usize, value: u16)
     requires { place < length clocks.old }
     ensures { clocks.new ≡ raise_to place value clocks.old }
 {
-    clocks[place] = larger(clocks[place], value);
+    clocks[place] = clocks[place].max(value);
 }
 
-// Row t anew, of the rows before it and its own entry.
+// Row t anew, of the rows before it and its own entry. Not inlined, so that the entries kept stand in no frame of a call for a trace without sends.
+#[inline(never)]
 pub(crate) fn lead_in(chosen: &[u16], width: usize, chains: usize, clocks: &mut [u16], t: usize)
     requires { MayLead chosen.now width clocks.old t }
     ensures { clocks.new ≡ lead_in chosen.now width chains t clocks.old }
 {
     let place = t * width + (chosen[t] as usize);
     let own = clocks[place];
-    let mut kept = numbers_1024();
+    let mut kept = zeros::<u16, 1024>();
     keep_entries(clocks, width, t, &mut kept);
     clear_row(clocks, width, t as u16);
     lead_down(chosen, width, chains, clocks, &kept, t);

@@ -2,6 +2,7 @@
 #![tactic(auto)]
 
 mod candidates;
+mod filled;
 mod keeping;
 mod leading;
 mod lists;
@@ -26,13 +27,6 @@ pub struct Summary {
     pub count: usize,
 }
 
-// What a list finds.
-#[derive(Clone, Copy)]
-pub enum Listing {
-    Listed(Summary),
-    Refused(Refusal),
-}
-
 // The list of all races of a trace, its entries ordered by second record, then first.
 pub fn all_races(
     bytes: &[u8],
@@ -40,7 +34,7 @@ pub fn all_races(
     clocks: &mut [u16],
     work: &mut [u8],
     list: &mut [u16],
-) -> Listing
+) -> Result<Summary, Refusal>
     ensures { Lists false bytes.now width clocks.old clocks.new work.old work.new
         list.old list.new result }
 {
@@ -54,7 +48,7 @@ pub fn short_list(
     clocks: &mut [u16],
     work: &mut [u8],
     list: &mut [u16],
-) -> Listing
+) -> Result<Summary, Refusal>
     ensures { Lists true bytes.now width clocks.old clocks.new work.old work.new
         list.old list.new result }
 {

@@ -3,38 +3,36 @@ ghost use Rattle.std.specs.Prelude.{◌≡◌, cond, ◌+◌, ◌*◌, ◌/◌, 
 ghost use Rattle.std.proofs.lemmas.List.Edits.{sets};
 ghost use Rattle.records.specs.Bytes.{decode};
 ghost use Rattle.records.specs.Records.{at};
-ghost use Rattle.records.specs.Kinds.{has_send};
-ghost use Rattle.order.specs.Fill.{events_in, chains_used};
-ghost use Rattle.trace.specs.Reply.{Reply};
+ghost use Rattle.order.specs.Fill.{chains_used};
 ghost use Rattle.races.specs.Lists.{entry_numbers, shape_of};
-ghost use Rattle.races.specs.Paper.{list_paper, Lists};
+ghost use Rattle.races.specs.Paper.{Lists};
 ghost use Rattle.races.specs.loops.ListsFilled.{ListsFilled};
 ghost use Rattle.races.specs.loops.ListPass.{listed_below, raw, Second, OneRoom, OneWrites, RoomIf, Writes, WritesAll, Ample, Counts, ListsAll};
 ghost use Rattle.races.specs.loops.Candidates.{Range};
 ghost use Rattle.races.specs.loops.FilledClocks.{FilledClocks, OwnIs};
 
-use crate::candidates::{Firsts, take_access};
-use crate::racing::{Own, own_of, relation};
-use crate::{ENTRY_NUMBERS, Listing, Summary, raising};
+use crate::candidates::{Cells, Firsts, take_access};
+use crate::filled::{Filled, Layout};
+use crate::racing::Own;
+use crate::{ENTRY_NUMBERS, Summary, raising};
 use clocks::is_unordered;
-use order::Filling;
+use order::Call;
 use ranks::row_at;
 use records::{Operation, access, search};
-use slices::bytes::clear;
-use slices::zeros::{numbers_1024, numbers_1025};
-use trace::Refusal;
+use slices::{clear, zeros};
+use trace::{Reason, Refusal};
 
 // 1 for ww, 2 for wr, 3 for rw.
 fn shape_of(recs: &[u8], a: usize, b: usize) -> u16
     ensures { result ≡ shape_of (decode recs.now) a b }
 {
     if access::kind_at(recs, a) != 6 {
-        return 3;
+        3
+    } else if access::kind_at(recs, b) == 6 {
+        1
+    } else {
+        2
     }
-    if access::kind_at(recs, b) == 6 {
-        return 1;
-    }
-    2
 }
 
 // Entry k of the list: the race of records a and b, its mark still 0.
@@ -51,67 +49,58 @@ fn put_entry(recs: &[u8], a: usize, b: usize, list: &mut [u16], k: usize)
 }
 
 // Records a and b, of the own row, of which a may race with b: entry k where it does, written or only counted. The next entry.
-fn list_race(
-    recs: &[u8],
-    ranks: &[u16],
-    chosen: &[u16],
-    width: usize,
-    clocks: &[u16],
+fn list_race<const WRITING: bool>(
+    filled: Filled<'_>,
     a: usize,
     b: usize,
     own: Own,
     list: &mut [u16],
     k: usize,
-    writing: bool,
 ) -> usize
-    requires one_room { OneRoom writing (decode recs.now) ranks.now chosen.now width clocks.now a b own.row k list.old }
-    requires own_is { OwnIs chosen.now width clocks.now own.row own.chain own.entry }
-    ensures { OneWrites writing (decode recs.now) a b k list.old list.new result }
+    requires one_room { OneRoom WRITING (decode filled.layout.recs.now) filled.layout.ranks.now filled.layout.chosen.now filled.layout.width filled.clocks.now
+        a b own.row k list.old }
+    requires own_is { OwnIs filled.layout.chosen.now filled.layout.width filled.clocks.now own.row own.chain own.entry }
+    ensures { OneWrites WRITING (decode filled.entry.layout.recs.now) a b k list.old list.new result }
 {
-    if 6 < access::kind_at(recs, a) {
+    if 6 < access::kind_at(filled.layout.recs, a) {
         return k;
     }
-    if !is_unordered(relation(chosen, width, clocks, row_at(recs, ranks, a), own)) {
+    let t = row_at(filled.layout.recs, filled.layout.ranks, a);
+    if !is_unordered(filled.relation(t, own)) {
         return k;
     }
-    if writing {
-        put_entry(recs, a, b, list, k);
-        return k + 1;
+    if WRITING {
+        put_entry(filled.layout.recs, a, b, list, k);
     }
     k + 1
 }
 
 // The races on the way to b, of row u, from entry k on, written or only counted.
-fn list_firsts(
-    recs: &[u8],
-    ranks: &[u16],
-    chosen: &[u16],
-    width: usize,
-    clocks: &[u16],
+fn list_firsts<const WRITING: bool>(
+    filled: Filled<'_>,
     firsts: Firsts,
     b: usize,
     u: usize,
     list: &mut [u16],
     k: usize,
-    writing: bool,
 ) -> usize
-    requires second { Second (decode recs.now) ranks.now chosen.now width clocks.now b u × Range (decode recs.now) b firsts.from firsts.to }
-    requires room_if { RoomIf writing (decode recs.now) b firsts.from k list.old }
-    ensures { Writes writing (decode recs.now) b firsts.from k list.old list.new result }
+    requires second { Second (decode filled.layout.recs.now) filled.layout.ranks.now filled.layout.chosen.now filled.layout.width filled.clocks.now b u
+        × Range (decode filled.layout.recs.now) b firsts.from firsts.to }
+    requires room_if { RoomIf WRITING (decode filled.layout.recs.now) b firsts.from k list.old }
+    ensures { Writes WRITING (decode filled.entry.layout.recs.now) b firsts.from k list.old list.new result }
 {
     if firsts.to <= firsts.from {
         return k;
     }
-    let own = own_of(chosen, width, clocks, u);
-    let c = access::cell_at(recs, b);
-    let least = search::least_kind(access::kind_at(recs, b));
+    let own = filled.own_of(u);
+    let c = access::cell_at(filled.layout.recs, b);
+    let least = search::least_kind(access::kind_at(filled.layout.recs, b));
     let mut e = k;
-    let mut a = search::next_access(recs, firsts.from, firsts.to, c, least);
+    let mut a = search::next_access(filled.layout.recs, firsts.from, firsts.to, c, least);
+    // By `while`: from each access the search goes on to the next.
     while a < firsts.to {
-        e = list_race(
-            recs, ranks, chosen, width, clocks, a, b, own, list, e, writing,
-        );
-        a = search::next_access(recs, a + 1, firsts.to, c, least);
+        e = list_race::<WRITING>(filled, a, b, own, list, e);
+        a = search::next_access(filled.layout.recs, a + 1, firsts.to, c, least);
     }
     e
 }
@@ -121,56 +110,32 @@ fn begun_after(kind: u8, begun: usize) -> usize
     requires { begun < 4096 }
     ensures { result ≡ cond (eqb kind 1) (begun + 1) begun }
 {
-    if kind == 1 {
-        return begun + 1;
-    }
-    begun
+    if kind == 1 { begun + 1 } else { begun }
 }
 
-// All entries, written or only counted; their number.
-fn list_all(
-    recs: &[u8],
-    ranks: &[u16],
-    chosen: &[u16],
-    width: usize,
-    clocks: &[u16],
-    list: &mut [u16],
-    short: bool,
-    writing: bool,
-) -> usize
-    requires { FilledClocks (decode recs.now) ranks.now chosen.now width clocks.now ×
-        (T writing → entry_numbers * length (listed_below (decode recs.now) short (length (decode recs.now))) ≤ length list.old) }
-    ensures { WritesAll writing (decode recs.now) short list.old list.new result }
+// All entries, written or only counted; their number. Not inlined, so that the numbers of the cells stand in no frame but its own.
+#[inline(never)]
+fn list_all<const WRITING: bool>(filled: Filled<'_>, list: &mut [u16], short: bool) -> usize
+    requires { T WRITING
+        → entry_numbers * length (listed_below (decode filled.layout.recs.now) short (length (decode filled.layout.recs.now))) ≤ length list.old }
+    ensures { WritesAll WRITING (decode filled.entry.layout.recs.now) short list.old list.new result }
 {
-    let n = access::count(recs);
-    let mut seen = numbers_1025();
-    let mut writes = numbers_1025();
+    let n = access::count(filled.layout.recs);
+    let mut cells = Cells {
+        seen: zeros::<u16, 1025>(),
+        writes: zeros::<u16, 1025>(),
+    };
     let mut k = 0;
     let mut begun = 0;
-    let mut b = 0;
-    while b < n {
-        let kind = access::base_kind_at(recs, b);
+    for b in 0..n {
+        let kind = access::base_kind_at(filled.layout.recs, b);
         if kind < 5 {
             begun = begun_after(kind, begun);
-            b += 1;
             continue;
         }
         let u = begun - 1;
-        let firsts = take_access(
-            recs,
-            chosen,
-            width,
-            clocks,
-            &mut seen,
-            &mut writes,
-            b,
-            u,
-            short,
-        );
-        k = list_firsts(
-            recs, ranks, chosen, width, clocks, firsts, b, u, list, k, writing,
-        );
-        b += 1;
+        let firsts = take_access(filled, &mut cells, b, u, short);
+        k = list_firsts::<WRITING>(filled, firsts, b, u, list, k);
     }
     k
 }
@@ -187,104 +152,65 @@ fn is_ample(short: bool, records: usize, space: usize) -> bool
         return false;
     }
     if short {
-        return records <= space / ENTRY_NUMBERS / 2;
+        records <= space / ENTRY_NUMBERS / 2
+    } else {
+        records * records / 2 <= space / ENTRY_NUMBERS
     }
-    records * records / 2 <= space / ENTRY_NUMBERS
 }
 
-// How many entries there are, or 1 where there is space for them in any case.
-fn count_all(
-    recs: &[u8],
-    ranks: &[u16],
-    chosen: &[u16],
-    width: usize,
-    clocks: &[u16],
-    list: &mut [u16],
-    short: bool,
-) -> usize
-    requires { FilledClocks (decode recs.now) ranks.now chosen.now width clocks.now }
-    ensures { Counts (decode recs.now) short (length list.old) result × (list.new ≡ list.old) }
+// How many entries there are, or 1 where there is space for them in any case. Which list is made is a flag: the definitions have one law over both.
+fn count_all(filled: Filled<'_>, list: &mut [u16], short: bool) -> usize
+    ensures { Counts (decode filled.entry.layout.recs.now) short (length list.old) result × (list.new ≡ list.old) }
 {
-    if is_ample(short, access::count(recs), list.len()) {
+    if is_ample(short, access::count(filled.layout.recs), list.len()) {
         return 1;
     }
-    list_all(recs, ranks, chosen, width, clocks, list, short, false)
+    list_all::<false>(filled, list, short)
 }
 
 // Writes all entries and marks them; their number. The clocks are as before.
-fn write_all(
-    recs: &[u8],
-    ranks: &[u16],
-    chosen: &[u16],
-    events: usize,
-    width: usize,
-    clocks: &mut [u16],
-    list: &mut [u16],
-    short: bool,
-    sends: bool,
-) -> usize
-    requires filled_clocks { FilledClocks (decode recs.now) ranks.now chosen.now width clocks.old × (events ≡ events_in (decode recs.now)) ×
-        (sends ≡ has_send (decode recs.now)) }
-    requires recs_in_bounds { entry_numbers * length (listed_below (decode recs.now) short (length (decode recs.now))) ≤ length list.old }
-    ensures { ListsAll (decode recs.now) short list.old list.new result × (clocks.new ≡ clocks.old) }
+fn write_all(layout: Layout<'_>, clocks: &mut [u16], list: &mut [u16], short: bool) -> usize
+    requires { FilledClocks (decode layout.recs.now) layout.ranks.now layout.chosen.now layout.width clocks.old
+        × (entry_numbers * length (listed_below (decode layout.recs.now) short (length (decode layout.recs.now))) ≤ length list.old) }
+    ensures { ListsAll (decode layout.entry.recs.now) short list.old list.new result × (clocks.new ≡ clocks.old) }
 {
-    let found = list_all(recs, ranks, chosen, width, clocks, list, short, true);
-    raising::mark_list(
-        recs, ranks, chosen, events, width, clocks, list, found, sends,
-    );
+    let found = list_all::<true>(Filled { layout, clocks }, list, short);
+    raising::mark_list(layout, clocks, list, found);
     found
 }
 
-fn refused(number: u16) -> Listing
-    ensures { list_paper result ≡ Reply.refused number 0 }
-{
-    Listing::Refused(Refusal {
-        number: number,
-        place: Operation(0),
-    })
-}
-
-fn listed(events: usize, records: usize, chains: usize, count: usize) -> Listing
-    ensures { list_paper result ≡ Reply.gives (record { events = events; records = records; chains = chains; count = count }) }
-{
-    Listing::Listed(Summary {
-        events: events,
-        records: records,
-        chains: chains,
-        count: count,
-    })
-}
-
-// The list of a trace whose clocks are filled.
+// The list of a trace whose clocks are filled, by so many chains.
 fn list_filled(
-    recs: &[u8],
-    events: usize,
-    width: usize,
-    clocks: &mut [u16],
-    chosen: &[u16],
-    ranks: &[u16],
+    layout: Layout<'_>,
     chains: usize,
+    clocks: &mut [u16],
     list: &mut [u16],
     short: bool,
-    sends: bool,
-) -> Listing
-    requires { FilledClocks (decode recs.now) ranks.now chosen.now width clocks.old × (events ≡ events_in (decode recs.now)) ×
-        (chains ≡ chains_used (decode recs.now)) × (sends ≡ has_send (decode recs.now)) }
-    ensures { ListsFilled short (decode recs.now) events clocks.old clocks.new list.old
-        list.new result }
+) -> Result<Summary, Refusal>
+    requires { FilledClocks (decode layout.recs.now) layout.ranks.now layout.chosen.now layout.width clocks.old
+        × (chains ≡ chains_used (decode layout.recs.now)) }
+    ensures { ListsFilled short (decode layout.entry.recs.now) layout.entry.events clocks.old clocks.new list.old list.new result }
 {
-    let counted = count_all(recs, ranks, chosen, width, clocks, list, short);
+    let counted = count_all(Filled { layout, clocks }, list, short);
     if list.len() / ENTRY_NUMBERS < counted {
-        return refused(trace::LIST_SPACE);
+        return Err(Reason::ListSpace.at(Operation(0)));
     }
-    let records = access::count(recs);
+    let records = access::count(layout.recs);
     if counted == 0 {
-        return listed(events, records, chains, 0);
+        return Ok(Summary {
+            events: layout.events,
+            records,
+            chains,
+            count: 0,
+        });
     }
-    let found = write_all(
-        recs, ranks, chosen, events, width, clocks, list, short, sends,
-    );
-    listed(events, records, chains, found)
+    let found = write_all(layout, clocks, list, short);
+    Ok(Summary {
+        events: layout.events,
+        records,
+        chains,
+        count: found,
+    })
 }
 
 // The short list, or the list of all races.
@@ -295,31 +221,31 @@ pub(crate) fn list_races(
     work: &mut [u8],
     list: &mut [u16],
     short: bool,
-) -> Listing
+) -> Result<Summary, Refusal>
     ensures { Lists short bytes.now width clocks.old clocks.new work.old work.new
         list.old list.new result }
 {
-    let mut chosen = numbers_1024();
-    let mut ranks = numbers_1025();
-    let prepared = order::prepare(
-        bytes,
-        Operation(1),
-        Operation(0),
+    let mut chosen = zeros::<u16, 1024>();
+    let mut ranks = zeros::<u16, 1025>();
+    let call = Call {
+        lowest: Operation(1),
+        highest: Operation(0),
         width,
-        work.len(),
-        clocks,
-        &mut chosen,
-        &mut ranks,
-    );
+        room: work.len(),
+    };
+    let prepared = order::prepare(bytes, call, clocks, &mut chosen, &mut ranks);
     let t = prepared.trace;
     let events = t.events;
     clear(work, events);
-    let answer = prepared.answer;
-    let Filling::Filled(chains) = answer else {
-        return Listing::Refused(order::refusal_of(answer));
-    };
+    let chains = prepared.answer?;
     let recs = access::records(bytes, t);
-    list_filled(
-        recs, events, width, clocks, &chosen, &ranks, chains, list, short, t.sends,
-    )
+    let layout = Layout {
+        recs,
+        events,
+        sends: t.sends,
+        ranks: &ranks,
+        chosen: &chosen,
+        width,
+    };
+    list_filled(layout, chains, clocks, list, short)
 }

@@ -1,102 +1,82 @@
 // The marks of a list's entries by the rows of the combined order, happens-before and the races of the list: made in place in the lent clocks, event
 // action by event action.
-ghost use Rattle.std.specs.Prelude.{◌≡◌, true, ℕ, ◌+◌, ◌*◌, ◌-◌, ◌≤◌, ◌<◌, max, T, length, get_or};
-ghost use Rattle.slices.specs.Slices.{zeros};
+ghost use Rattle.std.specs.Prelude.{◌≡◌, true, ℕ, ◌+◌, ◌*◌, ◌-◌, ◌≤◌, ◌<◌, max, length, get_or};
 ghost use Rattle.records.specs.Bytes.{decode};
-ghost use Rattle.records.specs.Kinds.{has_send};
-ghost use Rattle.clocks.specs.Rows.{compare_in};
-ghost use Rattle.order.specs.Fill.{events_in};
 ghost use Rattle.races.specs.loops.FilledClocks.{FilledClocks, RowsIn};
 ghost use Rattle.races.specs.Lists.{entry_numbers};
 ghost use Rattle.races.specs.loops.Marking.{first};
-ghost use Rattle.races.specs.loops.Raising.{Unmarked, MarksList, mark_in, Markable, MarksSecond, raise_by, raise_down, MarksAll};
+ghost use Rattle.races.specs.loops.Raising.{Unmarked, MarksList, row_in, mark_in, Markable, MarksSecond, raise_by, raise_down, MarksAll};
 ghost use Rattle.races.specs.loops.Raising.{by_records, by_clocks, onward, MayGo, Went};
 ghost use Rattle.races.specs.loops.Leading.{MayLead};
 
 use crate::ENTRY_NUMBERS;
+use crate::filled::Layout;
 use crate::keeping::{keep_rows, restore_rows};
 use crate::leading::lead_in;
 use crate::refilling::refill;
 use clocks::merge_row;
-use links::{no_bits, no_words};
+use links::no_bits;
 use order::merging::merge_links;
 use ranks::row_at;
 
-// Whether row t's own entry, at its chain, is at most row u's, as the rows stand, raised: whether t leads to u.
-pub(crate) fn comes_before(chosen: &[u16], width: usize, clocks: &[u16], t: usize, u: usize) -> bool
-    requires { RowsIn chosen.now width clocks.now t u }
-    ensures { result ≡ compare_in clocks.now width (get_or chosen.now t 0) t u }
+// The row of the record with that number.
+fn row_of(recs: &[u8], ranks: &[u16], number: u16) -> usize
+    requires { 0 < number }
+    ensures { (result ≡ row_in (decode recs.now) ranks.now (number - 1)) × (result < 65536) }
 {
-    let c = chosen[t] as usize;
-    clocks[t * width + c] <= clocks[u * width + c]
+    row_at(recs, ranks, (number - 1) as usize)
 }
 
 // 0 where row t leads to row u as it stands, else 1.
-fn mark_of(chosen: &[u16], width: usize, clocks: &[u16], t: usize, u: usize) -> u16
-    requires { RowsIn chosen.now width clocks.now t u }
-    ensures { result ≡ mark_in chosen.now width clocks.now t u }
+fn mark_of(layout: Layout<'_>, clocks: &[u16], t: usize, u: usize) -> u16
+    requires { RowsIn layout.chosen.now layout.width clocks.now t u }
+    ensures { result ≡ mark_in layout.entry.chosen.now layout.entry.width clocks.now t u }
 {
-    if comes_before(chosen, width, clocks, t, u) {
-        return 0;
+    if layout.comes_before(clocks, t, u) {
+        0
+    } else {
+        1
     }
-    1
 }
 
 // Marks the entries of one second access of row u, from k on; the entry after them.
 fn mark_second(
-    recs: &[u8],
-    ranks: &[u16],
-    chosen: &[u16],
-    width: usize,
+    layout: Layout<'_>,
     clocks: &[u16],
     u: usize,
     list: &mut [u16],
     k: usize,
     count: usize,
 ) -> usize
-    requires { Markable (decode recs.now) ranks.now chosen.now width clocks.now u list.old k count }
-    ensures { MarksSecond (decode recs.now) list.old list.new k count result }
+    requires { Markable (decode layout.recs.now) layout.ranks.now layout.chosen.now layout.width clocks.now u list.old k count }
+    ensures { MarksSecond (decode layout.entry.recs.now) list.old list.new k count result }
 {
     let second = list[ENTRY_NUMBERS * k + 1];
-    let mut e = k;
-    while e < count {
+    for e in k..count {
         if list[ENTRY_NUMBERS * e + 1] != second {
             return e;
         }
-        let t = row_at(recs, ranks, (list[ENTRY_NUMBERS * e] - 1) as usize);
-        list[ENTRY_NUMBERS * e + 4] = mark_of(chosen, width, clocks, t, u);
-        e += 1;
+        let t = row_of(layout.recs, layout.ranks, list[ENTRY_NUMBERS * e]);
+        list[ENTRY_NUMBERS * e + 4] = mark_of(layout, clocks, t, u);
     }
-    e
+    count
 }
 
 // Raises row u by entry j, where that is open.
-fn raise_by(
-    recs: &[u8],
-    ranks: &[u16],
-    width: usize,
-    chains: usize,
-    clocks: &mut [u16],
-    u: usize,
-    list: &[u16],
-    j: usize,
-)
+fn raise_by(layout: Layout<'_>, chains: usize, clocks: &mut [u16], u: usize, list: &[u16], j: usize)
     requires { (entry_numbers * j + entry_numbers ≤ length list.now) × (u < 65536) × (0 < first list.now j) }
     ensures { clocks.new
-        ≡ raise_by (decode recs.now) ranks.now width chains u list.now j clocks.old }
+        ≡ raise_by (decode layout.entry.recs.now) layout.entry.ranks.now layout.entry.width chains u list.now j clocks.old }
 {
-    if list[ENTRY_NUMBERS * j + 4] != 1 {
-        return;
+    if list[ENTRY_NUMBERS * j + 4] == 1 {
+        let t = row_of(layout.recs, layout.ranks, list[ENTRY_NUMBERS * j]);
+        merge_row(clocks, layout.width, chains, t as u16, u as u16);
     }
-    let t = row_at(recs, ranks, (list[ENTRY_NUMBERS * j] - 1) as usize);
-    merge_row(clocks, width, chains, t as u16, u as u16);
 }
 
 // Raises row u by the open entries from k on, before e, the last first, down to the first one whose first access writes.
 fn raise(
-    recs: &[u8],
-    ranks: &[u16],
-    width: usize,
+    layout: Layout<'_>,
     chains: usize,
     clocks: &mut [u16],
     u: usize,
@@ -106,12 +86,10 @@ fn raise(
 )
     requires { (k ≤ e) × (entry_numbers * e ≤ length list.now) × (u < 65536) × ((i : ℕ) → k ≤ i → i < e → 0 < first list.now i) }
     ensures { clocks.new
-        ≡ raise_down (decode recs.now) ranks.now width chains u list.now k (e - k) clocks.old }
+        ≡ raise_down (decode layout.entry.recs.now) layout.entry.ranks.now layout.entry.width chains u list.now k (e - k) clocks.old }
 {
-    let mut j = e;
-    while k < j {
-        j -= 1;
-        raise_by(recs, ranks, width, chains, clocks, u, list, j);
+    for j in (k..e).rev() {
+        raise_by(layout, chains, clocks, u, list, j);
         if list[ENTRY_NUMBERS * j + 3] != 3 {
             return;
         }
@@ -123,11 +101,7 @@ fn more_chains(chosen: &[u16], chains: usize, u: usize) -> usize
     requires { u < length chosen.now }
     ensures { result ≡ max chains (get_or chosen.now u 0 + 1) }
 {
-    let c = chosen[u] as usize;
-    if chains <= c {
-        return c + 1;
-    }
-    chains
+    chains.max(chosen[u] as usize + 1)
 }
 
 // Where raising stands: at that row, and the chains taken by it and those before. Without a send, position is that of the row's begin.
@@ -139,89 +113,67 @@ struct Stand {
 }
 
 // Goes on to row u along the records: rows are merged along the links.
-fn walk_on(
-    recs: &[u8],
-    ranks: &[u16],
-    chosen: &[u16],
-    width: usize,
-    clocks: &mut [u16],
-    s: Stand,
-    u: usize,
-) -> Stand
-    requires { MayGo (decode recs.now) chosen.now width clocks.old s.row s.position u }
-    ensures { Went (by_records chosen.now width (decode recs.now) ranks.now) s.row s.position s.chains
-        clocks.old u result.row result.position result.chains clocks.new }
+fn walk_on(layout: Layout<'_>, clocks: &mut [u16], s: Stand, u: usize) -> Stand
+    requires { MayGo (decode layout.recs.now) layout.chosen.now layout.width clocks.old s.row s.position u }
+    ensures { Went (by_records layout.entry.chosen.now layout.entry.width (decode layout.entry.recs.now) layout.entry.ranks.now)
+        s.row s.position s.chains clocks.old u result.row result.position result.chains clocks.new }
 {
-    let mut t = s.row;
     let mut i = s.position;
     let mut chains = s.chains;
-    while t < u {
-        i = merge_links(recs, ranks, width, chains, clocks, i + 1);
-        t += 1;
-        chains = more_chains(chosen, chains, t);
+    for t in s.row..u {
+        i = merge_links(
+            layout.recs,
+            layout.ranks,
+            layout.width,
+            chains,
+            clocks,
+            i + 1,
+        );
+        chains = more_chains(layout.chosen, chains, t + 1);
     }
     Stand {
-        row: t,
+        row: u,
         position: i,
         chains: chains,
     }
 }
 
 // Goes on to row u by the clocks alone.
-fn lead_on(chosen: &[u16], width: usize, clocks: &mut [u16], s: Stand, u: usize) -> Stand
-    requires { (s.row ≤ u) × MayLead chosen.now width clocks.old u }
-    ensures { Went (by_clocks chosen.now width) s.row s.position s.chains
+fn lead_on(layout: Layout<'_>, clocks: &mut [u16], s: Stand, u: usize) -> Stand
+    requires { (s.row ≤ u) × MayLead layout.chosen.now layout.width clocks.old u }
+    ensures { Went (by_clocks layout.entry.chosen.now layout.entry.width) s.row s.position s.chains
         clocks.old u result.row result.position result.chains clocks.new }
 {
-    let mut t = s.row;
     let mut chains = s.chains;
-    while t < u {
-        t += 1;
-        lead_in(chosen, width, chains, clocks, t);
-        chains = more_chains(chosen, chains, t);
+    for t in s.row..u {
+        lead_in(layout.chosen, layout.width, chains, clocks, t + 1);
+        chains = more_chains(layout.chosen, chains, t + 1);
     }
     Stand {
-        row: t,
+        row: u,
         position: s.position,
         chains: chains,
     }
 }
 
 // Goes on to row u.
-fn go_on(
-    recs: &[u8],
-    ranks: &[u16],
-    chosen: &[u16],
-    width: usize,
-    clocks: &mut [u16],
-    s: Stand,
-    u: usize,
-    sends: bool,
-) -> Stand
-    requires { MayGo (decode recs.now) chosen.now width clocks.old s.row s.position u × (sends ≡ has_send (decode recs.now)) }
-    ensures { Went (onward (decode recs.now) ranks.now chosen.now width) s.row s.position s.chains
-        clocks.old u result.row result.position result.chains clocks.new }
+fn go_on(layout: Layout<'_>, clocks: &mut [u16], s: Stand, u: usize) -> Stand
+    requires { MayGo (decode layout.recs.now) layout.chosen.now layout.width clocks.old s.row s.position u }
+    ensures { Went (onward (decode layout.entry.recs.now) layout.entry.ranks.now layout.entry.chosen.now layout.entry.width)
+        s.row s.position s.chains clocks.old u result.row result.position result.chains clocks.new }
 {
-    if sends {
-        return lead_on(chosen, width, clocks, s, u);
+    if layout.sends {
+        lead_on(layout, clocks, s, u)
+    } else {
+        walk_on(layout, clocks, s, u)
     }
-    walk_on(recs, ranks, chosen, width, clocks, s, u)
 }
 
 // Marks that many entries. The clocks are filled before; afterwards their rows hold other things.
-fn mark_all(
-    recs: &[u8],
-    ranks: &[u16],
-    chosen: &[u16],
-    width: usize,
-    clocks: &mut [u16],
-    list: &mut [u16],
-    count: usize,
-    sends: bool,
-)
-    requires { FilledClocks (decode recs.now) ranks.now chosen.now width clocks.old × Unmarked (decode recs.now) list.old count ×
-        (sends ≡ has_send (decode recs.now)) }
-    ensures { MarksAll (decode recs.now) width clocks.old clocks.new list.old list.new count }
+fn mark_all(layout: Layout<'_>, clocks: &mut [u16], list: &mut [u16], count: usize)
+    requires { FilledClocks (decode layout.recs.now) layout.ranks.now layout.chosen.now layout.width clocks.old
+        × Unmarked (decode layout.recs.now) list.old count }
+    ensures { MarksAll (decode layout.entry.recs.now) layout.entry.width clocks.old clocks.new list.old list.new count }
 {
     let mut s = Stand {
         row: 0,
@@ -229,96 +181,45 @@ fn mark_all(
         chains: 1,
     };
     let mut k = 0;
+    // By `while`: from each second access it goes on to the next one's entries.
     while k < count {
-        let u = row_at(recs, ranks, (list[ENTRY_NUMBERS * k + 1] - 1) as usize);
-        s = go_on(recs, ranks, chosen, width, clocks, s, u, sends);
-        let e = mark_second(recs, ranks, chosen, width, clocks, u, list, k, count);
+        let u = row_of(layout.recs, layout.ranks, list[ENTRY_NUMBERS * k + 1]);
+        s = go_on(layout, clocks, s, u);
+        let e = mark_second(layout, clocks, u, list, k, count);
         if e < count {
-            raise(recs, ranks, width, s.chains, clocks, u, list, k, e);
+            raise(layout, s.chains, clocks, u, list, k, e);
         }
         k = e;
     }
 }
 
-// Marks that many entries; the clocks are filled before and after. Records don't say all links of a trace with a send: what happens before what is kept
-// in the table, which has no bits before, and the rows are made from it again.
-fn mark_within(
-    recs: &[u8],
-    ranks: &[u16],
-    chosen: &[u16],
-    events: usize,
-    width: usize,
-    clocks: &mut [u16],
-    list: &mut [u16],
-    count: usize,
-    sends: bool,
-    table: &mut [u64],
-)
-    requires { FilledClocks (decode recs.now) ranks.now chosen.now width clocks.old × Unmarked (decode recs.now) list.old count ×
-        (events ≡ events_in (decode recs.now)) × (sends ≡ has_send (decode recs.now)) × (T sends → table.old ≡ zeros 8704) }
-    ensures { MarksList (decode recs.now) clocks.old clocks.new list.old list.new count }
+// Marks that many entries of a trace with a send; the clocks are filled before and after. Records don't say all its links: what happens before what is
+// kept in a table, and the rows are made from it again. Not inlined, so that the table stands in no frame of a call for a trace without sends.
+#[inline(never)]
+fn mark_linked(layout: Layout<'_>, clocks: &mut [u16], list: &mut [u16], count: usize)
+    requires { FilledClocks (decode layout.recs.now) layout.ranks.now layout.chosen.now layout.width clocks.old
+        × Unmarked (decode layout.recs.now) list.old count }
+    ensures { MarksList (decode layout.entry.recs.now) clocks.old clocks.new list.old list.new count }
 {
-    if sends {
-        keep_rows(chosen, events, width, clocks, table);
-        mark_all(recs, ranks, chosen, width, clocks, list, count, true);
-        restore_rows(table, chosen, events, width, clocks);
-        return;
-    }
-    mark_all(recs, ranks, chosen, width, clocks, list, count, false);
-    refill(recs, ranks, chosen, events, width, clocks);
-}
-
-// The same for a trace with sends, with a table of its own. No trace has more event actions than the table has rows, so it never asks itself again; but a
-// function that does is not inlined, and the table stands in no frame of a call for a trace without sends.
-fn mark_linked(
-    recs: &[u8],
-    ranks: &[u16],
-    chosen: &[u16],
-    events: usize,
-    width: usize,
-    clocks: &mut [u16],
-    list: &mut [u16],
-    count: usize,
-)
-    requires { FilledClocks (decode recs.now) ranks.now chosen.now width clocks.old × Unmarked (decode recs.now) list.old count ×
-        (events ≡ events_in (decode recs.now)) × (has_send (decode recs.now) ≡ true) }
-    ensures { MarksList (decode recs.now) clocks.old clocks.new list.old list.new count }
-{
-    if 1024 < events {
-        mark_linked(recs, ranks, chosen, 1024, width, clocks, list, count);
-        return;
-    }
     let mut table = no_bits();
-    mark_within(
-        recs, ranks, chosen, events, width, clocks, list, count, true, &mut table,
-    );
+    keep_rows(layout, clocks, &mut table);
+    mark_all(layout, clocks, list, count);
+    restore_rows(&table, layout, clocks);
 }
 
 // Marks that many entries; the clocks are filled before and after.
-pub(crate) fn mark_list(
-    recs: &[u8],
-    ranks: &[u16],
-    chosen: &[u16],
-    events: usize,
-    width: usize,
-    clocks: &mut [u16],
-    list: &mut [u16],
-    count: usize,
-    sends: bool,
-)
-    requires { FilledClocks (decode recs.now) ranks.now chosen.now width clocks.old × Unmarked (decode recs.now) list.old count ×
-        (events ≡ events_in (decode recs.now)) × (sends ≡ has_send (decode recs.now)) }
-    ensures { MarksList (decode recs.now) clocks.old clocks.new list.old list.new count }
+pub(crate) fn mark_list(layout: Layout<'_>, clocks: &mut [u16], list: &mut [u16], count: usize)
+    requires { FilledClocks (decode layout.recs.now) layout.ranks.now layout.chosen.now layout.width clocks.old
+        × Unmarked (decode layout.recs.now) list.old count }
+    ensures { MarksList (decode layout.entry.recs.now) clocks.old clocks.new list.old list.new count }
 {
     if count == 0 {
         return;
     }
-    if sends {
-        mark_linked(recs, ranks, chosen, events, width, clocks, list, count);
-        return;
+    if layout.sends {
+        mark_linked(layout, clocks, list, count);
+    } else {
+        mark_all(layout, clocks, list, count);
+        refill(layout, clocks);
     }
-    let mut none = no_words();
-    mark_within(
-        recs, ranks, chosen, events, width, clocks, list, count, false, &mut none,
-    );
 }

@@ -5,9 +5,9 @@ ghost use Rattle.order.specs.Fill.{events_in, trace_clocks};
 ghost use Rattle.order.specs.loops.Pass.{tick};
 ghost use Rattle.races.specs.loops.Refilling.{Refillable};
 
+use crate::filled::Layout;
 use clocks::{add_one, clear_rows};
 use order::merging::merge_links;
-use records::access;
 
 // One more at entry c of row u.
 pub(crate) fn add_to_row(clocks: &mut [u16], width: usize, u: usize, c: usize)
@@ -20,30 +20,25 @@ pub(crate) fn add_to_row(clocks: &mut [u16], width: usize, u: usize, c: usize)
 }
 
 // Fills the rows anew, whatever they hold.
-pub(crate) fn refill(
-    recs: &[u8],
-    ranks: &[u16],
-    chosen: &[u16],
-    events: usize,
-    width: usize,
-    clocks: &mut [u16],
-)
-    requires { Refillable (decode recs.now) ranks.now chosen.now events width clocks.old }
-    ensures { clocks.new
-        ≡ trace_clocks (decode recs.now) width ++ drop (events_in (decode recs.now) * width) clocks.old }
+pub(crate) fn refill(layout: Layout<'_>, clocks: &mut [u16])
+    requires { Refillable (decode layout.recs.now) layout.ranks.now layout.chosen.now layout.events layout.width clocks.old }
+    ensures { clocks.new ≡ trace_clocks (decode layout.entry.recs.now) layout.entry.width
+        ++ drop (events_in (decode layout.entry.recs.now) * layout.entry.width) clocks.old }
 {
-    clear_rows(clocks, width, events as u16);
-    let n = access::count(recs);
+    clear_rows(clocks, layout.width, layout.events as u16);
     let mut chains = 0;
-    let mut u = 0;
     let mut i = 0;
-    while i < n {
-        let c = chosen[u] as usize;
-        add_to_row(clocks, width, u, c);
-        if chains <= c {
-            chains = c + 1;
-        }
-        i = merge_links(recs, ranks, width, chains, clocks, i + 1);
-        u += 1;
+    for u in 0..layout.events {
+        let c = layout.chosen[u] as usize;
+        add_to_row(clocks, layout.width, u, c);
+        chains = chains.max(c + 1);
+        i = merge_links(
+            layout.recs,
+            layout.ranks,
+            layout.width,
+            chains,
+            clocks,
+            i + 1,
+        );
     }
 }

@@ -3,13 +3,14 @@ ghost use Rattle.std.specs.Prelude.{◌≤◌};
 
 use crate::judge::byte_at;
 use crate::known::Known;
-use crate::slots::{get_short, narrow, pick, plus, wide};
+use crate::slots::narrow;
 use crate::{chains, definitions, pair_answers};
-use order::Filling;
-use pair::PairAnswer;
-use races::Listing;
+use pair::Verdict;
+use races::Summary;
 use records::Operation;
+use slices::get;
 use trace::Refusal;
+use trials::numbers::{pick, plus};
 
 // The calls.
 pub(crate) const FILL: usize = 0;
@@ -64,8 +65,8 @@ pub(crate) struct Outcome {
 
 fn refused(f: Refusal) -> Reply {
     Reply {
-        number: wide(f.number),
-        place: wide(f.place.0),
+        number: usize::from(f.reason.number()),
+        place: usize::from(f.place.0),
         events: 0,
         records: 0,
         chains: 0,
@@ -86,24 +87,24 @@ fn counted(chains: usize, count: usize, covered: bool) -> Reply {
     }
 }
 
-fn of_filling(r: Filling) -> Reply {
+fn of_filling(r: Result<usize, Refusal>) -> Reply {
     match r {
-        Filling::Filled(c) => counted(c, 0, false),
-        Filling::Refused(f) => refused(f),
+        Ok(c) => counted(c, 0, false),
+        Err(f) => refused(f),
     }
 }
 
-fn of_pair(r: PairAnswer) -> Reply {
+fn of_pair(r: Result<Verdict, Refusal>) -> Reply {
     match r {
-        PairAnswer::Open(n) => counted(0, n, false),
-        PairAnswer::Covered(n) => counted(0, n, true),
-        PairAnswer::Refused(f) => refused(f),
+        Ok(Verdict::Open(n)) => counted(0, n, false),
+        Ok(Verdict::Covered(n)) => counted(0, n, true),
+        Err(f) => refused(f),
     }
 }
 
-fn of_listing(r: Listing) -> Reply {
+fn of_listing(r: Result<Summary, Refusal>) -> Reply {
     match r {
-        Listing::Listed(s) => Reply {
+        Ok(s) => Reply {
             number: 0,
             place: 0,
             events: s.events,
@@ -112,7 +113,7 @@ fn of_listing(r: Listing) -> Reply {
             count: s.count,
             covered: false,
         },
-        Listing::Refused(f) => refused(f),
+        Err(f) => refused(f),
     }
 }
 
@@ -159,39 +160,33 @@ pub(crate) fn at_most(n: usize, most: usize) -> usize
 }
 
 fn clocks_agree(c: Case, table: &[usize], clocks: &[u16]) -> bool {
-    let mut i = 0;
-    while i < 1100 {
+    for i in 0..1100 {
         let unfilled = pick(i < c.zeros, 0, 7);
         let expected = pick(i < c.rows, chains::clock(table, c.width, i), unfilled);
-        if get_short(clocks, i) != expected {
+        if usize::from(get(clocks, i)) != expected {
             return false;
         }
-        i += 1;
     }
     true
 }
 
 fn work_agrees(c: Case, work: &[u8]) -> bool {
-    let mut i = 0;
-    while i < 64 {
+    for i in 0..64 {
         if byte_at(work, i) != pick(i < c.cleared, 0, 3) {
             return false;
         }
-        i += 1;
     }
     true
 }
 
 fn list_agrees(c: Case, recs: &[u8], table: &[usize], list: &[u16]) -> bool {
     let n = c.list;
-    let mut i = 0;
-    while i < n {
+    for i in 0..n {
         let number = definitions::number_in_list(recs, table, c.call == ALL_RACES, i);
         let expected = pick(i < c.listed, number, 9);
-        if get_short(list, i) != expected {
+        if usize::from(get(list, i)) != expected {
             return false;
         }
-        i += 1;
     }
     true
 }

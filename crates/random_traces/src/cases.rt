@@ -1,16 +1,16 @@
 // One trace: read it, and compare every answer.
 use crate::calls::{Case, PAIR};
-use crate::chance::roll;
 use crate::definitions::{is_race, race_first, race_second};
 use crate::draft::Draft;
 use crate::known::Known;
-use crate::slots::{pick, plus, wide};
 use crate::tally::Counts;
 use crate::{
     calls, damage, draft, expectations, frames, judge, known, order_cases, paths, slim_cases, tally,
 };
 use records::{Trace, access};
-use trace::{Reading, Refusal};
+use trace::Refusal;
+use trials::chance::roll;
+use trials::numbers::{pick, plus};
 
 // The job file's bytes, before record 1.
 fn trace_space() -> [u8; 2048] {
@@ -71,12 +71,10 @@ fn compare_at(
 fn compare_all(bytes: &[u8], recs: &[u8], table: &[usize], k: Known, before: Counts) -> Counts {
     let n = plus(plus(28, k.races), k.records);
     let mut tally = before;
-    let mut x = 0;
-    while x < n {
+    for x in 0..n {
         if is_asked(k, x) {
             tally = compare_at(bytes, recs, table, k, x, tally);
         }
-        x += 1;
     }
     tally
 }
@@ -130,11 +128,9 @@ fn compare_refused(bytes: &[u8], number: usize, place: usize, before: Counts) ->
     let k = known::nothing();
     let none = [0usize; 1];
     let mut tally = before;
-    let mut call = 0;
-    while call < 4 {
+    for call in 0..4 {
         let c = expectations::refused(k, call, number, place);
         tally = compare_case(bytes, bytes, &none, k, c, tally);
-        call += 1;
     }
     tally
 }
@@ -148,8 +144,8 @@ fn compare_others(bytes: &[u8], number: usize, place: usize, before: Counts) -> 
 }
 
 fn note_refusal(bytes: &[u8], f: Refusal, before: Counts) -> Counts {
-    let number = wide(f.number);
-    let place = wide(f.place.0);
+    let number = usize::from(f.reason.number());
+    let place = usize::from(f.place.0);
     let tally = tally::add(before, plus(tally::REFUSED, number), 1);
     let judged = compare_judged(bytes, number, place, tally);
     let refused = compare_refused(bytes, number, place, judged);
@@ -167,13 +163,13 @@ fn check(bytes: &[u8], d: Draft, total: usize, before: Counts) -> Counts {
     let tally = tally::add(before, total, 1);
     let whole = total != tally::DAMAGED;
     match trace::read(bytes) {
-        Reading::Accepted(t) => {
+        Ok(t) => {
             let read = tally::note(tally, tally::READING, !whole | is_as_drafted(t, d));
             let counted = tally::add(read, tally::STILL_ACCEPTED, pick(whole, 0, 1));
             compare_trace(bytes, t, counted)
         }
-        Reading::Refused(f) => {
-            let may = !whole | (d.free & (f.number == 31));
+        Err(f) => {
+            let may = !whole | (d.free & (f.reason.number() == 31));
             note_refusal(bytes, f, tally::note(tally, tally::READING, may))
         }
     }

@@ -1,6 +1,9 @@
 // Chains and clock rows, from the paths alone.
 use crate::paths::{MEMBERS, before};
-use crate::slots::{NOWHERE, bit, get, pick, plus, put, size};
+use crate::slots::{NOWHERE, size};
+use slices::{get, put};
+use trials::numbers::{pick, plus};
+use trials::sets::bit;
 
 fn members(table: &[usize], chain: usize) -> usize {
     get(table, plus(MEMBERS, chain))
@@ -13,23 +16,19 @@ fn members_before(table: &[usize], u: usize, chain: usize) -> usize {
 
 // The lowest chain whose last member happens before u, else a new one. Each member of a chain happens before the next, so the last does where all do.
 fn choose(table: &[usize], chains: usize, u: usize) -> usize {
-    let mut c = 0;
-    while c < chains {
+    for c in 0..chains {
         if members_before(table, u, c) == members(table, c) {
             return c;
         }
-        c += 1;
     }
-    c
+    chains
 }
 
 // "Event actions take chains in order of begin: the lowest-numbered chain, from 0, whose last member happens before the new one, else a new chain."
 // How many chains.
 pub(crate) fn find_chains(table: &mut [usize], count: usize) -> usize {
     let mut chains = 0;
-    let mut t = 0;
-    while t < count {
-        t += 1;
+    for t in 1..=count {
         let c = choose(table, chains, t);
         let set = members(table, c) | bit(t);
         put(table, plus(MEMBERS, c), set);

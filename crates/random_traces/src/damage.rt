@@ -1,7 +1,10 @@
 // A trace with one thing changed, or nothing.
-use crate::chance::roll;
-use crate::draft::{Draft, byte, put_trailer};
-use crate::slots::{NOWHERE, fives, get_byte, pick, plus, put_byte};
+use crate::draft::{Draft, byte};
+use crate::slots::{NOWHERE, fives};
+use slices::{get, put};
+use trials::chance::roll;
+use trials::draft::put_trailer;
+use trials::numbers::{pick, plus};
 
 // Where the trailer is put, which record is written over which, where a byte is put and which, and how long the trace is.
 #[derive(Clone, Copy)]
@@ -67,19 +70,18 @@ fn choose(d: Draft, seed: usize, way: usize) -> Change {
 
 // Writes record p over record q.
 fn repeat(bytes: &mut [u8], p: usize, q: usize) {
-    let mut i = 0;
-    while i < 5 {
-        let b = get_byte(bytes, plus(p, i));
-        put_byte(bytes, plus(q, i), b);
-        i += 1;
+    for i in 0..5 {
+        let b = get(bytes, plus(p, i));
+        put(bytes, plus(q, i), b);
     }
 }
 
 // Puts the trailer, changes the trace, and gives its length. A whole trace is not changed.
 pub(crate) fn put_end(bytes: &mut [u8], d: Draft, whole: bool, seed: usize) -> usize {
     let x = choose(d, seed, pick(whole, 9, roll(seed, d.end, 37, 9)));
-    put_trailer(bytes, x.end, between(d.start, x.end), d.events);
+    let distance = between(d.start, x.end) % 65536;
+    put_trailer(bytes, x.end, distance, (d.events % 65536) as u16);
     repeat(bytes, x.p, x.q);
-    put_byte(bytes, x.at, x.byte);
+    put(bytes, x.at, x.byte);
     x.length
 }

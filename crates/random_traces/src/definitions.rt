@@ -1,7 +1,10 @@
 // Races, cover and both lists by their definitions.
-use crate::paths::{FIRST, MARK, SECOND, SHORT, action_of, before, cell_of, is_kind, reaches};
-use crate::slots::{get, is_in, pick, plus, put};
+use crate::paths::{FIRST, MARK, SECOND, SHORT, action_of, before, reaches};
 use records::access;
+use slices::{get, put};
+use trials::numbers::{pick, plus};
+use trials::recs::{cell_of, is_kind};
+use trials::sets::is_in;
 
 // "For records a ≼ b: in different event actions as those are ordered; in one, when a stands earlier."
 pub(crate) fn is_before(recs: &[u8], table: &[usize], a: usize, b: usize) -> bool {
@@ -87,10 +90,8 @@ fn put_if_race(recs: &[u8], table: &mut [usize], found: usize, a: usize, b: usiz
 pub(crate) fn find_races(recs: &[u8], table: &mut [usize]) -> usize {
     let n = grid(access::count(recs));
     let mut found = 0;
-    let mut x = 0;
-    while x < n {
+    for x in 0..n {
         found = put_if_race(recs, table, found, x % 512, x / 512);
-        x += 1;
     }
     found
 }
@@ -107,9 +108,7 @@ fn lead_turn(recs: &[u8], table: &[usize], set: usize, b: usize, r: usize) -> us
 // action leads to b, it does so by races whose second records stand after d.
 pub(crate) fn find_leads(recs: &[u8], table: &[usize], races: usize, b: usize) -> usize {
     let mut set = 0;
-    let mut r = races;
-    while 0 < r {
-        r -= 1;
+    for r in (0..races).rev() {
         set = lead_turn(recs, table, set, b, r);
     }
     set
@@ -118,12 +117,10 @@ pub(crate) fn find_leads(recs: &[u8], table: &[usize], races: usize, b: usize) -
 // No write of a's cell stands between a and b: b is the next write, or a the last write before a read.
 fn are_neighbours(recs: &[u8], a: usize, b: usize) -> bool {
     let cell = cell_of(recs, a);
-    let mut i = plus(a, 1);
-    while i < b {
+    for i in plus(a, 1)..b {
         if is_kind(recs, i, 6) & (cell_of(recs, i) == cell) {
             return false;
         }
-        i += 1;
     }
     true
 }
@@ -142,14 +139,12 @@ fn is_short(recs: &[u8], table: &[usize], r: usize) -> bool {
 // The marks, and which races are in the short list; how many.
 pub(crate) fn find_short(recs: &[u8], table: &mut [usize], races: usize) -> usize {
     let mut found = 0;
-    let mut r = 0;
-    while r < races {
+    for r in 0..races {
         let open = mark_of(recs, table, races, r);
         let short = is_short(recs, table, r);
         put(table, plus(MARK, r), open);
         put(table, plus(SHORT, found), r);
         found = pick(short, plus(found, 1), found);
-        r += 1;
     }
     found
 }

@@ -1,9 +1,11 @@
 // Traces put together by chance, each of them acceptable but for 31.
-use crate::chance::roll;
 use crate::damage::between;
-use crate::paths::{is_kind, target_of};
-use crate::slots::{fives, get_byte, narrow, pick, plus, put_byte};
+use crate::slots::{fives, narrow};
 use records::access;
+use trials::chance::roll;
+use trials::draft::put_record;
+use trials::numbers::{pick, plus};
+use trials::recs::{is_kind, target_of};
 
 // What a seed settles: how many event actions, at most how many body records each (less 1), how often it joins (of 8), forks, sends and writes (of 16),
 // how many cells and links, how many sends go to any target (of 8; the others go no lower than the last one on their link, and 31 is for none of them), how
@@ -99,42 +101,6 @@ pub(crate) fn byte(x: usize) -> u8 {
     (x % 256) as u8
 }
 
-// Puts the bytes of a part at a place; where it ends.
-fn put_part(bytes: &mut [u8], at: usize, part: &[u8]) -> usize {
-    let n = part.len();
-    let mut i = 0;
-    while i < n {
-        put_byte(bytes, plus(at, i), get_byte(part, i));
-        i += 1;
-    }
-    plus(at, n)
-}
-
-pub(crate) fn put_record(bytes: &mut [u8], at: usize, kind: u8, first: u16, second: u16) -> usize {
-    let part = [
-        kind,
-        (first % 256) as u8,
-        (first / 256) as u8,
-        (second % 256) as u8,
-        (second / 256) as u8,
-    ];
-    put_part(bytes, at, &part)
-}
-
-pub(crate) fn put_trailer(bytes: &mut [u8], at: usize, distance: usize, begins: usize) -> usize {
-    let part = [
-        byte(distance),
-        byte(distance / 256),
-        0,
-        0,
-        byte(begins),
-        byte(begins / 256),
-        1,
-        0xA7,
-    ];
-    put_part(bytes, at, &part)
-}
-
 fn join_count(s: Shape, at: usize, j: usize) -> usize {
     let joins = roll(s.seed, at, 17, 8) < s.joins;
     pick(joins & (0 < j), plus(1, roll(s.seed, at, 18, 3)), 0)
@@ -196,11 +162,9 @@ fn rank(s: Shape, event: usize) -> usize {
 fn highest(recs: &[u8], s: Shape, kind: u8, lowest: usize) -> usize {
     let n = access::count(recs);
     let mut most = lowest;
-    let mut i = 0;
-    while i < n {
+    for i in 0..n {
         let t = rank(s, target_of(recs, i));
         most = pick(is_kind(recs, i, kind) & (most < t), t, most);
-        i += 1;
     }
     most
 }
@@ -232,12 +196,10 @@ fn second_of(bytes: &[u8], s: Shape, x: Action, at: usize, kind: u8) -> u16 {
 fn put_action(bytes: &mut [u8], s: Shape, x: Action) -> usize {
     let n = plus(plus(x.joins, x.body), 2);
     let mut at = x.from;
-    let mut r = 0;
-    while r < n {
+    for r in 0..n {
         let kind = kind_of(s, x, at, r);
         let second = second_of(bytes, s, x, at, kind);
         at = put_record(bytes, at, kind, number(s, x.j), second);
-        r += 1;
     }
     at
 }
@@ -245,10 +207,8 @@ fn put_action(bytes: &mut [u8], s: Shape, x: Action) -> usize {
 fn put_actions(bytes: &mut [u8], s: Shape) -> usize {
     let n = s.events;
     let mut at = s.before;
-    let mut j = 0;
-    while j < n {
+    for j in 0..n {
         at = put_action(bytes, s, action_at(s, at, j));
-        j += 1;
     }
     at
 }

@@ -2,8 +2,9 @@
 // byte too few, 5 a chain too few, 6 a list number too few, 7 two records that are no race, 8 a record that is not in the trace.
 use crate::calls::{Case, FILL, PAIR};
 use crate::known::Known;
-use crate::slots::{fives, less, pick, plus};
+use crate::slots::fives;
 use crate::{chains, tally};
+use trials::numbers::{less, pick, plus};
 
 // How many entries the list of a call has, for the pair question how many it asks for.
 fn entries_of(k: Known, call: usize) -> usize {

@@ -1,14 +1,17 @@
 // Traces written out as text, four characters a record: kind, event, target or cell, space. A kind is b (begin), e (end), j (join), r (read), w (write)
 // or *: the character after the event then names a digit of a number x, which says what stands there.
-use crate::draft::{Draft, byte, put_record};
-use crate::slots::{fives, get_byte, narrow, pick, plus};
+use crate::draft::{Draft, byte};
+use crate::slots::{fives, narrow};
+use slices::get;
+use trials::draft::put_record;
+use trials::numbers::{pick, plus};
 
 // The value of a digit's character; of any other one that comes before 0, 0.
 fn value(c: u8) -> usize {
     if c < b'0' {
         return 0;
     }
-    crate::slots::wide((c - b'0') as u16)
+    usize::from((c - b'0') as u16)
 }
 
 // Digits 0 and 1 are below 7, digits 2 and 3 below 5, digit 4 below 3: 3,675 numbers, or 1,225 without digit 4.
@@ -32,22 +35,22 @@ fn second_by(event: usize, d: usize) -> usize {
 }
 
 fn kind_at(text: &[u8], at: usize, x: usize) -> u8 {
-    match get_byte(text, at) {
+    match get(text, at) {
         b'b' => 1,
         b'e' => 2,
         b'j' => 4,
         b'r' => 5,
         b'w' => 6,
-        _ => kind_by(digit(x, get_byte(text, plus(at, 2)))),
+        _ => kind_by(digit(x, get(text, plus(at, 2)))),
     }
 }
 
 fn second_at(text: &[u8], at: usize, x: usize) -> usize {
-    let c = get_byte(text, plus(at, 2));
+    let c = get(text, plus(at, 2));
     let written = value(c);
-    let event = value(get_byte(text, plus(at, 1)));
+    let event = value(get(text, plus(at, 1)));
     pick(
-        get_byte(text, at) == b'*',
+        get(text, at) == b'*',
         second_by(event, digit(x, c)),
         written,
     )
@@ -56,17 +59,15 @@ fn second_at(text: &[u8], at: usize, x: usize) -> usize {
 fn put_next(bytes: &mut [u8], text: &[u8], i: usize, x: usize) {
     let at = plus(plus(i, i), plus(i, i));
     let kind = kind_at(text, at, x);
-    let first = narrow(value(get_byte(text, plus(at, 1))));
+    let first = narrow(value(get(text, plus(at, 1))));
     put_record(bytes, fives(i), kind, first, narrow(second_at(text, at, x)));
 }
 
 // Trace x of a frame of so many event actions, without its trailer.
 pub(crate) fn put_frame(bytes: &mut [u8], text: &[u8], events: usize, x: usize) -> Draft {
     let n = text.len() / 4;
-    let mut i = 0;
-    while i < n {
+    for i in 0..n {
         put_next(bytes, text, i, x);
-        i += 1;
     }
     Draft {
         start: 0,

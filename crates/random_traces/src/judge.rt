@@ -1,8 +1,10 @@
 // The reader's answer by document 01's words: each record against all that stand before it.
-use crate::paths::{event_of, is_kind, is_send, target_of};
+use crate::paths::is_send;
 use crate::sends::is_blocked;
-use crate::slots::{get_byte, less, pick, plus, wide};
 use records::{Trace, access};
+use slices::get;
+use trials::numbers::{less, pick, plus};
+use trials::recs::{event_of, is_kind, target_of};
 
 // A refusal's number and place; number 0 for an accepted trace.
 #[derive(Clone, Copy)]
@@ -20,12 +22,10 @@ fn found(number: usize, place: usize) -> Verdict {
 
 // The first of n records that has the kind and the event, or n.
 pub(crate) fn find(recs: &[u8], n: usize, kind: u8, event: usize) -> usize {
-    let mut i = 0;
-    while i < n {
+    for i in 0..n {
         if is_kind(recs, i, kind) & (event_of(recs, i) == event) {
             return i;
         }
-        i += 1;
     }
     n
 }
@@ -36,7 +36,7 @@ fn is_number(x: usize) -> bool {
 
 // "event or cell not 1 to 1,024, or second of a begin or end not 0"
 fn has_numbers(recs: &[u8], i: usize) -> bool {
-    let y = wide(access::record_at(recs, i).second);
+    let y = usize::from(access::record_at(recs, i).second);
     if access::kind_at(recs, i) < 3 {
         return is_number(event_of(recs, i)) & (y == 0);
     }
@@ -86,12 +86,10 @@ fn refusal_at(recs: &[u8], i: usize) -> usize {
 
 // The first record that is refused, or as many as there are.
 fn first_refused(recs: &[u8], n: usize) -> usize {
-    let mut i = 0;
-    while i < n {
+    for i in 0..n {
         if refusal_at(recs, i) != 0 {
             return i;
         }
-        i += 1;
     }
     n
 }
@@ -100,11 +98,9 @@ fn first_refused(recs: &[u8], n: usize) -> usize {
 pub(crate) fn count_kinds(recs: &[u8], low: u8, high: u8) -> usize {
     let n = access::count(recs);
     let mut count = 0;
-    let mut i = 0;
-    while i < n {
+    for i in 0..n {
         let kind = access::kind_at(recs, i);
         count = plus(count, pick((low <= kind) & (kind <= high), 1, 0));
-        i += 1;
     }
     count
 }
@@ -126,7 +122,7 @@ fn judge_records(recs: &[u8], begins: usize) -> Verdict {
 }
 
 pub(crate) fn byte_at(bytes: &[u8], at: usize) -> usize {
-    crate::slots::wide(get_byte(bytes, at) as u16)
+    usize::from(get(bytes, at) as u16)
 }
 
 // Two bytes as a number, low byte first.

@@ -1,7 +1,7 @@
 // What the plain search knows of one accepted trace, beside the table.
-use crate::slots::{less, plus};
 use crate::{chains, definitions, judge, paths};
 use records::access;
+use trials::numbers::{less, plus};
 
 // Event actions, records, chains, the width to use and the clocks that it takes, races, entries of the short list, and the begin that needs the last chain.
 #[derive(Clone, Copy)]

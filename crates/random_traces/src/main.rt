@@ -4,7 +4,6 @@
 mod calls;
 mod cases;
 mod chains;
-mod chance;
 mod damage;
 mod definitions;
 mod draft;
@@ -26,10 +25,8 @@ use tally::Counts;
 // 3,500 traces as they were put together, then each of them damaged three times.
 fn run(before: Counts) -> Counts {
     let mut tally = before;
-    let mut x = 0;
-    while x < 14000 {
+    for x in 0..14000 {
         tally = cases::compare(x, tally);
-        x += 1;
     }
     tally
 }
@@ -37,10 +34,8 @@ fn run(before: Counts) -> Counts {
 // Every x below n, for a frame of so many event actions.
 fn run_frame(text: &[u8], events: usize, n: usize, before: Counts) -> Counts {
     let mut tally = before;
-    let mut x = 0;
-    while x < n {
+    for x in 0..n {
         tally = cases::compare_frame(text, events, x, tally);
-        x += 1;
     }
     tally
 }

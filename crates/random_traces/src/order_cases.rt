@@ -1,12 +1,13 @@
 // The order question against the paths.
 use crate::calls::clock_space;
 use crate::known::Known;
-use crate::slots::{less, narrow, pick, plus, wide};
+use crate::slots::narrow;
 use crate::tally::Counts;
 use crate::{paths, tally};
 use clocks::Relation;
-use question::Answer;
 use records::EventId;
+use trace::Refusal;
+use trials::numbers::{less, pick, plus};
 
 fn number(way: Relation) -> usize {
     match way {
@@ -18,10 +19,10 @@ fn number(way: Relation) -> usize {
 }
 
 // 1 the same, 2 first before second, 3 second before first, 4 unordered; 11 where one has no begin in the trace: refusal 11, place 0.
-fn code(r: Answer) -> usize {
+fn code(r: Result<Relation, Refusal>) -> usize {
     match r {
-        Answer::Related(way) => number(way),
-        Answer::Refused(f) => plus(wide(f.number), wide(f.place.0)),
+        Ok(way) => number(way),
+        Err(f) => plus(usize::from(f.reason.number()), usize::from(f.place.0)),
     }
 }
 
@@ -65,8 +66,7 @@ fn compare_questions(
 ) -> Counts {
     let n = plus(k.events, 1);
     let mut tally = before;
-    let mut x = 0;
-    while x < 1024 {
+    for x in 0..1024 {
         if (x / 32 < n) & (x % 32 < n) {
             tally = compare_question(
                 bytes,
@@ -78,7 +78,6 @@ fn compare_questions(
                 tally,
             );
         }
-        x += 1;
     }
     tally
 }
@@ -114,7 +113,7 @@ pub(crate) fn is_refused(bytes: &[u8], number: usize, place: usize) -> bool {
 pub(crate) fn compare(bytes: &[u8], table: &[usize], k: Known, before: Counts) -> Counts {
     let mut space = clock_space();
     let clocks: &mut [u16] = &mut space;
-    order::fill(bytes, k.width, clocks);
+    let _ = order::fill(bytes, k.width, clocks);
     let refused = compare_refusals(bytes, table, k, clocks, before);
     compare_questions(bytes, table, k, clocks, refused)
 }

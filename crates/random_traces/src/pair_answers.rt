@@ -2,27 +2,27 @@
 use crate::definitions::{is_before, is_race};
 use crate::known::Known;
 use crate::paths::{action_of, reaches};
-use crate::slots::{get_short, is_in, less, pick, plus};
 use crate::{definitions, judge, paths};
 use records::access;
+use slices::get;
+use trials::numbers::{less, pick, plus};
+use trials::sets::is_in;
 
 // Entries of two numbers.
 fn first_of(list: &[u16], i: usize) -> usize {
-    get_short(list, plus(i, i))
+    usize::from(get(list, plus(i, i)))
 }
 
 fn second_of(list: &[u16], i: usize) -> usize {
-    get_short(list, plus(plus(i, i), 1))
+    usize::from(get(list, plus(plus(i, i), 1)))
 }
 
 // Nothing is written after the first n entries.
 fn ends_at(list: &[u16], n: usize) -> bool {
-    let mut i = plus(n, n);
-    while i < 256 {
-        if get_short(list, i) != 9 {
+    for i in plus(n, n)..256 {
+        if usize::from(get(list, i)) != 9 {
             return false;
         }
-        i += 1;
     }
     true
 }
@@ -43,12 +43,10 @@ fn continues(recs: &[u8], table: &[usize], list: &[u16], a: usize, i: usize) -> 
 
 // The first n entries are a cover of (a, b): races, each continuing from the one before, and the last one's second record ≼ b.
 fn is_cover(recs: &[u8], table: &[usize], list: &[u16], n: usize, a: usize, b: usize) -> bool {
-    let mut i = 0;
-    while i < n {
+    for i in 0..n {
         if !continues(recs, table, list, a, i) {
             return false;
         }
-        i += 1;
     }
     is_before(recs, table, less(second_of(list, less(n))), b) & (0 < n)
 }
@@ -76,9 +74,7 @@ fn count_kept(
     b: usize,
 ) -> usize {
     let mut found = 0;
-    let mut t = 0;
-    while t < events {
-        t += 1;
+    for t in 1..=events {
         if is_in(kept, t) {
             found = next_entry(recs, table, list, b, t, found);
         }
@@ -107,12 +103,10 @@ fn is_arranged_at(recs: &[u8], table: &[usize], kept: usize, b: usize, x: usize,
 
 fn is_arranged(recs: &[u8], table: &[usize], kept: usize, b: usize) -> bool {
     let n = definitions::grid(access::count(recs));
-    let mut x = 0;
-    while x < n {
+    for x in 0..n {
         if !is_arranged_at(recs, table, kept, b, x / 512, x % 512) {
             return false;
         }
-        x += 1;
     }
     true
 }

@@ -2,8 +2,12 @@
 // position, from 0. What is found of a trace stands in one table: the numbers of the event actions and the sets of those that happen before each, the
 // chains as sets of their members, the ranks by event number, the records and marks of the races, and which of them are in the short list.
 use crate::sends::find_ahead;
-use crate::slots::{NOWHERE, bit, get, is_in, pick, plus, put, remainder, wide};
+use crate::slots::{NOWHERE, remainder};
 use records::access;
+use slices::{get, put};
+use trials::numbers::{pick, plus};
+use trials::recs::{cell_of, event_of, is_kind, target_of};
+use trials::sets::{bit, is_in};
 
 const BEFORE: usize = 64;
 
@@ -21,25 +25,6 @@ pub(crate) const SHORT: usize = 22096;
 
 pub(crate) fn table_space() -> [usize; 28096] {
     [0; 28096]
-}
-
-// The event of record i.
-pub(crate) fn event_of(recs: &[u8], i: usize) -> usize {
-    wide(access::event_at(recs, i).0)
-}
-
-// The event that record i starts or waits for, where it is a fork or a join.
-pub(crate) fn target_of(recs: &[u8], i: usize) -> usize {
-    wide(access::target_at(recs, i).0)
-}
-
-// The cell of record i, where it is a read or a write.
-pub(crate) fn cell_of(recs: &[u8], i: usize) -> usize {
-    wide(access::cell_at(recs, i).0)
-}
-
-pub(crate) fn is_kind(recs: &[u8], i: usize, kind: u8) -> bool {
-    access::kind_at(recs, i) == kind
 }
 
 // A send on one of four links: placed, checked and ordering as a fork.
@@ -87,10 +72,8 @@ fn put_begin(recs: &[u8], table: &mut [usize], found: usize, i: usize) -> usize 
 pub(crate) fn find_begins(recs: &[u8], table: &mut [usize]) -> usize {
     let n = access::count(recs);
     let mut found = 0;
-    let mut i = 0;
-    while i < n {
+    for i in 0..n {
         found = put_begin(recs, table, found, i);
-        i += 1;
     }
     found
 }
@@ -131,13 +114,11 @@ fn is_new(recs: &[u8], table: &mut [usize], i: usize) -> bool {
 pub(crate) fn find_paths(recs: &[u8], table: &mut [usize]) {
     let n = access::count(recs);
     let mut old = 0;
-    let mut x = 0;
-    while x < 1000000 {
+    for x in 0..1000000 {
         if n <= old {
             return;
         }
         let new = is_new(recs, table, remainder(x, n));
         old = pick(new, 0, plus(old, 1));
-        x += 1;
     }
 }

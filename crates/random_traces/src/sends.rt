@@ -1,9 +1,11 @@
 // What sends on one link say of order, and refusal 31, as far as the order is found.
 use crate::definitions::is_before;
 use crate::known;
-use crate::paths::{before, event_of, is_kind, is_send, rank, target_of};
-use crate::slots::{is_in, pick};
+use crate::paths::{before, is_send, rank};
 use records::access;
+use trials::numbers::pick;
+use trials::recs::{event_of, is_kind, target_of};
+use trials::sets::is_in;
 
 // Send a is on the link of send b, to another target, and a ≼ b.
 fn is_ahead(recs: &[u8], table: &[usize], a: usize, b: usize) -> bool {
@@ -17,11 +19,9 @@ fn is_ahead(recs: &[u8], table: &[usize], a: usize, b: usize) -> bool {
 pub(crate) fn find_ahead(recs: &[u8], table: &[usize], b: usize) -> usize {
     let n = pick(is_send(recs, b), access::count(recs), 0);
     let mut set = 0;
-    let mut a = 0;
-    while a < n {
+    for a in 0..n {
         let those = before(table, rank(table, target_of(recs, a)));
         set = set | pick(is_ahead(recs, table, a, b), those, 0);
-        a += 1;
     }
     set
 }
@@ -29,12 +29,10 @@ pub(crate) fn find_ahead(recs: &[u8], table: &[usize], b: usize) -> usize {
 // A link puts the event "behind another target not yet begun".
 fn is_behind(recs: &[u8], table: &[usize], event: usize) -> bool {
     let n = access::count(recs);
-    let mut b = 0;
-    while b < n {
+    for b in 0..n {
         if (target_of(recs, b) == event) & is_in(find_ahead(recs, table, b), 0) {
             return true;
         }
-        b += 1;
     }
     false
 }

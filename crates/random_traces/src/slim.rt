@@ -1,9 +1,11 @@
 // A trace and what is kept of it, by plain search. The numbers of the records in the slim trace stand in a map, from 1, with 0 for those that are
 // dropped; then, for each record of the slim trace, its number in the trace.
 use crate::definitions::{is_access, race_first, race_second};
-use crate::paths::{MARK, action_of, before, cell_of, event_of};
-use crate::slots::{get, get_byte, less, plus, put};
+use crate::paths::{MARK, action_of, before};
 use records::access;
+use slices::{get, put};
+use trials::numbers::{less, plus};
+use trials::recs::{cell_of, event_of};
 
 pub(crate) const NEW: usize = 0;
 
@@ -20,9 +22,7 @@ fn same_record(recs: &[u8], i: usize, others: &[u8], j: usize) -> bool {
 
 // Is record i a read or a write that stands earlier in its event action already?
 fn is_repeated(recs: &[u8], i: usize) -> bool {
-    let mut j = i;
-    while 0 < j {
-        j -= 1;
+    for j in (0..i).rev() {
         if same_record(recs, i, recs, j) {
             return is_access(recs, i);
         }
@@ -44,19 +44,15 @@ fn put_kept(recs: &[u8], map: &mut [usize], kept: usize, i: usize) -> usize {
 pub(crate) fn find_kept(recs: &[u8], map: &mut [usize]) -> usize {
     let n = access::count(recs);
     let mut kept = 0;
-    let mut i = 0;
-    while i < n {
+    for i in 0..n {
         kept = put_kept(recs, map, kept, i);
-        i += 1;
     }
     kept
 }
 
 // Are the first records of the slim trace, that many, those of the trace that are kept?
 pub(crate) fn are_kept(recs: &[u8], slim: &[u8], map: &[usize], kept: usize) -> bool {
-    let mut k = kept;
-    while 0 < k {
-        k -= 1;
+    for k in (0..kept).rev() {
         if !same_record(slim, k, recs, less(get(map, plus(OLD, k)))) {
             return false;
         }
@@ -66,12 +62,10 @@ pub(crate) fn are_kept(recs: &[u8], slim: &[u8], map: &[usize], kept: usize) -> 
 
 // Do the same event actions happen before each of the first event actions, that many?
 pub(crate) fn same_order(table: &[usize], other: &[usize], events: usize) -> bool {
-    let mut t = events;
-    while 0 < t {
+    for t in 1..=events {
         if before(table, t) != before(other, t) {
             return false;
         }
-        t -= 1;
     }
     true
 }
@@ -90,9 +84,7 @@ fn combines(recs: &[u8], table: &[usize], r: usize, t: usize, b: usize) -> bool 
 }
 
 fn has_combination(recs: &[u8], table: &[usize], races: usize, t: usize, b: usize) -> bool {
-    let mut r = races;
-    while 0 < r {
-        r -= 1;
+    for r in (0..races).rev() {
         if combines(recs, table, r, t, b) {
             return true;
         }
@@ -101,9 +93,7 @@ fn has_combination(recs: &[u8], table: &[usize], races: usize, t: usize, b: usiz
 }
 
 fn has_open_race(recs: &[u8], table: &[usize], races: usize, cell: usize) -> bool {
-    let mut r = races;
-    while 0 < r {
-        r -= 1;
+    for r in (0..races).rev() {
         if is_open(table, r) & (cell_of(recs, race_second(table, r)) == cell) {
             return true;
         }
@@ -147,9 +137,7 @@ pub(crate) fn all_found(
     map: &[usize],
 ) -> bool {
     let from = side.numbers;
-    let mut r = side.races;
-    while 0 < r {
-        r -= 1;
+    for r in (0..side.races).rev() {
         let number = get(map, plus(from, race_second(table, r)));
         if !is_found(recs, table, r, others, other, races, number) {
             return false;
@@ -159,10 +147,8 @@ pub(crate) fn all_found(
 }
 
 pub(crate) fn same_bytes(bytes: &[u8], others: &[u8], n: usize) -> bool {
-    let mut i = n;
-    while 0 < i {
-        i -= 1;
-        if get_byte(bytes, i) != get_byte(others, i) {
+    for i in (0..n).rev() {
+        if get(bytes, i) != get(others, i) {
             return false;
         }
     }

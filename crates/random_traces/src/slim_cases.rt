@@ -3,12 +3,10 @@ use crate::calls::at_most;
 use crate::cases::first_bytes;
 use crate::known::Known;
 use crate::slim::Side;
-use crate::slots::{less, plus, wide};
 use crate::tally::Counts;
 use crate::{damage, draft, known, paths, slim, tally};
-use compactor::Compacting;
 use records::access;
-use trace::Reading;
+use trials::numbers::{less, plus};
 
 fn space() -> [u8; 2048] {
     [0; 2048]
@@ -21,9 +19,10 @@ pub(crate) fn is_refused(bytes: &[u8], length: usize, number: usize, place: usiz
     let n = at_most(length, 2048);
     let r = compactor::compact(bytes, &mut out[..n]);
     match r {
-        Compacting::Compacted(_) => false,
-        Compacting::Refused(f) => {
-            let same = (wide(f.number) == number) & (wide(f.place.0) == place);
+        Ok(_) => false,
+        Err(f) => {
+            let same = (usize::from(f.reason.number()) == number)
+                & (usize::from(f.place.0) == place);
             same & slim::same_bytes(out, &space(), 2048)
         }
     }
@@ -34,12 +33,12 @@ fn is_final(slim_bytes: &[u8]) -> bool {
     let mut again = space();
     let r = compactor::compact(slim_bytes, &mut again);
     match r {
-        Compacting::Compacted(s) => {
+        Ok(s) => {
             let n = slim_bytes.len();
             let same = slim::same_bytes(slim_bytes, &again, n);
             (s.length == n) & (s.dropped == 0) & same
         }
-        Compacting::Refused(_) => false,
+        Err(_) => false,
     }
 }
 
@@ -118,7 +117,7 @@ fn compare_slim(
     before: Counts,
 ) -> Counts {
     match trace::read(slim_bytes) {
-        Reading::Accepted(t) => {
+        Ok(t) => {
             let right = (t.start == 0) & is_final(slim_bytes);
             let noted = tally::note(before, tally::SLIM, right);
             compare_records(
@@ -130,7 +129,7 @@ fn compare_slim(
                 noted,
             )
         }
-        Reading::Refused(_) => tally::note(before, tally::SLIM, false),
+        Err(_) => tally::note(before, tally::SLIM, false),
     }
 }
 
@@ -146,26 +145,26 @@ pub(crate) fn compare(
     let out: &mut [u8] = &mut made;
     let r = compactor::compact(bytes, out);
     match r {
-        Compacting::Compacted(s) => {
+        Ok(s) => {
             let short = is_refused(bytes, less(s.length), 24, 0);
             let noted = tally::note(before, tally::LIST_SPACE, short);
             let made = first_bytes(out, s.length);
             compare_slim(recs, table, k, made, s.dropped, noted)
         }
-        Compacting::Refused(_) => tally::note(before, tally::SLIM, false),
+        Err(_) => tally::note(before, tally::SLIM, false),
     }
 }
 
 fn check(bytes: &[u8], before: Counts) -> Counts {
     match trace::read(bytes) {
-        Reading::Accepted(t) => {
+        Ok(t) => {
             let recs = access::records(bytes, t);
             let mut found = paths::table_space();
             let table: &mut [usize] = &mut found;
             let k = known::find_all(recs, table);
             compare(bytes, recs, table, k, before)
         }
-        Reading::Refused(_) => tally::note(before, tally::SLIM, false),
+        Err(_) => tally::note(before, tally::SLIM, false),
     }
 }
 
@@ -180,9 +179,7 @@ fn repeating(x: usize, before: Counts) -> Counts {
 
 pub(crate) fn run(before: Counts) -> Counts {
     let mut tally = before;
-    let mut x = 500;
-    while 0 < x {
-        x -= 1;
+    for x in (0..500).rev() {
         tally = repeating(x, tally);
     }
     tally

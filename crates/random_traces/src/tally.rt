@@ -1,5 +1,7 @@
 // What was counted. Each group has two counts: agreements, then disagreements. The totals follow the groups.
-use crate::slots::{get_byte, pick, plus};
+
+use slices::get;
+use trials::numbers::{pick, plus};
 
 #[derive(Clone, Copy)]
 pub(crate) struct Counts {
@@ -127,10 +129,8 @@ fn show_byte(tally: Counts, k: usize, b: u8) -> usize {
 
 fn show_text(tally: Counts, from: usize, text: &[u8]) -> usize {
     let mut k = from;
-    let mut i = 0;
-    while i < text.len() {
-        k = show_byte(tally, k, get_byte(text, i));
-        i += 1;
+    for i in 0..text.len() {
+        k = show_byte(tally, k, get(text, i));
     }
     k
 }

@@ -8,7 +8,7 @@ use native.Mathlib.Numerals.{add-one}
 use lib.ListN.{length, length-set, length-replicate}
 use Rattle.records.specs.declared.Record.{Record}
 use Rattle.records.specs.Records.{at, past, is_begin, begins}
-use Rattle.slices.specs.Slices.{zeros}
+use Rattle.slices.specs.Slices.{filled}
 use Rattle.ranks.specs.Ranks.{with_rank, rank_if, ranks_upto, ranks_of}
 use Rattle.ranks.specs.loops.RanksTo.{RanksTo}
 
@@ -18,7 +18,7 @@ rank-if-length true m e k = length-set m e (k % 65536)
 rank-if-length false m e k = refl
 
 pub ranks-length : (tr : List Record) (i : ℕ) → length (ranks_upto tr i) ≡ 1025
-unfolding ranks_upto zeros
+unfolding ranks_upto filled
 ranks-length tr zero = length-replicate {A = ℕ} 1025 0
 ranks-length tr (suc i) = rank-if-length (is_begin (at tr i)) (ranks_upto tr i) (at tr i).first (begins (past tr i) + 1) ∙ ranks-length tr i
 

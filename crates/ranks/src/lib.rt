@@ -10,17 +10,17 @@ ghost use Rattle.ranks.specs.Ranks.{with_rank, rank_if, ranks_upto, ranks_of};
 ghost use Rattle.ranks.specs.loops.RanksTo.{RanksTo};
 
 use records::{EventId, access};
-use slices::numbers::{clear, get, put};
-use slices::zeros::numbers_1025;
+use slices::{clear, get, put, zeros};
 
 // What a record says of links and begins, between rows.
-#[derive(Clone, Copy)]
+#[derive(Clone, Copy, PartialEq, Eq)]
 pub enum Ordering {
     Link(u16, u16),
     Begin(u16),
     Nothing,
 }
 
+#[tactic(auto, unfolding(crate::specs::Ranks::with_rank))]
 fn set_rank(ranks: &mut [u16], e: EventId, rank: usize)
     ensures { ranks.new ≡ with_rank ranks.old e.0 rank }
 {
@@ -32,11 +32,13 @@ fn note_rank(ranks: &mut [u16], kind: u8, e: EventId, found: usize) -> usize
     requires { found < 9223372036854775807 }
     ensures { (result ≡ cond (eqb kind 1) (found + 1) found) × (ranks.new ≡ rank_if (eqb kind 1) ranks.old e.0 (found + 1)) }
 {
-    if kind != 1 {
-        return found;
+    // By the byte: this is the longest scan, of every record.
+    if kind == 1 {
+        set_rank(ranks, e, found + 1);
+        found + 1
+    } else {
+        found
     }
-    set_rank(ranks, e, found + 1);
-    found + 1
 }
 
 // Record i, where the table has the ranks of those before it: the number of begins after it.
@@ -66,10 +68,8 @@ fn note_last(recs: &[u8], ranks: &mut [u16], from: usize, n: usize, before: usiz
     ensures { ranks.new ≡ ranks_upto (decode recs.now) n }
 {
     let mut found = before;
-    let mut i = from;
-    while i < n {
+    for i in from..n {
         found = note_record(recs, ranks, i, found);
-        i += 1;
     }
 }
 
@@ -81,6 +81,7 @@ pub fn fill_ranks(recs: &[u8], ranks: &mut [u16; 1025])
     clear(ranks, 1025);
     let mut found = 0;
     let mut i = 0;
+    // By hand, four records a step: one record a step takes more instructions.
     while i + 4 <= n {
         found = note_four(recs, ranks, i, found);
         i += 4;
@@ -92,7 +93,7 @@ pub fn fill_ranks(recs: &[u8], ranks: &mut [u16; 1025])
 pub fn ranks(recs: &[u8]) -> [u16; 1025]
     ensures { result ≡ ranks_of (decode recs.now) }
 {
-    let mut ranks = numbers_1025();
+    let mut ranks = zeros::<u16, 1025>();
     fill_ranks(recs, &mut ranks);
     ranks
 }
@@ -108,19 +109,18 @@ pub fn rank_of(ranks: &[u16], e: EventId) -> u16
 pub fn row_at(recs: &[u8], ranks: &[u16], i: usize) -> usize
     ensures { result ≡ get_or ranks.now (at (decode recs.now) i).first 0 - 1 }
 {
-    let rank = rank_of(ranks, access::event_at(recs, i));
-    if rank == 0 {
-        return 0;
-    }
-    (rank - 1) as usize
+    rank_of(ranks, access::event_at(recs, i)).saturating_sub(1) as usize
 }
 
-fn link_of(from: u16, to: u16) -> Ordering
-    ensures { result ≡ link_of from to }
+fn link_of(ranks: &[u16], before: EventId, after: EventId) -> Ordering
+    ensures { result ≡ link_of (get_or ranks.now before.0 0) (get_or ranks.now after.0 0) }
 {
+    // Test by test: by `||` the order question takes up to 1.05 of the instructions.
+    let from = rank_of(ranks, before);
     if from == 0 {
         return Ordering::Nothing;
     }
+    let to = rank_of(ranks, after);
     if to == 0 {
         return Ordering::Nothing;
     }
@@ -130,33 +130,24 @@ fn link_of(from: u16, to: u16) -> Ordering
 fn begin_of(rank: u16) -> Ordering
     ensures { result ≡ Begin (rank - 1) }
 {
-    if rank == 0 {
-        return Ordering::Begin(0);
-    }
-    Ordering::Begin(rank - 1)
+    Ordering::Begin(rank.saturating_sub(1))
 }
 
+#[tactic(auto, unfolding(crate::specs::OrderingOf::ordering_of))]
 pub fn ordering_at(recs: &[u8], ranks: &[u16], i: usize) -> Ordering
     ensures { result ≡ ordering_of (λ e. get_or ranks.now e 0) (at (decode recs.now) i) }
 {
+    // Test by test, and by the byte: by `match` the order question takes up to 1.2 of the instructions, by `kind_of` the short list up to 1.02.
     let kind = access::kind_at(recs, i);
     if 4 < kind {
-        return Ordering::Nothing;
+        Ordering::Nothing
+    } else if kind == 1 {
+        begin_of(rank_of(ranks, access::event_at(recs, i)))
+    } else if kind == 3 {
+        link_of(ranks, access::event_at(recs, i), access::target_at(recs, i))
+    } else if kind == 4 {
+        link_of(ranks, access::target_at(recs, i), access::event_at(recs, i))
+    } else {
+        Ordering::Nothing
     }
-    if kind == 1 {
-        return begin_of(rank_of(ranks, access::event_at(recs, i)));
-    }
-    if kind == 3 {
-        return link_of(
-            rank_of(ranks, access::event_at(recs, i)),
-            rank_of(ranks, access::target_at(recs, i)),
-        );
-    }
-    if kind == 4 {
-        return link_of(
-            rank_of(ranks, access::target_at(recs, i)),
-            rank_of(ranks, access::event_at(recs, i)),
-        );
-    }
-    Ordering::Nothing
 }

@@ -1,3 +1,4 @@
 pub mod Recording
+pub mod Asked
 pub mod History
 pub mod RoundTrip

@@ -1,6 +1,6 @@
 -- What opening, a step and closing answer and leave, for every state of the recorder and every content of the lent bytes.
 -- Assumes nothing.
-use Rattle.std.specs.Prelude.{ℕ, zero, suc, min, ◌+◌, ◌*◌, Bool, true, false, cond, ◌&&◌, List, [], ◌∷◌, leb, ltb, eqb, length}
+use Rattle.std.specs.Prelude.{ℕ, zero, suc, min, ◌+◌, ◌*◌, Bool, true, false, cond, ◌&&◌, List, [], ◌∷◌, Result, leb, ltb, eqb, length}
 use Rattle.records.specs.Bytes.{record_bytes, trailer_bytes}
 use Rattle.records.specs.declared.Record.{Record}
 use Rattle.records.specs.Records.{past, begun, ended, begins}
@@ -8,22 +8,13 @@ use Rattle.records.specs.Bytes.{decode, part}
 use Rattle.links.specs.Begin.{begin_blocked}
 use Rattle.trace.specs.Place.{between, place}
 use Rattle.trace.specs.Rule.{judge}
+use Rattle.trace.specs.declared.Refusal.{Refusal}
 use Rattle.trace.specs.Reply.{Reply, refused, gives}
+use Rattle.trace.specs.Paper.{paper}
 use Rattle.records.specs.Encoding.{encode, trailer, stored}
 use Rattle.records.specs.declared.EventId.{EventId}
 use Rattle.recorder.specs.declared.Recorder.{Recorder}
-use Rattle.recorder.specs.declared.Opened.{Opened}
-use Rattle.recorder.specs.declared.Opening.{Opening}
-use Rattle.recorder.specs.declared.Opening.TheVariants.{Open}
-use Rattle.recorder.specs.declared.Opening.TheVariants as opening
-use Rattle.recorder.specs.declared.Next.{Next}
-use Rattle.recorder.specs.declared.Stepped.{Stepped}
-use Rattle.recorder.specs.declared.Stepped.TheVariants.{Taken}
-use Rattle.recorder.specs.declared.Stepped.TheVariants as stepped
-use Rattle.recorder.specs.declared.Ended.{Ended}
-use Rattle.recorder.specs.declared.Closing.{Closing}
-use Rattle.recorder.specs.declared.Closing.TheVariants.{Closed}
-use Rattle.recorder.specs.declared.Closing.TheVariants as closing
+use Rattle.recorder.specs.declared.After.{After}
 
 -- opening and a step give no more than that they are done; closing gives the trace's length
 abbrev pub Done : Type 0
@@ -32,17 +23,14 @@ Done = Unit {0}
 abbrev pub done : Reply Done
 done = gives tt
 
-abbrev pub opening_paper : Opening → Reply Done
-opening_paper Open = done
-opening_paper (opening.Refused f) = refused f.number f.place.0
+abbrev pub opening_paper : Result Done Refusal → Reply Done
+opening_paper = paper
 
-abbrev pub stepped_paper : Stepped → Reply Done
-stepped_paper Taken = done
-stepped_paper (stepped.Refused f) = refused f.number f.place.0
+abbrev pub stepped_paper : Result Done Refusal → Reply Done
+stepped_paper = paper
 
-abbrev pub closing_paper : Closing → Reply ℕ
-closing_paper (Closed n) = gives n
-closing_paper (closing.Refused f) = refused f.number f.place.0
+abbrev pub closing_paper : Result ℕ Refusal → Reply ℕ
+closing_paper = paper
 
 -- What a call leaves: its answer, the recorder and the lent bytes.
 pub record Left (A : Type 0) : Type 0 where
@@ -53,13 +41,13 @@ pub record Left (A : Type 0) : Type 0 where
 abbrev pub left : {A : Type 0} → Reply A → Recorder → List ℕ → Left A
 left a r b = record { answer = a; recorder = r; bytes = b }
 
-abbrev pub of_opening : Opened → List ℕ → Left Done
+abbrev pub of_opening : After Done → List ℕ → Left Done
 of_opening o b = left (opening_paper o.answer) o.recorder b
 
-abbrev pub of_step : Next → List ℕ → Left Done
+abbrev pub of_step : After Done → List ℕ → Left Done
 of_step n b = left (stepped_paper n.answer) n.recorder b
 
-abbrev pub of_closing : Ended → List ℕ → Left ℕ
+abbrev pub of_closing : After ℕ → List ℕ → Left ℕ
 of_closing e b = left (closing_paper e.answer) e.recorder b
 
 -- the recorder that its four numbers say

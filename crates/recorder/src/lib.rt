@@ -4,13 +4,13 @@
 
 mod look;
 
-ghost use Rattle.std.specs.Prelude.{◌≡◌, false, ◌≤◌};
+ghost use Rattle.std.specs.Prelude.{◌≡◌, Ok, Err, false, ◌≤◌};
 ghost use Rattle.recorder.specs.Recording.{stepped_paper, closing_paper, left, of_opening, of_step, of_closing, of_numbers};
 ghost use Rattle.recorder.specs.Recording.{held, space, open_left, step_left, close_left};
 
 use records::store::{put_record, put_trailer};
 use records::{EventId, Operation, RECORD_BYTES, Record, TRAILER_BYTES};
-use trace::{Checked, Refusal};
+use trace::{Reason, Refusal};
 
 // The recorder's one state: how many records are stored, the situation, the open or joining event, and whether the trace is closed.
 #[derive(Clone, Copy)]
@@ -21,106 +21,54 @@ pub struct Recorder {
     pub closed: bool,
 }
 
+// The recorder after a call, and what the call answers: of a closing that is the length of the closed trace, from the first byte of the space lent.
 #[derive(Clone, Copy)]
-pub enum Opening {
-    Open,
-    Refused(Refusal),
-}
-
-#[derive(Clone, Copy)]
-pub struct Opened {
+pub struct After<T> {
     pub recorder: Recorder,
-    pub answer: Opening,
-}
-
-#[derive(Clone, Copy)]
-pub enum Stepped {
-    Taken,
-    Refused(Refusal),
-}
-
-#[derive(Clone, Copy)]
-pub struct Next {
-    pub recorder: Recorder,
-    pub answer: Stepped,
-}
-
-// The length of the closed trace, from the first byte of the space lent.
-#[derive(Clone, Copy)]
-pub enum Closing {
-    Closed(usize),
-    Refused(Refusal),
-}
-
-#[derive(Clone, Copy)]
-pub struct Ended {
-    pub recorder: Recorder,
-    pub answer: Closing,
+    pub answer: Result<T, Refusal>,
 }
 
 // How many records are stored: at most 4,096, whatever the state says.
 fn stored_records(r: Recorder) -> usize
     ensures { (result ≡ held r) × (result ≤ 4096) }
 {
-    if r.count < 4096 {
-        return r.count as usize;
-    }
-    4096
+    (r.count as usize).min(4096)
 }
 
 // Is there space for one record more, and a trailer?
 fn has_space(bytes: &[u8], n: usize) -> bool
     ensures { result ≡ space bytes.now n }
 {
-    if 4096 <= n {
-        return false;
-    }
-    RECORD_BYTES * n + RECORD_BYTES + TRAILER_BYTES <= bytes.len()
+    n < 4096 && RECORD_BYTES * n + RECORD_BYTES + TRAILER_BYTES <= bytes.len()
 }
 
 // After a step that is taken the recorder has these numbers.
-fn step_taken(count: u16, situation: u8, owner: EventId) -> Next
-    ensures { (result.recorder ≡ of_numbers count situation owner false) × (result.answer ≡ Stepped.Taken) }
+fn step_taken(count: u16, situation: u8, owner: EventId) -> After<()>
+    ensures { (result.recorder ≡ of_numbers count situation owner false) × (result.answer ≡ Ok tt) }
 {
-    Next {
+    After {
         recorder: Recorder {
             count: count,
             situation: situation,
             owner: owner,
             closed: false,
         },
-        answer: Stepped::Taken,
+        answer: Ok(()),
     }
 }
 
-// A refused step leaves the recorder as it was.
-fn not_taken(kept: Recorder, number: u16, place: u16) -> Next
-    ensures { (result.recorder ≡ kept) × (result.answer ≡ Stepped.Refused (record { number = number; place = record { 0 = place } })) }
+// A refused step or closing leaves the recorder as it was.
+fn refused<T>(kept: Recorder, why: Refusal) -> After<T>
+    ensures { (result.recorder ≡ kept) × (result.answer ≡ Err why) }
 {
-    Next {
+    After {
         recorder: kept,
-        answer: Stepped::Refused(Refusal {
-            number: number,
-            place: Operation(place),
-        }),
-    }
-}
-
-// So does a refused closing.
-fn not_closed(r: Recorder, number: u16, place: u16) -> Ended
-    ensures { (result.recorder ≡ r) × (result.answer ≡ Closing.Refused (record { number = number; place = record { 0 = place } })) }
-{
-    Ended {
-        recorder: r,
-        answer: Closing::Refused(Refusal {
-            number: number,
-            place: Operation(place),
-        }),
+        answer: Err(why),
     }
 }
 
 // A recorder over the bytes, with no record yet.
-pub fn open_on(bytes: &[u8]) -> Opened
+pub fn open_on(bytes: &[u8]) -> After<()>
     ensures { of_opening result bytes.now ≡ open_left bytes.now }
 {
     let short = bytes.len() < TRAILER_BYTES;
@@ -131,17 +79,11 @@ pub fn open_on(bytes: &[u8]) -> Opened
         closed: short,
     };
     if short {
-        return Opened {
-            recorder: recorder,
-            answer: Opening::Refused(Refusal {
-                number: trace::NO_SPACE,
-                place: Operation(0),
-            }),
-        };
+        return refused(recorder, Reason::NoSpace.at(Operation(0)));
     }
-    Opened {
+    After {
         recorder: recorder,
-        answer: Opening::Open,
+        answer: Ok(()),
     }
 }
 
@@ -153,7 +95,7 @@ pub fn step_numbers(
     owner: EventId,
     closed: bool,
     rec: Record,
-) -> Next
+) -> After<()>
     ensures { of_step result bytes.new ≡ step_left bytes.old (of_numbers count situation owner closed) rec }
 {
     let r = Recorder {
@@ -163,15 +105,14 @@ pub fn step_numbers(
         closed: closed,
     };
     if closed {
-        return not_taken(r, trace::CLOSED, 0);
+        return refused(r, Reason::Closed.at(Operation(0)));
     }
     let n = stored_records(r);
-    let checked = look::check(bytes, n, r, rec);
-    match checked {
-        Checked::Refused(f) => not_taken(r, f.number, f.place.0),
-        Checked::Next(next) => {
+    match look::check(bytes, n, r, rec) {
+        Err(why) => refused(r, why),
+        Ok(next) => {
             if !has_space(bytes, n) {
-                return not_taken(r, trace::NO_SPACE, 0);
+                return refused(r, Reason::NoSpace.at(Operation(0)));
             }
             put_record(bytes, RECORD_BYTES * n, rec);
             step_taken((n + 1) as u16, next, EventId(rec.first))
@@ -186,7 +127,7 @@ pub fn close_numbers(
     situation: u8,
     owner: EventId,
     closed: bool,
-) -> Ended
+) -> After<usize>
     ensures { of_closing result bytes.new ≡ close_left bytes.old (of_numbers count situation owner closed) }
 {
     let r = Recorder {
@@ -196,31 +137,31 @@ pub fn close_numbers(
         closed: closed,
     };
     if closed {
-        return not_closed(r, trace::CLOSED, 0);
+        return refused(r, Reason::Closed.at(Operation(0)));
     }
     let n = stored_records(r);
     if situation != 0 {
-        return not_closed(r, trace::STOPS_INSIDE, n as u16);
+        return refused(r, Reason::StopsInside.at(Operation(n as u16)));
     }
     let at = RECORD_BYTES * n;
     if bytes.len() < at + TRAILER_BYTES {
-        return not_closed(r, trace::NO_SPACE, 0);
+        return refused(r, Reason::NoSpace.at(Operation(0)));
     }
     let begins = look::begins(bytes, n);
     put_trailer(bytes, at, at, begins);
-    Ended {
+    After {
         recorder: Recorder {
             count: count,
             situation: situation,
             owner: owner,
             closed: true,
         },
-        answer: Closing::Closed(at + TRAILER_BYTES),
+        answer: Ok(at + TRAILER_BYTES),
     }
 }
 
 // One step of the recorder that is lent: its numbers go in, and the recorder that comes back is stored.
-pub fn step(r: &mut Recorder, bytes: &mut [u8], rec: Record) -> Stepped
+pub fn step(r: &mut Recorder, bytes: &mut [u8], rec: Record) -> Result<(), Refusal>
     ensures { left (stepped_paper result) r.new bytes.new ≡ step_left bytes.old r.old rec }
 {
     let next = step_numbers(bytes, r.count, r.situation, r.owner, r.closed, rec);
@@ -229,7 +170,7 @@ pub fn step(r: &mut Recorder, bytes: &mut [u8], rec: Record) -> Stepped
 }
 
 // Closes the recorder that is lent, likewise.
-pub fn close(r: &mut Recorder, bytes: &mut [u8]) -> Closing
+pub fn close(r: &mut Recorder, bytes: &mut [u8]) -> Result<usize, Refusal>
     ensures { left (closing_paper result) r.new bytes.new ≡ close_left bytes.old r.old }
 {
     let ended = close_numbers(bytes, r.count, r.situation, r.owner, r.closed);
@@ -238,24 +179,24 @@ pub fn close(r: &mut Recorder, bytes: &mut [u8]) -> Closing
 }
 
 // One step of a recorder given by value, which is lent to `step`: whoever calls this has plain parameters only.
-pub fn step_on(bytes: &mut [u8], r: Recorder, rec: Record) -> Next
+pub fn step_on(bytes: &mut [u8], r: Recorder, rec: Record) -> After<()>
     ensures { of_step result bytes.new ≡ step_left bytes.old r rec }
 {
     let mut kept = r;
     let answer = step(&mut kept, bytes, rec);
-    Next {
+    After {
         recorder: kept,
         answer: answer,
     }
 }
 
 // Closes a recorder given by value, which is lent to `close`.
-pub fn close_on(bytes: &mut [u8], r: Recorder) -> Ended
+pub fn close_on(bytes: &mut [u8], r: Recorder) -> After<usize>
     ensures { of_closing result bytes.new ≡ close_left bytes.old r }
 {
     let mut kept = r;
     let answer = close(&mut kept, bytes);
-    Ended {
+    After {
         recorder: kept,
         answer: answer,
     }

@@ -49,9 +49,7 @@ fn over(bytes: &mut [u8], space: usize, i: usize) {
 }
 
 pub(crate) fn all(bytes: &mut [u8], space: usize) {
-    let mut i = 0;
-    while i < 96 {
+    for i in 0..96 {
         over(bytes, space, i);
-        i += 1;
     }
 }

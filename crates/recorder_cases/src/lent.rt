@@ -16,11 +16,9 @@ fn recorded(bytes: &mut [u8]) -> Recorder {
     let opened = recorder::open_on(bytes);
     let mut r = opened.recorder;
     let mut space = 13;
-    let mut i = 0;
-    while i < 12 {
+    for i in 0..12 {
         r = step_over(bytes, space, r, i);
         space = std::num::wrapping_add_usize(space, 5);
-        i += 1;
     }
     r
 }
@@ -41,9 +39,7 @@ fn close_over(bytes: &mut [u8], space: usize, r: Recorder) {
 
 pub(crate) fn all(bytes: &mut [u8]) {
     let r = recorded(bytes);
-    let mut space = 59;
-    while space < 70 {
+    for space in 59..70 {
         close_over(bytes, space, r);
-        space += 1;
     }
 }

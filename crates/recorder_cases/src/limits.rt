@@ -1,13 +1,14 @@
 // The twelve steps of document 01's trace T, over every space from no byte to more than enough.
 use crate::say;
-use recorder::{Recorder, Stepped};
+use recorder::Recorder;
 use records::Record;
+use trace::Refusal;
 
 #[derive(Clone, Copy)]
 struct Run {
     recorder: Recorder,
     taken: usize,
-    last: Stepped,
+    last: Result<(), Refusal>,
 }
 
 fn record(kind: u8, first: u16, second: u16) -> Record {
@@ -38,25 +39,23 @@ pub(crate) fn step_of_t(i: usize) -> Record {
 // Steps until one is refused.
 fn steps(bytes: &mut [u8], first: Recorder) -> Run {
     let mut r = first;
-    let mut i = 0;
-    while i < 12 {
+    for i in 0..12 {
         let next = recorder::step_on(bytes, r, step_of_t(i));
         let answer = next.answer;
-        if let Stepped::Refused(f) = answer {
+        if let Err(f) = answer {
             return Run {
                 recorder: r,
                 taken: i,
-                last: Stepped::Refused(f),
+                last: Err(f),
             };
         }
         let after = next.recorder;
         r = after;
-        i += 1;
     }
     Run {
         recorder: r,
         taken: 12,
-        last: Stepped::Taken,
+        last: Ok(()),
     }
 }
 
@@ -83,9 +82,7 @@ fn over(bytes: &mut [u8], space: usize) {
 }
 
 pub(crate) fn all(bytes: &mut [u8]) {
-    let mut space = 0;
-    while space < 75 {
+    for space in 0..75 {
         over(bytes, space);
-        space += 1;
     }
 }

@@ -1,9 +1,9 @@
 // Steps at random. Each step taken is also logged apart; for each one refused with 4 to 8 or 31 the reader is given the same records with the refused
 // one at the end.
 use crate::{raw, say};
-use recorder::{Closing, Recorder, Stepped};
+use recorder::Recorder;
 use records::Record;
-use trace::Refusal;
+use trace::{Reason, Refusal};
 
 #[derive(Clone, Copy)]
 struct Totals {
@@ -67,10 +67,10 @@ fn reader_agrees(bytes: &mut [u8], n: u16, rec: Record, f: Refusal) -> bool {
     raw::put(bytes, n, rec);
     raw::close(bytes, n + 1);
     let end = 5 * (n as usize) + 13;
-    let g = trace::refusal_of(trace::read(raw::front(bytes, end)));
-    let place = f.place;
-    let found = g.place;
-    f.number == g.number && place.0 == found.0
+    match trace::read(raw::front(bytes, end)) {
+        Ok(_) => false,
+        Err(g) => f == g,
+    }
 }
 
 fn turn(bytes: &mut [u8], log: &mut [u8], t: Totals) -> Totals {
@@ -85,16 +85,16 @@ fn turn(bytes: &mut [u8], log: &mut [u8], t: Totals) -> Totals {
     let mut alike = t.alike;
     let mut behind = t.behind;
     match answer {
-        Stepped::Taken => {
+        Ok(()) => {
             raw::put(log, r.count, rec);
             taken = std::num::wrapping_add_u64(taken, 1);
         }
-        Stepped::Refused(f) => {
+        Err(f) => {
             refused = std::num::wrapping_add_u64(refused, 1);
             if reader_agrees(bytes, r.count, rec, f) {
                 alike = std::num::wrapping_add_u64(alike, 1);
             }
-            if f.number == trace::BEHIND {
+            if f.reason == Reason::Behind {
                 behind = std::num::wrapping_add_u64(behind, 1);
             }
         }
@@ -111,10 +111,8 @@ fn turn(bytes: &mut [u8], log: &mut [u8], t: Totals) -> Totals {
 
 fn turns(bytes: &mut [u8], log: &mut [u8], start: Totals) -> Totals {
     let mut t = start;
-    let mut i: usize = 0;
-    while i < 400 {
+    for i in 0..400 {
         t = turn(bytes, log, t);
-        i += 1;
     }
     t
 }
@@ -135,8 +133,8 @@ fn logged(bytes: &mut [u8], log: &mut [u8], r: Recorder, situation: u8, kind: u8
     next.recorder
 }
 
-fn read_back(bytes: &[u8], log: &[u8], r: Recorder, a: Closing) {
-    let Closing::Closed(n) = a else {
+fn read_back(bytes: &[u8], log: &[u8], r: Recorder, a: Result<usize, Refusal>) {
+    let Ok(n) = a else {
         say::line();
         return;
     };
@@ -166,7 +164,7 @@ fn recorded(bytes: &mut [u8], log: &mut [u8], seed: u64) -> Totals {
     t
 }
 
-fn say_totals(t: Totals, a: Closing) {
+fn say_totals(t: Totals, a: Result<usize, Refusal>) {
     say::count(b"taken ", t.taken);
     say::count(b" refused ", t.refused);
     say::count(b" alike ", t.alike);
@@ -184,9 +182,7 @@ fn run(bytes: &mut [u8], log: &mut [u8], seed: u64) {
 }
 
 pub(crate) fn all(bytes: &mut [u8], log: &mut [u8]) {
-    let mut seed: u64 = 0;
-    while seed < 40 {
+    for seed in 0..40 {
         run(bytes, log, seed);
-        seed += 1;
     }
 }

@@ -1,35 +1,16 @@
 // Bytes stored without the recorder.
 use records::Record;
-
-fn set(bytes: &mut [u8], at: usize, v: usize) {
-    if at < bytes.len() {
-        bytes[at] = (v % 256) as u8;
-    }
-}
+use trials::draft::{put_record, put_trailer};
 
 // The record that would have number n + 1.
 pub(crate) fn put(bytes: &mut [u8], n: u16, rec: Record) {
-    let at = 5 * (n as usize);
-    let first = rec.first as usize;
-    let second = rec.second as usize;
-    set(bytes, at, rec.kind as usize);
-    set(bytes, at + 1, first);
-    set(bytes, at + 2, first / 256);
-    set(bytes, at + 3, second);
-    set(bytes, at + 4, second / 256);
+    put_record(bytes, 5 * usize::from(n), rec.kind, rec.first, rec.second);
 }
 
 // A trailer after n records.
 pub(crate) fn close(bytes: &mut [u8], n: u16) {
-    let at = 5 * (n as usize);
-    set(bytes, at, at);
-    set(bytes, at + 1, at / 256);
-    set(bytes, at + 2, at / 65536);
-    set(bytes, at + 3, 0);
-    set(bytes, at + 4, 0);
-    set(bytes, at + 5, 0);
-    set(bytes, at + 6, 1);
-    set(bytes, at + 7, 167);
+    let at = 5 * usize::from(n);
+    put_trailer(bytes, at, at, 0);
 }
 
 // The first n bytes; all, where there are fewer.
@@ -57,10 +38,8 @@ fn matched(found: u64, a: &[u8], b: &[u8], i: usize) -> u64 {
 // How many of the first n bytes are the same.
 pub(crate) fn same(a: &[u8], b: &[u8], n: usize) -> u64 {
     let mut found = 0;
-    let mut i = 0;
-    while i < n {
+    for i in 0..n {
         found = matched(found, a, b, i);
-        i += 1;
     }
     found
 }

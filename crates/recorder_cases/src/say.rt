@@ -1,6 +1,6 @@
 // What the program prints.
-use recorder::{Closing, Opening, Stepped};
-use trace::{Reading, Refusal};
+use records::Trace;
+use trace::Refusal;
 
 pub(crate) fn number(text: &[u8], n: usize) {
     count(text, n as u64);
@@ -17,42 +17,42 @@ pub(crate) fn line() {
 
 fn refusal(f: Refusal) {
     let place = f.place;
-    number(b" refused ", f.number as usize);
+    number(b" refused ", f.reason.number() as usize);
     number(b" ", place.0 as usize);
 }
 
-pub(crate) fn opening(a: Opening) {
+pub(crate) fn opening(a: Result<(), Refusal>) {
     match a {
-        Opening::Open => {
+        Ok(()) => {
             io::write_all(1, b" open");
         }
-        Opening::Refused(f) => refusal(f),
+        Err(f) => refusal(f),
     }
 }
 
-pub(crate) fn stepped(a: Stepped) {
+pub(crate) fn stepped(a: Result<(), Refusal>) {
     match a {
-        Stepped::Taken => {
+        Ok(()) => {
             io::write_all(1, b" taken");
         }
-        Stepped::Refused(f) => refusal(f),
+        Err(f) => refusal(f),
     }
 }
 
-pub(crate) fn closing(a: Closing) {
+pub(crate) fn closing(a: Result<usize, Refusal>) {
     match a {
-        Closing::Closed(n) => number(b" closed ", n),
-        Closing::Refused(f) => refusal(f),
+        Ok(n) => number(b" closed ", n),
+        Err(f) => refusal(f),
     }
 }
 
-pub(crate) fn reading(a: Reading) {
+pub(crate) fn reading(a: Result<Trace, Refusal>) {
     match a {
-        Reading::Accepted(t) => {
+        Ok(t) => {
             number(b" read ", t.start);
             number(b" ", t.records);
             number(b" ", t.events);
         }
-        Reading::Refused(f) => refusal(f),
+        Err(f) => refusal(f),
     }
 }

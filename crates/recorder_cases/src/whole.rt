@@ -1,7 +1,8 @@
 // A trace of 4,096 records, and one step more.
 use crate::{raw, say};
-use recorder::{Recorder, Stepped};
+use recorder::Recorder;
 use records::{Record, Trace, access};
+use trace::Refusal;
 
 fn step_at(i: usize) -> Record {
     if i == 0 {
@@ -31,24 +32,22 @@ struct Run {
     taken: u64,
 }
 
-fn counted(n: u64, a: Stepped) -> u64 {
+fn counted(n: u64, a: Result<(), Refusal>) -> u64 {
     match a {
-        Stepped::Taken => std::num::wrapping_add_u64(n, 1),
-        Stepped::Refused(_) => n,
+        Ok(()) => std::num::wrapping_add_u64(n, 1),
+        Err(_) => n,
     }
 }
 
 fn steps(bytes: &mut [u8], first: Recorder) -> Run {
     let mut r = first;
     let mut taken = 0;
-    let mut i = 0;
-    while i < 4096 {
+    for i in 0..4096 {
         let next = recorder::step_on(bytes, r, step_at(i));
         let answer = next.answer;
         taken = counted(taken, answer);
         let after = next.recorder;
         r = after;
-        i += 1;
     }
     Run {
         recorder: r,
@@ -66,10 +65,8 @@ fn matched(n: u64, a: Record, b: Record) -> u64 {
 // How many of the records read are the steps.
 fn agree(recs: &[u8]) -> u64 {
     let mut same = 0;
-    let mut i = 0;
-    while i < 4096 {
+    for i in 0..4096 {
         same = matched(same, access::record_at(recs, i), step_at(i));
-        i += 1;
     }
     same
 }

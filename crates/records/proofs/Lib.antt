@@ -8,3 +8,4 @@ pub mod SearchLaws
 pub mod Encoded
 pub mod Stored
 pub mod Fronts
+pub mod KindLaws

@@ -1,20 +1,15 @@
 // The records of a trace, in the bytes from record 1 to the trailer. Positions count from 0; past the last whole record all fields are 0.
 ghost use Rattle.std.specs.Prelude.{◌≡◌, ◌+◌, ◌-◌, ◌≤◌, length};
-ghost use Rattle.slices.specs.Slices.{two_bytes};
 ghost use Rattle.records.specs.Bytes.{decode, part};
 ghost use Rattle.records.specs.Records.{at, past, begins, leading};
-ghost use Rattle.records.specs.Kinds.{base_kind};
+ghost use Rattle.records.specs.Kinds.{Says, SendsOn, base_kind};
 
-use crate::{EventId, RECORD_BYTES, Record, Trace, Var};
-use slices::bytes::pair;
+use crate::{EventId, Kind, RECORD_BYTES, Record, Trace, Var};
 
-// Two bytes as a number, low byte first.
-fn two_bytes(bytes: &[u8], at: usize) -> u16
-    requires { at + 2 ≤ length bytes.now }
-    ensures { result ≡ two_bytes bytes.now at }
-{
-    pair(bytes[at], bytes[at + 1])
-}
+// Where a record's fields stand in its bytes.
+const FIRST: usize = 1;
+
+const SECOND: usize = 3;
 
 // The bytes of that many records that start there; where the bytes hold fewer, those.
 pub fn records_from(bytes: &[u8], start: usize, records: usize) -> &[u8]
@@ -49,60 +44,74 @@ pub fn count(recs: &[u8]) -> usize
 pub fn kind_at(recs: &[u8], i: usize) -> u8
     ensures { result ≡ (at (decode recs.now) i).kind }
 {
-    if recs.len() / RECORD_BYTES <= i {
-        return 0;
+    if i < recs.len() / RECORD_BYTES {
+        recs[RECORD_BYTES * i]
+    } else {
+        0
     }
-    recs[RECORD_BYTES * i]
+}
+
+// The same, by what the byte says.
+pub fn kind_of(recs: &[u8], i: usize) -> Kind
+    ensures { Says (at (decode recs.now) i).kind result }
+{
+    Kind::from(kind_at(recs, i))
+}
+
+// The link of record i, 0 to 3, where it is a send.
+pub fn link_at(recs: &[u8], i: usize) -> Option<usize>
+    ensures { SendsOn (at (decode recs.now) i).kind result }
+{
+    let kind = kind_at(recs, i);
+    if (16..=19).contains(&kind) {
+        Some((kind - 16) as usize)
+    } else {
+        None
+    }
 }
 
 // The kind of record i where it is one of document 01's six, begin to write; 0 for any other record.
+#[tactic(auto, unfolding(crate::specs::Kinds::base_kind))]
 pub fn base_kind_at(recs: &[u8], i: usize) -> u8
     ensures { result ≡ base_kind (at (decode recs.now) i) }
 {
     let kind = kind_at(recs, i);
-    if 6 < kind {
-        return 0;
-    }
-    kind
+    if kind <= 6 { kind } else { 0 }
 }
 
-fn first_of(recs: &[u8], i: usize) -> u16
-    ensures { result ≡ (at (decode recs.now) i).first }
+// The field of record i that stands there in its bytes.
+fn field_at(recs: &[u8], i: usize, field: usize) -> u16
+    requires { field ≤ 3 }
+    ensures first { field ≡ 1 → result ≡ (at (decode recs.now) i).first }
+    ensures second { field ≡ 3 → result ≡ (at (decode recs.now) i).second }
 {
-    if recs.len() / RECORD_BYTES <= i {
-        return 0;
+    if i < recs.len() / RECORD_BYTES {
+        let from = RECORD_BYTES * i + field;
+        u16::from_le_bytes([recs[from], recs[from + 1]])
+    } else {
+        0
     }
-    two_bytes(recs, RECORD_BYTES * i + 1)
-}
-
-fn second_of(recs: &[u8], i: usize) -> u16
-    ensures { result ≡ (at (decode recs.now) i).second }
-{
-    if recs.len() / RECORD_BYTES <= i {
-        return 0;
-    }
-    two_bytes(recs, RECORD_BYTES * i + 3)
 }
 
 // The event that record i belongs to.
 pub fn event_at(recs: &[u8], i: usize) -> EventId
     ensures { result.0 ≡ (at (decode recs.now) i).first }
 {
-    EventId(first_of(recs, i))
+    EventId(field_at(recs, i, FIRST))
 }
 
 // The event that record i starts, where it is a fork, or waits for, where it is a join.
 pub fn target_at(recs: &[u8], i: usize) -> EventId
     ensures { result.0 ≡ (at (decode recs.now) i).second }
 {
-    EventId(second_of(recs, i))
+    EventId(field_at(recs, i, SECOND))
 }
 
 // The cell of record i, where it is a read or a write.
 pub fn cell_at(recs: &[u8], i: usize) -> Var
     ensures { result.0 ≡ (at (decode recs.now) i).second }
 {
-    Var(second_of(recs, i))
+    Var(field_at(recs, i, SECOND))
 }
 
 // The record at position i, its fields as the bytes have them.
@@ -111,8 +120,8 @@ pub fn record_at(recs: &[u8], i: usize) -> Record
 {
     Record {
         kind: kind_at(recs, i),
-        first: first_of(recs, i),
-        second: second_of(recs, i),
+        first: field_at(recs, i, FIRST),
+        second: field_at(recs, i, SECOND),
     }
 }
 
@@ -122,13 +131,10 @@ pub fn count_begins(recs: &[u8]) -> usize
 {
     let n = count(recs);
     let mut found = 0;
-    let mut i = 0;
-    while i < n {
-        let k = kind_at(recs, i);
-        if k == 1 {
+    for i in 0..n {
+        if kind_at(recs, i) == 1 {
             found += 1;
         }
-        i += 1;
     }
     found
 }
@@ -158,14 +164,12 @@ fn skip_last(recs: &[u8], i: usize, n: usize) -> usize
     requires { i ≤ n }
     ensures { result ≡ i + leading (decode recs.now) (n - i) i }
 {
-    let mut at = i;
-    while at < n {
+    for at in i..n {
         if kind_at(recs, at) < 5 {
             return at;
         }
-        at += 1;
     }
-    at
+    n
 }
 
 // From record `from` on past reads and writes, four at a time: the first position that has none, or the number of records.
@@ -177,6 +181,7 @@ pub fn skip_accesses(recs: &[u8], from: usize) -> usize
         return from;
     }
     let mut i = from;
+    // By hand, four records a step: one record a step takes more instructions.
     while i + 4 <= n {
         let k = accesses_among_four(recs, i);
         if k < 4 {

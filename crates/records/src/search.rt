@@ -6,24 +6,20 @@ ghost use Rattle.records.specs.Search.{least_kind, may_race, NextAccess, NextFro
 use crate::{Var, access};
 
 // The least kind of record that races with an access of that kind: with a read only a write does.
+#[tactic(auto, unfolding(crate::specs::Search::least_kind))]
 pub fn least_kind(kind: u8) -> u8
     ensures { result ≡ least_kind kind }
 {
-    if kind == 5 {
-        return 6;
-    }
-    5
+    if kind == 5 { 6 } else { 5 }
 }
 
 // May record i race with an access of cell c, by its kind's number, where only a record of that kind or a higher one does? Kinds above 6 are for the
 // caller to tell apart.
+#[tactic(auto, unfolding(crate::specs::Search::may_race))]
 fn may_race(recs: &[u8], least: u8, c: Var, i: usize) -> bool
     ensures { result ≡ may_race (decode recs.now) least c.0 i }
 {
-    if access::cell_at(recs, i).0 != c.0 {
-        return false;
-    }
-    least <= access::kind_at(recs, i)
+    access::cell_at(recs, i) == c && least <= access::kind_at(recs, i)
 }
 
 // How many of the four records from i on stand before the first that may race with an access of cell c.
@@ -51,14 +47,12 @@ fn next_near(recs: &[u8], from: usize, to: usize, c: Var, least: u8) -> usize
     requires { (from ≤ to) × (to ≤ length (decode recs.now)) }
     ensures { NextAccess (decode recs.now) least c.0 from to result }
 {
-    let mut i = from;
-    while i < to {
+    for i in from..to {
         if may_race(recs, least, c, i) {
             return i;
         }
-        i += 1;
     }
-    i
+    to
 }
 
 // The same, four records at a time; `to` where there are not that many records, and else `from` where it is past `to`.
@@ -72,6 +66,7 @@ pub fn next_access(recs: &[u8], from: usize, to: usize, c: Var, least: u8) -> us
         return from;
     }
     let mut i = from;
+    // By hand, four records a step: one record a step takes more instructions.
     while i + 4 <= to {
         let k = among_four(recs, least, c, i);
         if k < 4 {

@@ -1,41 +1,25 @@
 // Records and the trailer written, byte by byte. Where the bytes do not hold all that is to be written, nothing is.
 ghost use Rattle.std.specs.Prelude.{◌≡◌, [], ◌∷◌, ◌+◌, ◌≤◌, length};
 ghost use Rattle.std.proofs.lemmas.List.Edits.{sets};
-ghost use Rattle.records.specs.Encoding.{encode, trailer, stored_within};
-ghost use Rattle.records.specs.Encoding.{low as low_byte};
-ghost use Rattle.records.specs.Encoding.{high as high_byte};
+ghost use Rattle.records.specs.Encoding.{encode, trailer, stored_within, low, high};
 
 use crate::{RECORD_BYTES, Record, TRAILER_BYTES};
-
-fn low(x: usize) -> u8
-    ensures { result ≡ low_byte x }
-{
-    (x % 256) as u8
-}
-
-fn high(x: usize) -> u8
-    ensures { result ≡ high_byte x }
-{
-    (x / 256 % 256) as u8
-}
 
 // A number in two bytes.
 fn put_two(bytes: &mut [u8], at: usize, x: usize)
     requires { at + 2 ≤ length bytes.old }
-    ensures { bytes.new ≡ sets bytes.old at (low_byte x ∷ high_byte x ∷ []) }
+    ensures { bytes.new ≡ sets bytes.old at (low x ∷ high x ∷ []) }
 {
-    bytes[at] = low(x);
-    bytes[at + 1] = high(x);
+    let [first, second] = ((x % 65536) as u16).to_le_bytes();
+    bytes[at] = first;
+    bytes[at + 1] = second;
 }
 
 // The record, from `at` on.
 pub fn put_record(bytes: &mut [u8], at: usize, rec: Record)
     ensures { bytes.new ≡ stored_within bytes.old at (encode (rec ∷ [])) }
 {
-    if bytes.len() < RECORD_BYTES {
-        return;
-    }
-    if bytes.len() - RECORD_BYTES < at {
+    if bytes.len() < RECORD_BYTES || bytes.len() - RECORD_BYTES < at {
         return;
     }
     bytes[at] = rec.kind;
@@ -47,10 +31,7 @@ pub fn put_record(bytes: &mut [u8], at: usize, rec: Record)
 pub fn put_trailer(bytes: &mut [u8], at: usize, distance: usize, begins: usize)
     ensures { bytes.new ≡ stored_within bytes.old at (trailer distance begins) }
 {
-    if bytes.len() < TRAILER_BYTES {
-        return;
-    }
-    if bytes.len() - TRAILER_BYTES < at {
+    if bytes.len() < TRAILER_BYTES || bytes.len() - TRAILER_BYTES < at {
         return;
     }
     put_two(bytes, at, distance);

@@ -19,7 +19,8 @@ use Rattle.trace.proofs.Accepted.{records-read}
 use Rattle.trace.proofs.ReplyLaws.{same-given, passed, unless-given}
 use Rattle.order.specs.Lent.{work_for}
 use Rattle.order.proofs.LentLaws.{fits, filling}
-use Rattle.races.specs.declared.Listing.{Listing}
+use Rattle.std.proofs.Common.{Result}
+use Rattle.trace.specs.declared.Refusal.{Refusal}
 use Rattle.races.specs.Paper.{list_paper, Lists}
 use Rattle.races.specs.declared.Summary.{Summary}
 use Rattle.races.specs.Lists.{numbers, entry, pairs_of, shape_of, mark_of, list_filled, list_ready, list_reply, list_after}
@@ -113,7 +114,7 @@ module _ (tr : List Record) where
       (ap (λ l. entry_lines l (suc i) (length ps)) (sym (append_assoc before e (numbers tr ps ++ rest))) ∙ entries-lines ps (before ++ e) rest (suc i) k)
 
 -- What the program's call of the short list gives, and its lines.
-module _ (b clocks' work' list' : List ℕ) (r : Listing) (h : length b ≤ 32768) (l : Lists true b 32 no_clocks clocks' no_work work' no_list list' r) where
+module _ (b clocks' work' list' : List ℕ) (r : Result Summary Refusal) (h : length b ≤ 32768) (l : Lists true b 32 no_clocks clocks' no_work work' no_list list' r) where
   spaces : (length no_clocks ≡ 32768) × (length no_work ≡ 1024) × (length no_list ≡ 40960)
   spaces = (zeros-length 32768, zeros-length 1024, zeros-length 40960)
 
@@ -159,7 +160,7 @@ unfolding lines_of
 long-input b h = rw (lt-ltb 32768 (length b) h) refl
 
 -- the call over spaces of zeros
-pub over_zeros : {b clocks clocks' work work' list list' : List ℕ} {r : Listing} → clocks ≡ no_clocks → work ≡ no_work → list ≡ no_list
+pub over_zeros : {b clocks clocks' work work' list list' : List ℕ} {r : Result Summary Refusal} → clocks ≡ no_clocks → work ≡ no_work → list ≡ no_list
     → Lists true b 32 clocks clocks' work work' list list' r → Lists true b 32 no_clocks clocks' no_work work' no_list list' r
 over_zeros {b} {clocks} {clocks'} {work} {work'} {list} {list'} {r} p q s l =
     subst (λ (x : List ℕ). Lists true b 32 no_clocks clocks' no_work work' x list' r) s

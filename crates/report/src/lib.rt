@@ -3,27 +3,15 @@
 
 ghost use Rattle.std.specs.Prelude.{◌≡◌, ◌*◌, ◌≤◌};
 ghost use Rattle.listing.specs.Lines.{Printed};
-ghost use Rattle.report.specs.Text.{entry_line, entry_lines, Prints, lines_of, no_clocks, no_list};
+ghost use Rattle.report.specs.Text.{entry_line, entry_lines, Prints, lines_of};
 
-use races::{ENTRY_NUMBERS, Listing};
+use races::ENTRY_NUMBERS;
 use records::{Operation, Var};
-use slices::numbers::get;
-use slices::zeros::bytes_1024;
+use slices::{get, zeros};
+use trace::Reason;
 
 // At most that many bytes of input; more is refusal 13.
 pub const LONGEST: usize = 32768;
-
-fn no_clocks() -> [u16; 32768]
-    ensures { result ≡ no_clocks }
-{
-    [0; 32768]
-}
-
-fn no_list() -> [u16; 40960]
-    ensures { result ≡ no_list }
-{
-    [0; 40960]
-}
 
 // The line of entry i of the list.
 fn put_entry(list: &[u16], i: usize, text: &mut [u8], at: usize) -> usize
@@ -48,10 +36,8 @@ fn put_entries(list: &[u16], count: usize, text: &mut [u8], at: usize) -> usize
     ensures { Prints text.old at (entry_lines list.now 0 count) text.new result }
 {
     let mut next = at;
-    let mut i = 0;
-    while i < count {
+    for i in 0..count {
         next = put_entry(list, i, text, next);
-        i += 1;
     }
     next
 }
@@ -61,17 +47,17 @@ pub fn report(input: &[u8], text: &mut [u8]) -> usize
     ensures { Prints text.old 0 (lines_of input.now) text.new result }
 {
     if LONGEST < input.len() {
-        return listing::put_refusal(text, 0, 13, Operation(0));
+        return listing::put_refusal(text, 0, Reason::TooLong.number() as usize, Operation(0));
     }
-    let mut clocks = no_clocks();
-    let mut work = bytes_1024();
-    let mut list = no_list();
+    let mut clocks = zeros::<u16, 32768>();
+    let mut work = zeros::<u8, 1024>();
+    let mut list = zeros::<u16, 40960>();
     let found = races::short_list(input, 32, &mut clocks, &mut work, &mut list);
     match found {
-        Listing::Listed(s) => {
+        Ok(s) => {
             let at = listing::put_header(text, 0, s.events, s.records, s.chains, s.count);
             put_entries(&list, s.count, text, at)
         }
-        Listing::Refused(f) => listing::put_refusal(text, 0, f.number as usize, f.place),
+        Err(f) => listing::put_refusal(text, 0, f.reason.number() as usize, f.place),
     }
 }

@@ -1,6 +1,7 @@
 // Traces of 4,096 records with the longest texts.
-use crate::draft::{close, put_record, put_times, put_unordered};
+use crate::draft::{close, put_unordered};
 use crate::show;
+use trials::draft::{put_record, put_times};
 
 // Bytes for 4,096 records and the trailer.
 fn space() -> [u8; 20488] {
@@ -67,10 +68,8 @@ fn put_event(bytes: &mut [u8], at: usize, e: u16) -> usize {
 
 fn put_events(bytes: &mut [u8]) -> usize {
     let mut n = 0;
-    let mut e: u16 = 1;
-    while e <= 1024 {
+    for e in 1..=1024 {
         n = put_event(bytes, n, e);
-        e += 1;
     }
     close(bytes, 0, n, 1024)
 }

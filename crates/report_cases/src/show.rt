@@ -38,22 +38,18 @@ fn plus(a: usize, b: usize) -> usize
 fn checksum(text: &[u8], n: usize) -> usize {
     let mut a = 1;
     let mut b = 0;
-    let mut i = 0;
-    while i < n {
+    for i in 0..n {
         a = plus(a, byte_at(text, i));
         b = plus(b, a);
-        i += 1;
     }
     b * 65536 + a
 }
 
 // Where the first line of the first n bytes ends.
 fn line_end(text: &[u8], n: usize) -> usize {
-    let mut i = 0;
-    while i < n {
-        i += 1;
-        if byte_at(text, i - 1) == 10 {
-            return i;
+    for i in 0..n {
+        if byte_at(text, i) == 10 {
+            return i + 1;
         }
     }
     n
@@ -61,9 +57,7 @@ fn line_end(text: &[u8], n: usize) -> usize {
 
 // Where the last line of the first n bytes starts.
 fn last_line(text: &[u8], n: usize) -> usize {
-    let mut i = n;
-    while 1 < i {
-        i -= 1;
+    for i in (1..n).rev() {
         if byte_at(text, i - 1) == 10 {
             return i;
         }

@@ -1,8 +1,11 @@
 // All arrangements of a trace, by definition: sequences of at most six event actions, each whole but the last. Each is known by the set of its records.
 use crate::paths;
-use crate::paths::event_of;
-use crate::slots::{bit, get, has_all, is_in, plus, put};
+use crate::slots::has_all;
 use records::access;
+use slices::{get, put};
+use trials::numbers::plus;
+use trials::recs::event_of;
+use trials::sets::{bit, is_in};
 
 // In the set of an arrangement: it does not run its records in trace order; it is none.
 const EXCHANGED: usize = 62;
@@ -46,12 +49,10 @@ fn run_event(
         return before;
     }
     let mut run = before;
-    let mut i = 0;
-    while i < end {
+    for i in 0..end {
         if (event_of(recs, i) == event) & !broken(run) {
             run = run_record(table, run, i, z);
         }
-        i += 1;
     }
     run
 }
@@ -72,11 +73,9 @@ fn run_next(recs: &[u8], table: &[usize], run: usize, rest: usize) -> usize {
 fn run_all(recs: &[u8], table: &[usize], sequence: usize, z: usize) -> usize {
     let mut run = 0;
     let mut rest = sequence;
-    let mut k = 0usize;
-    while k < 5 {
+    for _ in 0..5 {
         run = run_next(recs, table, run, rest);
         rest = rest / 8;
-        k += 1;
     }
     run_event(recs, table, run, event_of(recs, z), plus(z, 1), z)
 }
@@ -102,11 +101,9 @@ fn candidates(recs: &[u8]) -> usize {
 pub(crate) fn find(recs: &[u8], table: &mut [usize]) -> usize {
     let n = candidates(recs);
     let mut found = 0;
-    let mut x = 0;
-    while x < n {
+    for x in 0..n {
         let run = run_all(recs, table, x % SEQUENCES, x / SEQUENCES);
         found = put_arrangement(table, run, found);
-        x += 1;
     }
     found
 }

@@ -5,32 +5,32 @@
 
 mod arrangements;
 mod paths;
-mod show;
 mod slots;
 
-use pair::PairAnswer;
+use pair::Verdict;
 use records::{Operation, access};
-use show::{number, word};
-use slots::{bit, get_short, has_all, is_in, pick, plus, size};
+use slices::get;
+use slots::{has_all, size};
 use std::fs;
-use trace::Reading;
+use trials::line::{number, numbers, word};
+use trials::numbers::{pick, plus};
+use trials::recs::event_of;
+use trials::sets::{bit, is_in};
 
 // Does the entry stand for record i: "its event's records, joins included, up to that one"?
 fn stands_for(recs: &[u8], list: &[u16], entry: usize, i: usize) -> bool {
-    let event = get_short(list, plus(entry, entry));
-    let last = get_short(list, plus(plus(entry, entry), 1));
-    (paths::event_of(recs, i) == event) & (i < last)
+    let event = usize::from(get(list, plus(entry, entry)));
+    let last = usize::from(get(list, plus(plus(entry, entry), 1)));
+    (event_of(recs, i) == event) & (i < last)
 }
 
 // The records for which the first k entries stand, k at most 8.
 fn kept_records(recs: &[u8], list: &[u16], k: usize) -> usize {
     let mut set = 0;
-    let mut x = 0;
-    while x < 512 {
+    for x in 0..512 {
         if (x / 64 < k) & stands_for(recs, list, x / 64, x % 64) {
             set = set | bit(x % 64);
         }
-        x += 1;
     }
     set
 }
@@ -60,13 +60,11 @@ fn count_all(table: &[usize], found: usize, a: usize, b: usize, kept: usize) -> 
         fewest: 64,
         alike: 0,
     };
-    let mut r = 0;
-    while r < found {
+    for r in 0..found {
         let run = arrangements::arrangement(table, r);
         if is_in(run, b) & !is_in(run, a) {
             t = count_one(t, run, kept);
         }
-        r += 1;
     }
     t
 }
@@ -83,7 +81,7 @@ fn show_open(
     let kept = kept_records(recs, list, k);
     let t = count_all(table, found, a, b, kept);
     word(b" open |");
-    show::numbers(list, plus(k, k));
+    numbers(list, plus(k, k));
     word(b" | records");
     number(size(kept));
     word(b" arrangements");
@@ -125,26 +123,24 @@ fn ask(bytes: &[u8], recs: &[u8], table: &[usize], found: usize, a: usize, b: us
         operation(a),
         operation(b),
     ) {
-        PairAnswer::Open(k) => show_open(recs, table, found, a, b, &list, k),
-        PairAnswer::Covered(_) => show_covered(table, found, a, b),
-        PairAnswer::Refused(_) => word(b" refused"),
+        Ok(Verdict::Open(k)) => show_open(recs, table, found, a, b, &list, k),
+        Ok(Verdict::Covered(_)) => show_covered(table, found, a, b),
+        Err(_) => word(b" refused"),
     }
     word(b"\n");
 }
 
 // Every race, ordered by second record, then first.
 fn ask_each(bytes: &[u8], recs: &[u8], table: &[usize], found: usize) {
-    let mut x = 0;
-    while x < 4096 {
+    for x in 0..4096 {
         if is_in(paths::races(table, x / 64), x % 64) {
             ask(bytes, recs, table, found, x % 64, x / 64);
         }
-        x += 1;
     }
 }
 
 fn each_pair(bytes: &[u8]) {
-    let Reading::Accepted(t) = trace::read(bytes) else {
+    let Ok(t) = trace::read(bytes) else {
         word(b"refused\n");
         return;
     };

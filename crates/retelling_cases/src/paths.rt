@@ -1,6 +1,9 @@
 // Happens-before and races of a trace of at most 60 records whose events are numbered below 8, by definition. Records are known by position, from 0.
-use crate::slots::{bit, get, is_in, pick, plus, put, wide};
 use records::access;
+use slices::{get, put};
+use trials::numbers::{pick, plus};
+use trials::recs::{event_of, is_kind, target_of};
+use trials::sets::{bit, is_in};
 
 // What is found stands in one table: of each event the set of those that happen before it, of each record y the set of the x ≼ y and that of the x
 // with a race (x, y), and the arrangements.
@@ -12,22 +15,9 @@ pub(crate) fn table_space() -> [usize; 1024] {
     [0; 1024]
 }
 
-pub(crate) fn event_of(recs: &[u8], i: usize) -> usize {
-    wide(access::event_at(recs, i).0)
-}
-
-fn is_kind(recs: &[u8], i: usize, kind: u8) -> bool {
-    access::kind_at(recs, i) == kind
-}
-
 // t = u, or a path leads from t to u.
 fn reaches(table: &[usize], t: usize, u: usize) -> bool {
     is_in(get(table, u) | bit(u), t)
-}
-
-// The event that record i starts or waits for, where it is a fork or a join.
-fn target_of(recs: &[u8], i: usize) -> usize {
-    wide(access::target_at(recs, i).0)
 }
 
 // The two that a fork or a join orders; 0 for the later one where record i is neither.
@@ -48,12 +38,10 @@ fn joined(recs: &[u8], table: &[usize], i: usize) -> usize {
 
 // "a path of forks (from starter to started) and joins (from waited-for to waiting)": eight rounds over all records.
 pub(crate) fn find_paths(recs: &[u8], table: &mut [usize]) {
-    let mut x = 0;
-    while x < 512 {
+    for x in 0..512 {
         let set = joined(recs, table, x % 64);
         let u = later(recs, x % 64);
         put(table, u, set);
-        x += 1;
     }
 }
 
@@ -84,8 +72,7 @@ fn is_race(recs: &[u8], table: &[usize], a: usize, b: usize) -> bool {
 }
 
 pub(crate) fn find_before(recs: &[u8], table: &mut [usize]) {
-    let mut x = 0;
-    while x < 4096 {
+    for x in 0..4096 {
         let old = before(table, x / 64);
         let set = pick(
             is_before(recs, table, x % 64, x / 64),
@@ -93,17 +80,14 @@ pub(crate) fn find_before(recs: &[u8], table: &mut [usize]) {
             old,
         );
         put(table, plus(BEFORE, x / 64), set);
-        x += 1;
     }
 }
 
 pub(crate) fn find_races(recs: &[u8], table: &mut [usize]) {
-    let mut x = 0;
-    while x < 4096 {
+    for x in 0..4096 {
         let old = races(table, x / 64);
         let set = pick(is_race(recs, table, x % 64, x / 64), old | bit(x % 64), old);
         put(table, plus(RACES, x / 64), set);
-        x += 1;
     }
 }
 

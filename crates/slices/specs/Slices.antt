@@ -1,13 +1,21 @@
 -- Slices as lists: zeros, and two bytes as a number. Definitions alone. Assumes nothing.
 use Rattle.std.specs.Prelude.{ℕ, ◌+◌, ◌*◌, min, List, ◌++◌, length, get_or, drop, replicate}
 
--- that many zeros
-unfoldable pub zeros : ℕ → List ℕ
-zeros n = replicate n 0
+-- an element that many times
+unfoldable pub filled : {A : Type 0} → A → ℕ → List A
+filled x n = replicate n x
 
--- zeros in that many elements, as far as they are there, and the others as they were
-unfoldable pub cleared : ℕ → List ℕ → List ℕ
-cleared count l = replicate (min count (length l)) 0 ++ drop count l
+-- that many zeros
+abbrev pub zeros : ℕ → List ℕ
+zeros n = filled 0 n
+
+-- an element in that many places, as far as they are there, and the others as they were
+unfoldable pub overwritten : {A : Type 0} → A → ℕ → List A → List A
+overwritten x count l = replicate (min count (length l)) x ++ drop count l
+
+-- zeros in that many places, as far as they are there, and the others as they were
+abbrev pub cleared : ℕ → List ℕ → List ℕ
+cleared count l = overwritten 0 count l
 
 -- "fields are unsigned, low byte first": two bytes as a number
 abbrev pub two_bytes : List ℕ → ℕ → ℕ

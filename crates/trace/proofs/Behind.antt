@@ -1,6 +1,6 @@
 -- Refusal 31 beside 4 to 8: it applies to a begin that passes those, and what stands before the begin decides it.
 -- Assumes nothing.
-use Prim.Native.Nat.{ℕ, zero, suc, ◌+◌, ◌<◌}
+use Prim.Native.Nat.{ℕ, zero, suc, ◌<◌}
 use mathlib.Core.Path.{◌≡◌, refl, sym, ap, ◌∙◌, subst}
 use mathlib.Core.Bool.{Bool, true, false, cond, not, ◌&&◌, and-false, and-eq-true_iff}
 use mathlib.Core.List.{List, [], ◌∷◌, ◌++◌}
@@ -8,7 +8,7 @@ use mathlib.Core.Logic.{◌≢◌, ◌⊎◌, inl, inr}
 use native.Mathlib.Omega.{arith}
 use native.Mathlib.Nat.{eq-or-lt_of_le, le_of_suc-le-suc}
 use borrow.Author.Tests.{eqb-true}
-use lib.Dec.{T, eqb, eqb→eq}
+use lib.Dec.{T, eqb}
 use lib.ListN.{length, length-append, get_or-append}
 use lib.Seq.{get_or-append_seam}
 use Rattle.records.specs.declared.Record.{Record}
@@ -20,7 +20,7 @@ use Rattle.precedence.specs.Table.{blocked_for, blocked}
 use Rattle.precedence.proofs.Prefix.{blocked-same}
 use Rattle.trace.specs.Place.{place}
 use Rattle.trace.specs.Rule.{situation, owner, well_formed, misplaced, again, early, judge, in_turn, behind, rule}
-use Rattle.trace.specs.Reply.{Reply, refused, gives, demand, or_else, then}
+use Rattle.trace.specs.Reply.{Reply, gives, demand, or_else, then}
 use Rattle.trace.specs.Plain.{plain_rule}
 use Rattle.trace.proofs.ReplyLaws.{stops}
 

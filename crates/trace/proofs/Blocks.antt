@@ -2,21 +2,19 @@
 -- is refused by 31.
 -- Assumes nothing.
 use Prim.Native.Nat.{ℕ, ◌<◌, ◌≤◌}
-use mathlib.Core.Path.{◌≡◌, sym, ap}
+use mathlib.Core.Path.{◌≡◌}
 use mathlib.Core.Bool.{true, false}
 use mathlib.Core.List.{List}
 use mathlib.Core.Logic.{◌≢◌, ◌⊎◌, inl, inr}
 use native.Mathlib.Omega.{arith}
-use borrow.Author.Tests.{eq-eqb}
 use lib.Dec.{T}
 use lib.ListN.{length}
 use Rattle.records.specs.declared.Record.{Record}
 use Rattle.records.specs.Records.{at, past, is_begin, is_end, event_of, begun}
-use Rattle.records.specs.Kinds.{is_send, starts}
-use Rattle.records.proofs.Positions.{true-not-false, Found, has-found, has-intro}
-use Rattle.slices.proofs.Tests.{or_left}
+use Rattle.records.specs.Kinds.{starts}
+use Rattle.records.proofs.Positions.{Found, has-found}
 use Rattle.precedence.specs.Table.{blocked}
-use Rattle.trace.specs.Rule.{situation, owner, rule}
+use Rattle.trace.specs.Rule.{situation, owner}
 use Rattle.trace.specs.Reading.{Acceptable}
 use Rattle.trace.proofs.Passed as all
 use Rattle.trace.proofs.Passed.{AllPass, passing}

@@ -1,7 +1,7 @@
 -- The bytes of a sequence of records, and the records of bytes, undo each other: each acceptable sequence of records has just one trace.
 -- Assumes nothing.
-use Prim.Native.Nat.{ℕ, zero, suc, ◌+◌, ◌*◌, ◌-◌, ◌/◌, ◌%◌, ◌<◌, ◌≤◌}
-use mathlib.Core.Path.{◌≡◌, refl, sym, ap, ap₂, ◌∙◌}
+use Prim.Native.Nat.{ℕ, suc, ◌+◌, ◌*◌, ◌-◌, ◌/◌, ◌%◌, ◌<◌, ◌≤◌}
+use mathlib.Core.Path.{◌≡◌, refl, sym, ap, ◌∙◌}
 use mathlib.Core.Bool.{Bool, true, false, cond, ◌&&◌, and-eq-true_iff}
 use mathlib.Core.List.{List, [], ◌∷◌, ◌++◌, append_assoc}
 use mathlib.Core.Logic.{◌⊎◌, inl, inr}
@@ -13,8 +13,8 @@ use lib.Seq.{take_at, drop_at, drop-cons, drop-drop, get_or-append-add, get_or-d
 use Rattle.records.specs.declared.Record.{Record}
 use Rattle.records.specs.declared.Trace.{Trace}
 use Rattle.slices.specs.Slices.{two_bytes}
-use Rattle.records.specs.Bytes.{record_at, records_from, decode, part}
-use Rattle.records.specs.Records.{at, past, is_begin}
+use Rattle.records.specs.Bytes.{decode, part}
+use Rattle.records.specs.Records.{at, past}
 use Rattle.records.specs.Records.{begins as begin-count}
 use Rattle.trace.specs.Place.{place}
 use Rattle.trace.specs.Rule.{situation, numbered}

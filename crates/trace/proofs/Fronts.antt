@@ -1,16 +1,16 @@
 -- The reading of a trace with sends: what the first pass and the table over the records that passed it give together.
 -- Assumes nothing.
-use Prim.Native.Nat.{ℕ, ◌+◌, ◌*◌, ◌/◌, ◌<◌, ◌≤◌}
+use Prim.Native.Nat.{ℕ, ◌<◌, ◌≤◌}
 use mathlib.Core.Path.{◌≡◌, sym, ap, ◌∙◌}
 use mathlib.Core.List.{List, []}
 use mathlib.Core.Logic.{◌⊎◌, inl, inr}
 use native.Mathlib.Omega.{arith}
 use borrow.Author.Tests.{le-leb, lt-leb}
-use lib.ListN.{length, get_or, take}
-use lib.Seq.{length-take-le, take-length, get_or-take, ext_get_or}
+use lib.ListN.{length, take}
+use lib.Seq.{take-length}
 use Rattle.records.specs.declared.Record.{Record}
 use Rattle.records.specs.declared.Trace.{Trace}
-use Rattle.records.specs.Records.{no_record, at, past}
+use Rattle.records.specs.Records.{past}
 use Rattle.records.proofs.Positions.{lt-or-ge}
 use Rattle.links.specs.Fill.{fill_all}
 use Rattle.trace.specs.declared.Scanned.{Scanned}

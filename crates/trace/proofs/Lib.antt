@@ -1,7 +1,7 @@
+pub mod Reasons
 pub mod Table
 pub mod ReplyLaws
 pub mod Places
-pub mod Upward
 pub mod Marked
 pub mod StatusLaws
 pub mod Faults

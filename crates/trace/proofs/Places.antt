@@ -3,7 +3,6 @@
 use Prim.Native.Nat.{ℕ, ◌/◌, ◌%◌}
 use mathlib.Core.Bool.{Bool}
 use lib.Dec.{T, eqb, eqb→eq}
-use lib.ListN.{get_or}
 use Rattle.trace.specs.Place.{place, high_entries, outside_entries, inside_entries, places, EqualReplies}
 use Rattle.trace.proofs.Table.{at, every}
 

@@ -8,19 +8,17 @@ use native.Mathlib.Omega.{arith}
 use mathlib.Core.Path.{◌≡◌, refl, sym, ap, ◌∙◌}
 use mathlib.Core.Bool.{false}
 use mathlib.Core.List.{List, []}
-use denote.Enum.Declared.{tag_of, declared}
 use Rattle.records.specs.declared.Record.{Record}
 use Rattle.records.specs.declared.Trace.{Trace}
 use Rattle.records.specs.Bytes.{decode, part}
 use Rattle.links.specs.Fill.{fill_all}
 use Rattle.trace.specs.declared.Scanned.{Scanned}
-use Rattle.trace.specs.declared.Reading.{Reading}
-use Rattle.trace.specs.declared.Reading.TheVariants.{Accepted, Refused}
+use Rattle.std.proofs.Common.{Err}
+use Rattle.trace.specs.declared.Refusal.{Refusal}
 use Rattle.trace.specs.Reply.{Reply, refused, gives, demand, then}
 use Rattle.trace.specs.Reading.{walk, frame_reply, records_in, read_reply, Accepts}
 use Rattle.trace.specs.Paper.{paper}
 use Rattle.trace.specs.Plain.{plain_walk, plain_reply, Passed, Scans, passed_in, earlier, FirstPass}
-use Rattle.trace.specs.contracts.Reading.{enum}
 use Rattle.trace.proofs.ReplyLaws.{not-both, same-given}
 use Rattle.trace.proofs.Accepted.{framed, records-length, named, accepts}
 use Rattle.trace.proofs.Walks.{unsent-free, free_walk, plain-told}
@@ -38,17 +36,16 @@ module _ (b : List ℕ) where
   unfolding read_reply then
   refused_none {n} {p} q t h = not-both t n p (h ∙ sym (ap (whole b) q))
 
-  pub refused-first : (f : Reading) → tag_of (declared enum) f ≡ 1 → paper f ≡ frame_reply b
-      → FirstPass b (record { reading = f; start = 0; passed = 0; sends = false })
+  pub refused-first : (x : Refusal) → paper (Err x) ≡ frame_reply b
+      → FirstPass b (record { reading = Err x; start = 0; passed = 0; sends = false })
   unfolding read_reply plain_reply then earlier demand
-  refused-first (Accepted t) e q = absurd (omega arith)
-  refused-first (Refused x) e q = record {
+  refused-first x q = record {
     reply = ap (plain b) q;
     framed = λ n f. absurd (not-both n _ _ (f ∙ sym q));
     unframed = λ k p f. (refl, refl, refl);
     few = omega arith;
     enough = λ w. ap (whole b) q;
-    decided = simp (le-leb 0 (fill_all (passed_in b (record { reading = Refused x; start = 0; passed = 0; sends = false }))).stop (omega arith))
+    decided = simp (le-leb 0 (fill_all (passed_in b (record { reading = Err x; start = 0; passed = 0; sends = false }))).stop (omega arith))
         (ap (whole b) q);
     tells = λ t z. absurd (not-both t _ _ z);
     all_passed = λ t h. absurd (refused_none q t h);

@@ -13,7 +13,7 @@ use lib.ListN.{length, get_or, set, length-set, length-replicate, get_or-replica
 use lib.Seq.{get_or-set_same, get_or-set_other}
 use Rattle.records.specs.declared.Record.{Record}
 use Rattle.records.specs.Records.{is_begin, is_end, has, begun, ended}
-use Rattle.slices.specs.Slices.{zeros}
+use Rattle.slices.specs.Slices.{filled, zeros}
 use Rattle.trace.specs.loops.Status.{has_begun, has_ended, noted}
 
 pub record Tracks (m : List ℕ) (before : List Record) : Type 0 where
@@ -22,7 +22,7 @@ pub record Tracks (m : List ℕ) (before : List Record) : Type 0 where
   pub ends : (e : ℕ) → e < 1025 → has_ended m e ≡ ended e before
 
 pub tracks-start : Tracks (zeros 1025) []
-unfolding zeros has_begun has_ended begun ended has
+unfolding filled has_begun has_ended begun ended has
 tracks-start = record {
   size = length-replicate {A = ℕ} 1025 0;
   begins = λ e h. rw (get_or-replicate {A = ℕ} 1025 e 0 0 h);

@@ -2,12 +2,11 @@
 -- Assumes nothing.
 use Prim.Native.Nat.{ℕ, zero, suc, ◌+◌, ◌<◌, ◌≤◌}
 use mathlib.Core.Path.{◌≡◌, refl, sym, ap, ◌∙◌, subst}
-use mathlib.Core.Bool.{true, false, ◌&&◌, ◌||◌}
-use mathlib.Core.List.{List, [], ◌∷◌}
+use mathlib.Core.Bool.{true, false, ◌||◌}
+use mathlib.Core.List.{List, []}
 use mathlib.Core.Logic.{◌⊎◌, inl, inr}
 use native.Mathlib.Omega.{arith}
 use native.Mathlib.Nat.{eq-or-lt_of_le, le_of_suc-le-suc}
-use native.Mathlib.Numerals.{add-one}
 use lib.Dec.{T, eqb}
 use lib.ListN.{length, drop, drop_of_length-le}
 use lib.Seq.{drop-cons}
@@ -21,7 +20,7 @@ use Rattle.slices.proofs.Tests.{both, or_left, or_right, failed}
 use Rattle.precedence.specs.Table.{table, missing, blocked_for, blocked}
 use Rattle.precedence.proofs.Steps.{puts}
 use Rattle.trace.specs.Rule.{rule}
-use Rattle.trace.specs.Reply.{Reply, refused, gives, or_else}
+use Rattle.trace.specs.Reply.{refused, gives, or_else}
 use Rattle.trace.specs.Reading.{closing, walk}
 use Rattle.trace.specs.Plain.{plain_rule, plain_walk, Passed}
 use Rattle.trace.proofs.ReplyLaws.{stops, not-both, passed, same-given}

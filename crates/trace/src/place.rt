@@ -1,5 +1,5 @@
 // The place rule: the next situation (0 between event actions, 1 after a join, 2 inside one) by cases of the kind; or 3 for an unknown kind, or 4 for a
-// record out of place.
+// record out of place. Numbers: document 01's table of 768 entries and theorem EqualReplies speak of them.
 ghost use Rattle.std.specs.Prelude.{◌≡◌};
 ghost use Rattle.trace.specs.Place.{between, inside, place};
 

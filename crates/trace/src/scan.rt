@@ -7,12 +7,13 @@ ghost use Rattle.trace.specs.loops.Status.{has_begun, has_ended, noted};
 ghost use Rattle.trace.specs.Reply.{gives, demand};
 ghost use Rattle.records.specs.Kinds.{is_send};
 ghost use Rattle.trace.specs.Plain.{Scans};
-ghost use Rattle.trace.specs.Paper.{paper};
+ghost use Rattle.trace.specs.Paper.{code, paper};
 
-use crate::{Reading, Scanned, accept, place, refuse, rule, status};
+use crate::rule::History;
+use crate::{Reason, Refusal, Scanned, place, rule, status};
 use records::access::{count, record_at};
-use records::{EventId, Record};
-use slices::zeros::bytes_1025;
+use records::{EventId, Operation, Record, Trace};
+use slices::zeros;
 
 // The trace ends after that many records, `found` of them begins, in that situation; a send is among them or not.
 fn finish(
@@ -22,44 +23,52 @@ fn finish(
     now_in: u8,
     found: usize,
     sends: bool,
-) -> Reading
+) -> Result<Trace, Refusal>
     requires { records ≤ 4096 }
     ensures { paper result ≡ demand (eqb now_in 0) 9 records
         (demand (eqb found events) 10 0 (gives (record { start = start; records = records; events = found; sends = sends }))) }
 {
     if now_in != 0 {
-        return refuse(crate::STOPS_INSIDE, records);
+        return Err(Reason::StopsInside.at(Operation(records as u16)));
     }
     if found != events {
-        return refuse(crate::BEGIN_COUNT, 0);
+        return Err(Reason::BeginCount.at(Operation(0)));
     }
-    accept(start, records, found, sends)
+    Ok(Trace {
+        start: start,
+        records: records,
+        events: found,
+        sends: sends,
+    })
 }
 
-// The number of the first of refusals 7 and 8 that applies to record r, or 0, by what has begun and ended before. A begin or an end that passes is
-// noted in its event's status.
-fn admit(status: &mut [u8; 1025], r: Record) -> u16
-    ensures { (result ≡ cond (again r (has_begun status.old r.first) (has_begun status.old r.second)) 7
-        (cond (early r (has_ended status.old r.second)) 8 0)) × (result ≡ 0 → status.new ≡ noted status.old r) }
+// The first of refusals 7 and 8 that applies to record r, by what has begun and ended before. A begin or an end that passes is noted in its event's
+// status.
+fn admit(status: &mut [u8; 1025], r: Record) -> Result<(), Reason>
+    ensures { (code result ≡ cond (again r (has_begun status.old r.first) (has_begun status.old r.second)) 7
+        (cond (early r (has_ended status.old r.second)) 8 0)) × (code result ≡ 0 → status.new ≡ noted status.old r) }
 {
-    let kind = r.kind;
-    if kind == 1 {
-        if status::has_begun(status, r.first) {
-            return crate::BEGUN_ALREADY;
+    match r.kind {
+        1 => {
+            if status::has_begun(status, r.first) {
+                return Err(Reason::BegunAlready);
+            }
+            status::note(status, r.first, status::BEGUN);
+            Ok(())
         }
-        status::note(status, r.first, status::BEGUN);
-        return 0;
+        2 => {
+            status::note(status, r.first, status::ENDED);
+            Ok(())
+        }
+        _ => {
+            let past = History {
+                first_begun: status::has_begun(status, r.first),
+                second_begun: status::has_begun(status, r.second),
+                second_ended: status::has_ended(status, r.second),
+            };
+            rule::order_fault(r, past)
+        }
     }
-    if kind == 2 {
-        status::note(status, r.first, status::ENDED);
-        return 0;
-    }
-    rule::order_fault(
-        r,
-        status::has_begun(status, r.first),
-        status::has_begun(status, r.second),
-        status::has_ended(status, r.second),
-    )
 }
 
 // Is the record an access by the open event, of a cell's number? No refusal concerns such a record inside an event action.
@@ -86,14 +95,12 @@ fn pass_accesses(recs: &[u8], now_in: u8, owner: u16, from: usize) -> usize
         return from;
     }
     let n = count(recs);
-    let mut i = from;
-    while i < n {
+    for i in from..n {
         if !is_inner_access(owner, record_at(recs, i)) {
             return i;
         }
-        i += 1;
     }
-    i
+    n.max(from)
 }
 
 // The number of begins, after a record of that kind.
@@ -101,10 +108,7 @@ fn one_more(kind: u8, found: usize) -> usize
     requires { found ≤ 4096 }
     ensures { result ≡ cond (eqb kind 1) (found + 1) found }
 {
-    if kind == 1 {
-        return found + 1;
-    }
-    found
+    if kind == 1 { found + 1 } else { found }
 }
 
 // Whether a send was met, after a record of that kind.
@@ -120,39 +124,37 @@ fn or_send(kind: u8, sends: bool) -> bool
     true
 }
 
-fn stop(reading: Reading, start: usize, passed: usize, sends: bool) -> Scanned
-    ensures { result ≡ record { reading = reading; start = start; passed = passed; sends = sends } }
-{
-    Scanned {
-        reading: reading,
-        start: start,
-        passed: passed,
-        sends: sends,
-    }
-}
-
 // The records of a trace that start there, with the number of begins that the trailer names.
 pub(crate) fn scan(recs: &[u8], start: usize, events: usize) -> Scanned
     requires { length (decode recs.now) ≤ 4096 }
     ensures { Scans (decode recs.now) start events result }
 {
     let records = count(recs);
-    let mut status = bytes_1025();
+    let mut status = zeros::<u8, 1025>();
     let mut now_in: u8 = 0;
     let mut owner: u16 = 0;
     let mut found = 0;
     let mut sends = false;
     let mut i = 0;
+    // While: a turn goes on past the accesses that follow its record.
     while i < records {
         let r = record_at(recs, i);
         let next = place::next(now_in, r.kind);
-        let misplaced = rule::place_fault(next, now_in, EventId(owner), r);
-        if misplaced != 0 {
-            return stop(refuse(misplaced, i + 1), start, i, sends);
+        if let Err(misplaced) = rule::place_fault(next, now_in, EventId(owner), r) {
+            return Scanned {
+                reading: Err(misplaced.at(Operation((i + 1) as u16))),
+                start: start,
+                passed: i,
+                sends: sends,
+            };
         }
-        let number = admit(&mut status, r);
-        if number != 0 {
-            return stop(refuse(number, i + 1), start, i, sends);
+        if let Err(reason) = admit(&mut status, r) {
+            return Scanned {
+                reading: Err(reason.at(Operation((i + 1) as u16))),
+                start: start,
+                passed: i,
+                sends: sends,
+            };
         }
         found = one_more(r.kind, found);
         sends = or_send(r.kind, sends);
@@ -160,10 +162,10 @@ pub(crate) fn scan(recs: &[u8], start: usize, events: usize) -> Scanned
         owner = r.first;
         i = pass_accesses(recs, now_in, owner, i + 1);
     }
-    stop(
-        finish(records, start, events, now_in, found, sends),
-        start,
-        records,
-        sends,
-    )
+    Scanned {
+        reading: finish(records, start, events, now_in, found, sends),
+        start: start,
+        passed: records,
+        sends: sends,
+    }
 }

@@ -1,8 +1,9 @@
-// The status of each event, as a byte by event number: 0 nothing, 1 begun, 2 ended. A number past the bytes has status 0 and is not written.
+// The status of each event, as a byte by event number: 0 nothing, 1 begun, 2 ended. A number past the bytes has status 0 and is not written. Bytes, not an
+// enum: the table is zeroed and written by what serves all lent bytes.
 ghost use Rattle.std.specs.Prelude.{◌≡◌, set};
 ghost use Rattle.trace.specs.loops.Status.{has_begun, has_ended};
 
-use slices::bytes::{get, put};
+use slices::{get, put};
 
 pub(crate) const BEGUN: u8 = 1;
 

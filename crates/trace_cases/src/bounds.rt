@@ -1,7 +1,8 @@
 // The longest trace, and the distances about it.
-use crate::draft::{close_and_read, put_record, put_trailer, read_first};
-use crate::show::{line_end, number, reading, word};
-use trace::Reading;
+use crate::draft::{close_and_read, read_first};
+use crate::show::reading;
+use trials::draft::{put_record, put_trailer};
+use trials::line::{line_end, number, word};
 
 // Bytes for 4,096 records, another one, and the trailer.
 fn space() -> [u8; 20493] {
@@ -42,10 +43,8 @@ fn put_event(bytes: &mut [u8], at: usize, e: u16) -> usize {
 
 fn put_events(bytes: &mut [u8]) -> usize {
     let mut at = 0;
-    let mut e: u16 = 1;
-    while e <= 1024 {
+    for e in 1..=1024 {
         at = put_event(bytes, at, e);
-        e += 1;
     }
     at
 }

@@ -1,9 +1,11 @@
 // Identifiers 0, 1, 1,024 and 1,025 in the first and in the second of each of the six kinds and the four kinds of sends.
 ghost use Rattle.std.specs.Prelude.{◌≤◌};
 
-use crate::draft::{close_and_read, put_record};
+use crate::draft::close_and_read;
 use crate::expect::agrees;
-use trace::Reading;
+use records::Trace;
+use trace::Refusal;
+use trials::draft::put_record;
 
 fn value(choice: usize) -> u16 {
     match choice {
@@ -87,7 +89,7 @@ fn shape_of(kind: u8) -> Shape {
     }
 }
 
-fn case(kind: u8, second: bool, choice: usize) -> Reading {
+fn case(kind: u8, second: bool, choice: usize) -> Result<Trace, Refusal> {
     let mut space = [0u8; 40];
     let bytes: &mut [u8] = &mut space;
     let v = value(choice);

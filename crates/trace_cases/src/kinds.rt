@@ -1,9 +1,11 @@
 // Each kind byte, 0 to 255, in each situation: between event actions, after a join, inside one.
 ghost use Rattle.std.specs.Prelude.{◌≤◌};
 
-use crate::draft::{close_and_read, put_record};
+use crate::draft::close_and_read;
 use crate::expect::agrees;
-use trace::Reading;
+use records::Trace;
+use trace::Refusal;
+use trials::draft::put_record;
 
 // The refusal that the documents' words give, 0 for none: "An event action is joins (perhaps none), begin, then forks, reads and writes, then end." "Kinds
 // 16 to 19 are sends on links 0 to 3: placed like a fork". Unless the record is an end the trace then stops inside an event action or after a join.
@@ -18,7 +20,7 @@ fn expected(situation: usize, kind: u8) -> u16 {
 }
 
 // Event 1 has ended. Then a join of 2 or the begin of 2 where the situation wants one, and the record under test, whose identifiers are right for its kind.
-fn case(situation: usize, kind: u8) -> Reading {
+fn case(situation: usize, kind: u8) -> Result<Trace, Refusal> {
     let mut space = [0u8; 32];
     let bytes: &mut [u8] = &mut space;
     let mut n = put_record(bytes, 0, 1, 1, 0);

@@ -1,5 +1,6 @@
 // Traces byte by byte: the shortest ones, one refusal of each number with its place, and which refusal comes first.
-use crate::show::{line_end, reading, word};
+use crate::show::reading;
+use trials::line::{line_end, word};
 
 fn shown(bytes: &[u8]) {
     reading(trace::read(bytes));

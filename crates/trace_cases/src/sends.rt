@@ -1,7 +1,10 @@
 // Sends and refusal 31: "for an event that a link puts behind another target not yet begun".
-use crate::draft::{close_and_read, put_record};
-use crate::show::{line_end, reading, word};
-use trace::Reading;
+use crate::draft::close_and_read;
+use crate::show::reading;
+use records::Trace;
+use trace::Refusal;
+use trials::draft::put_record;
+use trials::line::{line_end, word};
 
 fn space() -> [u8; 80] {
     [0; 80]
@@ -24,7 +27,7 @@ fn put_sends(bytes: &mut [u8], first: u8, second: u8) -> usize {
 }
 
 // 1 sends to 2 and to 3; then two events begin and end.
-fn pair(first: u8, second: u8, x: u16, y: u16, begins: u16) -> Reading {
+fn pair(first: u8, second: u8, x: u16, y: u16, begins: u16) -> Result<Trace, Refusal> {
     let mut bytes = space();
     let a = put_sends(&mut bytes, first, second);
     let b = put_record(&mut bytes, a, 2, 1, 0);
@@ -34,7 +37,7 @@ fn pair(first: u8, second: u8, x: u16, y: u16, begins: u16) -> Reading {
 }
 
 // 1 sends to 2, to 3 and to 2 on one link; then an event begins and ends.
-fn twice(e: u16) -> Reading {
+fn twice(e: u16) -> Result<Trace, Refusal> {
     let mut bytes = space();
     let a = put_sends(&mut bytes, 17, 17);
     let b = put_record(&mut bytes, a, 17, 1, 2);
@@ -59,7 +62,7 @@ pub(crate) fn alone() {
 }
 
 // After the sends to 2 and to 3, where 1 has ended or not: a record, and perhaps another one.
-fn then(ended: bool, kind: u8, first: u16, second: u16, more: u8) -> Reading {
+fn then(ended: bool, kind: u8, first: u16, second: u16, more: u8) -> Result<Trace, Refusal> {
     let mut room = space();
     let bytes: &mut [u8] = &mut room;
     let mut n = put_sends(bytes, 16, 16);
@@ -90,7 +93,7 @@ pub(crate) fn order() {
 }
 
 // 1 sends to 2, and starts 4 or not; 4 sends to 3 on the same link. Then 3 begins, before 2.
-fn through(kind: u8) -> Reading {
+fn through(kind: u8) -> Result<Trace, Refusal> {
     let mut bytes = space();
     let a = put_record(&mut bytes, 0, 1, 1, 0);
     let b = put_record(&mut bytes, a, 16, 1, 2);

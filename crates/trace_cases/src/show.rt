@@ -1,31 +1,19 @@
 // One line for each group of cases: a word, then what was found.
-use trace::Reading;
 
-pub(crate) fn word(text: &[u8]) {
-    io::write_all(1, text);
-}
+use records::Trace;
+use trace::Refusal;
+use trials::line::{self, number, word};
 
-pub(crate) fn number(n: usize) {
-    io::write_all(1, b" ");
-    io::print_decimal(1, n as u64);
-}
-
-pub(crate) fn line_end() {
-    io::write_all(1, b"\n");
-}
-
-pub(crate) fn reading(r: Reading) {
+pub(crate) fn reading(r: Result<Trace, Refusal>) {
     match r {
-        Reading::Accepted(t) => {
+        Ok(t) => {
             word(b" accepted");
             number(t.start);
             number(t.records);
             number(t.events);
         }
-        Reading::Refused(f) => {
-            word(b" refused");
-            number(f.number as usize);
-            number(f.place.0 as usize);
+        Err(f) => {
+            line::refusal(f.reason.number(), f.place.0);
         }
     }
 }

@@ -1,8 +1,8 @@
 // Groups of many cases: how many agree with what is expected, and how many don't.
 ghost use Rattle.std.specs.Prelude.{◌≤◌};
 
-use crate::show::{line_end, number, word};
 use crate::{identifiers, kinds};
+use trials::line::{line_end, number, word};
 
 // Case i of a group: 0 for the identifiers, 1 for the kinds.
 fn agrees_at(group: u8, i: usize) -> usize
@@ -18,10 +18,8 @@ fn agreements(group: u8, cases: usize) -> usize
     ensures { result ≤ cases }
 {
     let mut agree = 0;
-    let mut i = 0;
-    while i < cases {
+    for i in 0..cases {
         agree += agrees_at(group, i);
-        i += 1;
     }
     agree
 }

@@ -8,6 +8,3 @@ abbrev pub invariant-loop-i : goal.invariant-loop-i
 invariant-loop-i l =
     (l.i ≤ l.n) × (length l.words ≡ length l.initial.words) × (l.a + l.n ≤ length l.initial.words) × (l.b + l.n ≤ length l.others) ×
     (or_others l.others l.a l.b l.i (l.n - l.i) l.words ≡ or_others l.others l.a l.b 0 l.n l.initial.words)
-
-abbrev pub decreases-loop-i : goal.decreases-loop-i
-decreases-loop-i l = l.n - l.i

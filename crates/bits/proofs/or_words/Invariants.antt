@@ -7,6 +7,3 @@ use Rattle.bits.proofs.or_words.Given as goal
 abbrev pub invariant-loop-i : goal.invariant-loop-i
 invariant-loop-i l =
     (l.i ≤ l.n) × (length l.words ≡ length l.initial.words) × (l.a + l.n ≤ length l.initial.words) × (l.b + l.n ≤ length l.initial.words) × (or_from l.a l.b l.i (l.n - l.i) l.words ≡ or_from l.a l.b 0 l.n l.initial.words)
-
-abbrev pub decreases-loop-i : goal.decreases-loop-i
-decreases-loop-i l = l.n - l.i

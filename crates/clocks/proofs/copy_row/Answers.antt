@@ -2,6 +2,7 @@ use Prim.Native.Nat.{◌-◌}
 use mathlib.Core.Path.{◌≡◌, refl, sym, ap, ◌∙◌}
 use native.Mathlib.Omega.{arith}
 use lib.ListN.{length, length-take, length-drop}
+use Rattle.clocks.specs.Rows.{span}
 use Rattle.clocks.proofs.RowLaws.{row_fits, rows_apart, span-le, copied_at, copy-length, copy-next, copy-over, copy-row-none, copy-row-is, past-at, past-length}
 use Rattle.clocks.proofs.copy_row.Goals as goal
 
@@ -35,19 +36,19 @@ loop-c-init c =
     let k = b.args in
     let t = sym b.fits.ensures ∙ b.if-not-fits.false in
     let f = rows_apart _ k.width k.p k.u t in
-    let r = c.span-entries.ensures in
-    let z : c.span-entries.result - 0 ≡ c.span-entries.result = omega arith in
+    let r : c.smaller-entries.result ≡ span k.width k.chains k.p = unfold span in omega (arith, c.smaller-entries.ensures, c.most.ensures) in
+    let z : c.smaller-entries.result - 0 ≡ c.smaller-entries.result = omega arith in
     (omega arith, r, refl, f.before, f.stands.inside, omega (arith, span-le k.width k.chains k.p), rw z refl)
 
-pub put-requires : goal.put-requires
-put-requires c = simp (length-take, length-drop) (omega arith)
+pub bounds-row-c : goal.bounds-row-c
+bounds-row-c c = simp (length-take, length-drop) (omega arith)
 
 pub loop-c-preserved : goal.loop-c-preserved
 loop-c-preserved c =
     let at_before = c in
     let l = at_before in
     let a = l.args in
-    let step = copied_at a.width a.p a.u l.loop-c.c l.loop-c.clocks c.put.new.row (omega arith) (omega arith) c.put.ensures in
+    let step = copied_at a.width a.p a.u l.loop-c.c l.loop-c.clocks _ (omega arith) (omega arith) refl in
     (omega arith, l.loop-c.invariant.1, ap length step ∙ (copy-length _ _ _ _ _ ∙ l.loop-c.invariant.2), l.loop-c.invariant.3, l.loop-c.invariant.4, l.loop-c.invariant.5, rw step (sym (copy-next _ _ _ _ _ _ (omega arith)) ∙ l.loop-c.invariant.6))
 
 pub shape_of-clocks : goal.shape_of-clocks

@@ -8,6 +8,3 @@ abbrev pub invariant-loop-c : goal.invariant-loop-c
 invariant-loop-c l =
     (l.c ≤ l.entries) × (l.entries ≡ span l.width l.chains l.p) × (length l.clocks ≡ length l.initial.clocks) × (l.b + l.width ≤ l.a) × (l.a + l.width ≤ length l.initial.clocks) × (l.entries ≤ l.width)
     × (copy_from l.width l.p l.u l.c (l.entries - l.c) l.clocks ≡ copy_from l.width l.p l.u 0 l.entries l.initial.clocks)
-
-abbrev pub decreases-loop-c : goal.decreases-loop-c
-decreases-loop-c l = l.entries - l.c

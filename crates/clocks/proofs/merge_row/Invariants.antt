@@ -7,6 +7,3 @@ use Rattle.clocks.proofs.merge_row.Given as goal
 abbrev pub invariant-loop-c : goal.invariant-loop-c
 invariant-loop-c l =
     (l.c ≤ l.entries) × (l.entries ≤ l.width) × (length l.clocks ≡ length l.initial.clocks) × (l.b + l.width ≤ l.a) × (l.a + l.width ≤ length l.initial.clocks) × (merge_from l.width l.p l.u l.c (l.entries - l.c) l.clocks ≡ merge_row l.width l.chains l.p l.u l.initial.clocks)
-
-abbrev pub decreases-loop-c : goal.decreases-loop-c
-decreases-loop-c l = l.entries - l.c

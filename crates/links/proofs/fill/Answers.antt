@@ -15,5 +15,5 @@ fill_rows-requires c = let start = c in
 pub returns : goal.returns
 returns c = let k = c.args in
     let r = c.fill_rows.ensures in
-    let w = ap₂ (λ (n : ℕ) (last : List ℕ). fill_from (decode k.recs.now) (rank_in k.ranks.now) 0 n k.table.now last) c.count-n.ensures c.numbers_1025-last.ensures in
+    let w = ap₂ (λ (n : ℕ) (last : List ℕ). fill_from (decode k.recs.now) (rank_in k.ranks.now) 0 n k.table.now last) c.count-n.ensures c.zeros-last.ensures in
     (r.0 ∙ ap (λ (x : FilledTable). x.stop) w, r.1 ∙ ap (λ (x : FilledTable). x.words) w)

@@ -10,6 +10,3 @@ abbrev pub invariant-loop-i : goal.invariant-loop-i
 invariant-loop-i l =
     (l.i ≤ l.n) × (length l.table ≡ length l.initial.table) × (length l.last ≡ length l.initial.last) ×
     (fill_from (decode l.recs) (rank_in l.ranks) l.i (l.n - l.i) l.table l.last ≡ fill_from (decode l.recs) (rank_in l.ranks) 0 l.n l.initial.table l.initial.last)
-
-abbrev pub decreases-loop-i : goal.decreases-loop-i
-decreases-loop-i l = l.n - l.i

@@ -6,6 +6,3 @@ use Rattle.links.proofs.last_send_to.Given as goal
 
 abbrev pub invariant-loop-j : goal.invariant-loop-j
 invariant-loop-j l = last_send (decode l.recs) l.e.0 l.j ≡ last_send (decode l.recs) l.e.0 (length (decode l.recs))
-
-abbrev pub decreases-loop-j : goal.decreases-loop-j
-decreases-loop-j l = l.j

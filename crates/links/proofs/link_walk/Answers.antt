@@ -9,9 +9,12 @@ use Rattle.links.proofs.link_walk.Goals as goal
 
 pub loop-j-init : goal.loop-j-init
 loop-j-init c =
-    let k = c.args in
-    let w = c.within-j.ensures in
-    (refl, refl, walk-within (decode k.recs.now) (rank_in k.ranks.now) k.e.0 k.u k.table.now k.sets.now c.within-j.result k.from w.0 w.1)
+    let k = c.args in (
+      refl,
+      refl,
+      walk-within (decode k.recs.now) (rank_in k.ranks.now) k.e.0 k.u k.table.now k.sets.now c.min-j.result k.from
+          (omega (arith, c.min-j.ensures)) (λ d. omega (arith, d, c.min-j.ensures, c.count.ensures)),
+    )
 
 pub shape_of-table-then-link_turn : goal.shape_of-table-then-link_turn
 shape_of-table-then-link_turn c =

@@ -8,6 +8,3 @@ abbrev pub invariant-loop-j : goal.invariant-loop-j
 invariant-loop-j l =
     (length l.table ≡ length l.initial.table) × (length l.sets ≡ length l.initial.sets) ×
     (walk (decode l.recs) (rank_in l.ranks) l.e.0 l.u l.j l.table l.sets ≡ walk (decode l.recs) (rank_in l.ranks) l.e.0 l.u l.from l.initial.table l.initial.sets)
-
-abbrev pub decreases-loop-j : goal.decreases-loop-j
-decreases-loop-j l = l.j

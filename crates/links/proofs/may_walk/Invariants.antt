@@ -8,6 +8,3 @@ use Rattle.links.proofs.may_walk.Given as goal
 abbrev pub invariant-loop-j : goal.invariant-loop-j
 invariant-loop-j l =
     (length l.sent ≡ length l.initial.sent) × (may (decode l.recs) (rank_in l.ranks) l.e.0 l.j l.sent ≡ may (decode l.recs) (rank_in l.ranks) l.e.0 l.from l.initial.sent)
-
-abbrev pub decreases-loop-j : goal.decreases-loop-j
-decreases-loop-j l = l.j

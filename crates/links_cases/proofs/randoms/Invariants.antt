@@ -1,8 +1,5 @@
-use Rattle.std.proofs.Common.{◌-◌, ◌≤◌}
+use Rattle.std.proofs.Common.{◌≤◌}
 use Rattle.links_cases.proofs.randoms.Given as goal
 
 abbrev pub invariant-loop-seed : goal.invariant-loop-seed
 invariant-loop-seed l = l.seed ≤ 1000
-
-abbrev pub decreases-loop-seed : goal.decreases-loop-seed
-decreases-loop-seed l = 1000 - l.seed

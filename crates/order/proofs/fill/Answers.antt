@@ -1,6 +1,6 @@
 use Rattle.order.proofs.PrepareLaws.{fills}
-use mathlib.Core.Path.{sym, ◌∙◌, subst}
-use lib.Dec.{T}
+use mathlib.Core.Path.{sym, ◌∙◌}
+use Rattle.order.proofs.EntryLaws.{no-send}
 use Rattle.order.proofs.fill.Goals as goal
 
 pub returns-then-first : goal.returns-then-first
@@ -12,8 +12,8 @@ fill_within-prepared-requires c =
     let at_read = at-if in
     let e = at_read.read_plain-first.ensures in (
       e.enough at-if.if-first.false,
-      at_read.numbers_1024-chosen.ensures,
-      λ t a s. absurd (subst T (sym (e.tells t (a ∙ sym (e.enough at-if.if-first.false))) ∙ at-if.if-first.false) s),
+      at_read.zeros-chosen.ensures,
+      λ t a. no-send _ t a (sym (e.tells t (a ∙ sym (e.enough at-if.if-first.false))) ∙ at-if.if-first.false),
     )
 
 pub returns : goal.returns

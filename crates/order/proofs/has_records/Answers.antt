@@ -1,11 +1,13 @@
-use Rattle.order.specs.Prepare.{asked}
+use Prim.Native.Nat.{◌<◌}
 use borrow.Author.Tests.{le-leb, lt-leb}
+use native.Mathlib.Omega.{arith}
+use Rattle.order.specs.Prepare.{asked}
 use Rattle.order.proofs.has_records.Goals as goal
 
-pub returns-then-lowest-lt1 : goal.returns-then-lowest-lt1
+pub returns-then-call-ge1 : goal.returns-then-call-ge1
 unfolding asked
-returns-then-lowest-lt1 c = rw (lt-leb _ _ c.if-lowest-lt1.true)
+returns-then-call-ge1 c = rw (le-leb _ _ c.if-call-ge1.true)
 
-pub returns : goal.returns
+pub returns-else-call-ge1 : goal.returns-else-call-ge1
 unfolding asked
-returns c = rw (le-leb _ _ c.if-lowest-lt1.false)
+returns-else-call-ge1 c = let z : c.args.call.lowest.0 < 1 = omega arith in rw (lt-leb _ _ z)

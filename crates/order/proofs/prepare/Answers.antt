@@ -1,7 +1,7 @@
 use Rattle.slices.proofs.Cleared.{cleared-whole}
 use native.Mathlib.Omega.{arith}
-use mathlib.Core.Path.{sym, ◌∙◌, subst}
-use lib.Dec.{T}
+use mathlib.Core.Path.{sym, ◌∙◌}
+use Rattle.order.proofs.EntryLaws.{no-send}
 use Rattle.order.proofs.prepare.Goals as goal
 
 pub prepare_linked-requires : goal.prepare_linked-requires
@@ -19,5 +19,5 @@ fill_within-requires c =
     let e = at_read.read_plain-first.ensures in (
       e.enough at-if.if-first.false,
       cleared-whole start.args.chosen.now (omega arith) at_clear.clear.ensures,
-      λ t a s. absurd (subst T (sym (e.tells t (a ∙ sym (e.enough at-if.if-first.false))) ∙ at-if.if-first.false) s),
+      λ t a. no-send _ t a (sym (e.tells t (a ∙ sym (e.enough at-if.if-first.false))) ∙ at-if.if-first.false),
     )

@@ -10,4 +10,4 @@ fill_within-requires c =
     let at_read = c in
     let start = c in
     let e = at_read.read_linked-reading.ensures in
-    (e.0, start.requires, λ t a s. (e.1.accepted t a).1)
+    (e.0, start.requires, λ t a. (e.1.accepted t a).1)

@@ -23,12 +23,6 @@ overflow_add-t c =
     let at-loop = c in
     let s = c in omega (arith, ends-row s.requires.0 s.requires.1 (at-loop.loop-i.invariant s.requires.0))
 
-pub overflow_add-i : goal.overflow_add-i
-overflow_add-i c = let s = c in omega (arith, c.loop-i-test.true, s.requires.0.inside, s.requires.0.acceptable.few)
-
-pub loop-i-smaller : goal.loop-i-smaller
-loop-i-smaller c = omega (arith, c.loop-i-test.true)
-
 pub loop-i-preserved : goal.loop-i-preserved
 loop-i-preserved c m =
     let s = c in

@@ -1,5 +1,5 @@
 -- How the entries of the pair question are found. Definitions alone. Assumes nothing.
-use Rattle.std.specs.Prelude.{ℕ, ◌+◌, ◌*◌, ◌≤◌, ◌<◌, ◌≡◌, ◌≢◌, Bool, ◌&&◌, List, ◌++◌, map, T, eqb, leb, length, get_or, set}
+use Rattle.std.specs.Prelude.{ℕ, ◌+◌, ◌*◌, ◌≤◌, ◌<◌, ◌≡◌, ◌≢◌, Bool, ◌&&◌, List, ◌++◌, map, T, eqb, leb, length, get_or, set, Option, None, Some}
 use Rattle.records.specs.declared.Record.{Record}
 use Rattle.records.specs.Records.{at, event_of}
 use Rattle.clocks.specs.WayRound.{WayRound, way_round, relate_in, says_unordered, says_before}
@@ -42,6 +42,11 @@ NoneFrom tr t lo d c = (x y : ℕ) → x < length tr → row_of tr x ≡ t → l
 -- c is the first that so races with d, from an event action of row t, whatever b the marks are for
 abbrev pub FirstFrom : List Record → List ℕ → List ℕ → ℕ → ℕ → ℕ → ℕ → Type 0
 FirstFrom tr ranks work lo t d c = (b x : ℕ) → Marks tr ranks work b → x < length tr → row_of tr x ≡ t → First tr b lo x d c
+
+-- what the search for it gives
+abbrev pub FirstIs : List Record → List ℕ → List ℕ → ℕ → ℕ → ℕ → Option ℕ → Type 0
+FirstIs tr ranks work lo t d None = FirstFrom tr ranks work lo t d d
+FirstIs tr ranks work lo t d (Some c) = (c < d) × FirstFrom tr ranks work lo t d c
 
 -- which way round the event actions of records a and b stand
 abbrev pub way_of : List Record → ℕ → ℕ → WayRound

@@ -1,37 +1,34 @@
-use Rattle.order.proofs.EntryLaws.{refused-reading, records-are, read-acceptable, read-events, read-sends}
+use Rattle.order.proofs.EntryLaws.{records-are, read-acceptable, read-events}
 use Rattle.trace.specs.Reply.{then}
 use Rattle.question.specs.Question.{order_reply}
 use Rattle.trace.specs.Paper.{paper}
 use mathlib.Core.Path.{sym, ap, ◌∙◌}
-use mathlib.Core.List.{List}
-use Rattle.records.specs.declared.Record.{Record}
-use Rattle.links.specs.Fill.{fill_all}
+use Rattle.std.proofs.lemmas.Result.{err_from_is_err_and}
 use Rattle.question.proofs.ask_read.Goals as goal
-use mathlib.Core.Path.{refl}
 
-pub returns-in_default : goal.returns-in_default
+pub returns-in_err-read : goal.returns-in_err-read
 unfolding order_reply then
-returns-in_default c =
-    let start = c in
-    simp (c.refusal_of.ensures, refused-reading start.args.bytes.now start.args.reading start.requires.0 (rw c.in_default.is refl))
+returns-in_err-read c =
+    let p = err_from_is_err_and c.from_residual.result c.from_residual.ensures.1 in
+    let e = sym (ap paper c.in_err-read.was) ∙ c.requires.0 in
+    rw (p.1, p.2, ← e)
 
 pub ask-requires : goal.ask-requires
 ask-requires c =
     let start = c in
-    let t = c.in-Accepted.read in
-    let e = sym (ap paper c.in-Accepted.is) ∙ start.requires.0 in
+    let t = c.in_ok-read.read in
+    let e = sym (ap paper c.in_ok-read.was) ∙ start.requires.0 in
     let b = start.args.bytes.now in
     let w = c.records.ensures in (
       read-acceptable b t e _ w,
       read-events b t e _ w,
-      read-sends b t e _ w,
-      λ s. start.requires.1 t e s ∙ ap (λ (tr : List Record). (fill_all tr).words) (sym (records-are b t e _ w)),
+      rw (records-are b t e _ w) (start.requires.1 t e),
     )
 
 pub returns : goal.returns
 unfolding order_reply then
 returns c =
     let start = c in
-    let t = c.in-Accepted.read in
-    let e = sym (ap paper c.in-Accepted.is) ∙ start.requires.0 in
+    let t = c.in_ok-read.read in
+    let e = sym (ap paper c.in_ok-read.was) ∙ start.requires.0 in
     rw (← e, ← records-are start.args.bytes.now t e _ c.records.ensures) c.ask.ensures

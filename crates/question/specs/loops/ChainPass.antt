@@ -1,6 +1,8 @@
--- The chains from the trace alone, as the code keeps them: a list, and three numbers. Assumes nothing.
+-- The chains from the trace alone, as the code keeps them. Assumes nothing.
 use Rattle.std.specs.Prelude.{ℕ, suc, ◌≤◌, ◌<◌, max, ◌≡◌, Bool, true, false, cond, List, ◌≢◌, leb, eqb, length, get_or, set}
+use Rattle.slices.specs.Slices.{zeros}
 use Rattle.records.specs.declared.Record.{Record}
+use Rattle.question.specs.declared.chains.Members.{Members}
 use Rattle.records.specs.Records.{at}
 use Rattle.trace.specs.Reading.{Acceptable}
 use Rattle.order.specs.Chains as chains
@@ -12,14 +14,9 @@ use Rattle.ranks.specs.Ranks.{ranks_of}
 use Rattle.order.specs.Fill.{events_in, row_past_width, chain_table}
 use Rattle.order.specs.loops.PassEnds.{Short}
 
-pub record Members : Type 0 where
-  -- the last member of each chain
-  pub lasts : List ℕ
-  -- how many chains are taken; more than the width where the width has none left
-  pub chains : ℕ
-  -- the chains of the two rows asked for, 0 before a row enters one
-  pub first : ℕ
-  pub second : ℕ
+-- no row has entered a chain
+abbrev pub no_members : Members
+no_members = record { lasts = zeros 1024; chains = 0; first = 0; second = 0 }
 
 abbrev pub pick_members : Bool → Members → Members → Members
 pick_members true a b = a
@@ -53,12 +50,6 @@ abbrev pub RoomFor : Ordering → Members → Type 0
 RoomFor (Link p u) s = Unit {0}
 RoomFor (Begin u) s = (u < 1024) × (s.chains ≤ 1024) × (length s.lasts ≡ 1024)
 RoomFor Nothing s = Unit {0}
-
-pub record AreMembers (s : Members) (lasts : List ℕ) (chains first second : ℕ) : Type 0 where
-  pub lasts_are : lasts ≡ s.lasts
-  pub chains_are : chains ≡ s.chains
-  pub first-is : first ≡ s.first
-  pub second_is : second ≡ s.second
 
 -- what a pass, over the records or from the table, asks for and gives
 pub record ReadyChains (tr : List Record) (w : ℕ) (ranks : List ℕ) : Type 0 where

@@ -3,6 +3,3 @@ use Rattle.random_traces.proofs.run.Given as goal
 
 abbrev pub invariant-loop-x : goal.invariant-loop-x
 invariant-loop-x l = l.initial.x ≤ l.x
-
-abbrev pub decreases-loop-x : goal.decreases-loop-x
-decreases-loop-x l = 14000 - l.x

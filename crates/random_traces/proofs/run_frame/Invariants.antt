@@ -3,6 +3,3 @@ use Rattle.random_traces.proofs.run_frame.Given as goal
 
 abbrev pub invariant-loop-x : goal.invariant-loop-x
 invariant-loop-x l = l.x ≤ l.n
-
-abbrev pub decreases-loop-x : goal.decreases-loop-x
-decreases-loop-x l = l.n - l.x

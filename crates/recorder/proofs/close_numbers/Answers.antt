@@ -11,14 +11,14 @@ use Rattle.recorder.proofs.close_numbers.Goals as goal
 pub returns-then-closed : goal.returns-then-closed
 returns-then-closed c =
     let a = c.args in
-    simp (c.not_closed.ensures.0, c.not_closed.ensures.1)
+    simp (c.refused.ensures.0, c.refused.ensures.1, c.at.ensures)
     (close-closed a.bytes.now (of_numbers a.count a.situation a.owner a.closed) c.if-closed.true)
 
 pub returns-then-situation-ne0 : goal.returns-then-situation-ne0
 returns-then-situation-ne0 c =
     let a = c.args in
     let r = of_numbers a.count a.situation a.owner a.closed in
-    simp (c.not_closed-then-situation-ne0.ensures.0, c.not_closed-then-situation-ne0.ensures.1)
+    simp (c.refused-then-situation-ne0.ensures.0, c.refused-then-situation-ne0.ensures.1, c.at-then-situation-ne0.ensures)
     (close-inside a.bytes.now r c.if-closed.false c.stored_records-n.result c.stored_records-n.ensures.0
     c.if-situation-ne0.true)
 
@@ -26,7 +26,7 @@ pub returns-then-bytes-at : goal.returns-then-bytes-at
 returns-then-bytes-at c =
     let a = c.args in
     let r = of_numbers a.count a.situation a.owner a.closed in
-    simp (c.not_closed-then-bytes-at.ensures.0, c.not_closed-then-bytes-at.ensures.1)
+    simp (c.refused-then-bytes-at.ensures.0, c.refused-then-bytes-at.ensures.1, c.at-then-bytes-at.ensures)
     (close-short a.bytes.now r c.if-closed.false c.stored_records-n.result c.stored_records-n.ensures.0
     c.if-situation-ne0.false c.if-bytes-at.true)
 

@@ -2,10 +2,10 @@ use Rattle.recorder.specs.Recording.{space}
 use borrow.Author.Tests.{lt-ltb, le-ltb}
 use Rattle.recorder.proofs.has_space.Goals as goal
 
-pub returns-then-n-ge4096 : goal.returns-then-n-ge4096
+pub returns-then-n-lt4096 : goal.returns-then-n-lt4096
 unfolding space
-returns-then-n-ge4096 c = simp (le-ltb _ _ c.if-n-ge4096.true)
+returns-then-n-lt4096 c = simp (lt-ltb _ _ c.if-n-lt4096.true)
 
-pub returns : goal.returns
+pub returns-else-n-lt4096 : goal.returns-else-n-lt4096
 unfolding space
-returns c = simp (lt-ltb _ _ c.if-n-ge4096.false)
+returns-else-n-lt4096 c = simp (le-ltb _ _ c.if-n-lt4096.false)

@@ -12,7 +12,7 @@ returns-then-short c =
     let b = c.args.bytes.now in
     let e : ltb (length b) 8 ≡ true = lt-ltb (length b) 8 c.if-short.true in
     let l : leb 8 (length b) ≡ false = lt-leb 8 (length b) c.if-short.true in
-    simp (e, l)
+    simp (c.refused.ensures.0, c.refused.ensures.1, c.at.ensures, e, l)
 
 pub returns : goal.returns
 unfolding open_left

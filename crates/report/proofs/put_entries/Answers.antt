@@ -8,12 +8,6 @@ loop-i-init c = printing-start _ _ _ _
 pub put_entry-next-requires : goal.put_entry-next-requires
 put_entry-next-requires c = let s4 = c in omega (arith, c.loop-i-test.true, s4.requires)
 
-pub overflow_add-i : goal.overflow_add-i
-overflow_add-i c =
-    let s4 = c in
-    let s7 = s4 in
-    omega (arith, s4.loop-i-test.true, s7.requires)
-
 pub loop-i-smaller : goal.loop-i-smaller
 loop-i-smaller c = let s4 = c in omega (arith, s4.loop-i-test.true)
 

@@ -5,23 +5,23 @@ use Rattle.report.proofs.TextLaws.{long-input, listed-few, listed-lines, refused
 use Rattle.report.proofs.report.Goals as goal
 
 pub returns-then-input-gt-LONGEST : goal.returns-then-input-gt-LONGEST
-returns-then-input-gt-LONGEST c = rw (long-input c.args.input.now (omega arith)) (prints-one c.put_refusal.ensures)
+returns-then-input-gt-LONGEST c = rw (long-input c.args.input.now (omega arith)) (prints-one (rw c.number.ensures at c.put_refusal.ensures))
 
 pub put_entries-requires : goal.put_entries-requires
 put_entries-requires c =
-    let zeros = over_zeros c.no_clocks-clocks.ensures c.bytes_1024-work.ensures c.no_list-list.ensures in
+    let zeros = over_zeros c.zeros-clocks.ensures c.zeros-work.ensures c.zeros-list.ensures in
     let lists = zeros c.short_list-found.ensures in
-    listed-few c.args.input.now _ _ _ _ (omega arith) lists _ (ap list_paper c.in-Listed.is)
+    listed-few c.args.input.now _ _ _ _ (omega arith) lists _ (ap list_paper c.in-Ok.is)
 
-pub returns-in-Listed : goal.returns-in-Listed
-returns-in-Listed c =
-    let zeros = over_zeros c.no_clocks-clocks.ensures c.bytes_1024-work.ensures c.no_list-list.ensures in
+pub returns-in-Ok : goal.returns-in-Ok
+returns-in-Ok c =
+    let zeros = over_zeros c.zeros-clocks.ensures c.zeros-work.ensures c.zeros-list.ensures in
     let lists = zeros c.short_list-found.ensures in
-    rw (listed-lines c.args.input.now _ _ _ _ (omega arith) lists _ (ap list_paper c.in-Listed.is))
+    rw (listed-lines c.args.input.now _ _ _ _ (omega arith) lists _ (ap list_paper c.in-Ok.is))
     (prints-then c.put_header-at.ensures c.put_entries.ensures)
 
-pub returns-in-Refused : goal.returns-in-Refused
-returns-in-Refused c =
-    let zeros = over_zeros c.no_clocks-clocks.ensures c.bytes_1024-work.ensures c.no_list-list.ensures in
+pub returns-in-Err : goal.returns-in-Err
+returns-in-Err c =
+    let zeros = over_zeros c.zeros-clocks.ensures c.zeros-work.ensures c.zeros-list.ensures in
     let lists = zeros c.short_list-found.ensures in
-    rw (refused-lines c.args.input.now _ _ _ _ (omega arith) lists _ _ (ap list_paper c.in-Refused.is)) (prints-one c.put_refusal-in-Refused.ensures)
+    rw (refused-lines c.args.input.now _ _ _ _ (omega arith) lists _ _ (ap list_paper c.in-Err.is)) (prints-one (rw c.number-in-Err.ensures at c.put_refusal-in-Err.ensures))

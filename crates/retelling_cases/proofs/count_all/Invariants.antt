@@ -3,6 +3,3 @@ use Rattle.retelling_cases.proofs.count_all.Given as goal
 
 abbrev pub invariant-loop-r : goal.invariant-loop-r
 invariant-loop-r l = l.r ≤ l.found
-
-abbrev pub decreases-loop-r : goal.decreases-loop-r
-decreases-loop-r l = l.found - l.r

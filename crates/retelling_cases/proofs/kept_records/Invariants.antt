@@ -1,8 +1,5 @@
-use Rattle.std.proofs.Common.{◌-◌, ◌≤◌}
+use Rattle.std.proofs.Common.{◌≤◌}
 use Rattle.retelling_cases.proofs.kept_records.Given as goal
 
 abbrev pub invariant-loop-x : goal.invariant-loop-x
 invariant-loop-x l = l.x ≤ 512
-
-abbrev pub decreases-loop-x : goal.decreases-loop-x
-decreases-loop-x l = 512 - l.x

@@ -6,12 +6,13 @@ use Rattle.records.specs.Bytes.{decode}
 use Rattle.compactor.proofs.KeepLaws.{stamps-start, not-kept, is_kept, few-kept, written_start, written-dropped, written-kept, written-room}
 use Rattle.compactor.proofs.KeepLaws.{written-long, written-end}
 use Rattle.compactor.proofs.keeping.pass.Goals as goal
+use Rattle.compactor.proofs.keeping.pass.Goals.{then-keeps, else-keeps}
 
 pub loop-i-init : goal.loop-i-init
 loop-i-init c =
     let start = c in
     let a = start.args in
-    (rw (c.numbers_1025-written.ensures, c.numbers_1025-read.ensures) (stamps-start start.requires.0), written_start _ a.writing _, omega arith)
+    (rw (c.zeros-written.ensures, c.zeros-read.ensures) (stamps-start start.requires.0), written_start _ a.writing _, omega arith)
 
 pub slice_bounds-keeps-end : goal.slice_bounds-keeps-end
 slice_bounds-keeps-end c = sym c.loop-i.invariant.0.reads.size
@@ -24,14 +25,6 @@ keeps-requires c =
     let l = c in
     let n = l.count-n.ensures in
     (l.loop-i.invariant.0, omega arith)
-
-pub loop-i-preserved-then-not-keeps : goal.loop-i-preserved-then-not-keeps
-loop-i-preserved-then-not-keeps c =
-    let at-keeps = c in
-    let l = at-keeps in
-    let n = l.count-n.ensures in
-    let k = at-keeps.keeps in
-    (k.ensures.1, written-dropped _ l.loop-i.invariant.1 (not-kept k.result k.ensures.0 c.if-not-keeps.true), omega arith)
 
 pub put-requires : goal.put-requires
 put-requires c =
@@ -47,17 +40,17 @@ overflow_add-k c =
 
 pub loop-i-preserved : goal.loop-i-preserved
 loop-i-preserved c =
-    let at-if1 = c in
-    let at-keeps = at-if1 in
-    let l = at-keeps in
-    let start = l in
-    let n = l.count-n.ensures in
-    let k = at-keeps.keeps in
-    let w = l.loop-i.invariant.1 in
-    let y = is_kept k.result k.ensures.0 at-if1.if-not-keeps.false in
-    let more : suc l.loop-i.i ≤ length (decode start.args.recs.now) = omega arith in
-    let room = written-room _ start.args.writing w _ (few-kept start.requires.0 (suc l.loop-i.i) more).1 y start.requires.1 in
-    (k.ensures.1, written-kept _ start.args.writing w y room c.put.ensures, omega arith)
+    let n = c.count-n.ensures in
+    let k = c.keeps in
+    let l = c.loop-i.invariant.1 in
+    let more : suc c.loop-i.i ≤ length (decode c.args.recs.now) = omega arith in
+    elim c.if-keeps.branch [
+      | then-keeps w ↦
+          let y = is_kept k.result k.ensures.0 w.if-keeps.true in
+          let room = written-room _ c.args.writing l _ (few-kept c.requires.0 (suc c.loop-i.i) more).1 y c.requires.1 in
+          rw (w.k-is, w.out-is) (k.ensures.1, written-kept _ c.args.writing l y room w.put.ensures, omega arith)
+      | else-keeps w ↦ rw (w.k-is, w.out-is) (k.ensures.1, written-dropped _ l (not-kept k.result k.ensures.0 w.if-keeps.false), omega arith)
+    ]
 
 pub shape_of-out : goal.shape_of-out
 shape_of-out c =

@@ -8,6 +8,3 @@ use Rattle.compactor.proofs.keeping.pass.Given as goal
 abbrev pub invariant-loop-i : goal.invariant-loop-i
 invariant-loop-i l =
     Stamps (decode l.recs) l.i l.read l.written × Written l.writing (decode l.recs) l.i l.k l.initial.out l.out × (l.i ≤ length (decode l.recs))
-
-abbrev pub decreases-loop-i : goal.decreases-loop-i
-decreases-loop-i l = l.n - l.i

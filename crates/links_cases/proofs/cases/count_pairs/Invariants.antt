@@ -1,8 +1,5 @@
-use Rattle.std.proofs.Common.{◌-◌, ◌≤◌}
+use Rattle.std.proofs.Common.{◌≤◌}
 use Rattle.links_cases.proofs.cases.count_pairs.Given as goal
 
 abbrev pub invariant-loop-x : goal.invariant-loop-x
 invariant-loop-x l = l.x ≤ 1024
-
-abbrev pub decreases-loop-x : goal.decreases-loop-x
-decreases-loop-x l = 1024 - l.x

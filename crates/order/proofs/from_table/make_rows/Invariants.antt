@@ -1,4 +1,3 @@
-use Prim.Native.Nat.{◌-◌}
 use mathlib.Core.Path.{◌≡◌}
 use lib.ListN.{length}
 use Rattle.bits.specs.Table.{bit_of}
@@ -11,6 +10,3 @@ abbrev pub invariant-loop-u : goal.invariant-loop-u
 invariant-loop-u l =
     ((ls : Links) → Tells (bit_of l.table) l.events ls → Going (bit_of l.table) l.events l.width l.initial.clocks ls l.clocks l.sizes l.chosen l.chains l.u)
     × (length l.clocks ≡ length l.initial.clocks) × (length l.sizes ≡ length l.initial.sizes) × (length l.chosen ≡ length l.initial.chosen)
-
-abbrev pub decreases-loop-u : goal.decreases-loop-u
-decreases-loop-u l = l.events - l.u

@@ -1,4 +1,5 @@
-use mathlib.Core.Path.{refl, sym, ◌∙◌}
+use native.Mathlib.Omega.{arith}
+use mathlib.Core.Path.{◌≡◌, refl, sym, ◌∙◌}
 use Rattle.records.specs.Bytes.{decode}
 use Rattle.order.proofs.HintLaws.{fill-skips, fill-over, fill_stop, fill-next}
 use Rattle.order.proofs.linking.pass_links.Goals as goal
@@ -11,8 +12,9 @@ loop-i-init c =
       n,
       refl,
       refl,
-      rw (n, c.skip_accesses-i.ensures)
+      rw (n, c.skip_accesses-first.ensures)
           (fill-skips (decode a.recs.now) a.ranks.now a.width a.chains a.from a.clocks.now a.hints.now),
+      omega arith,
     )
 
 pub shape_of-clocks-then-pass_record : goal.shape_of-clocks-then-pass_record
@@ -46,6 +48,7 @@ loop-i-preserved c =
       kept.hints ∙ l.invariant.2,
       rw (p.clocks_are, p.hints_are)
           (sym (fill-next _ _ _ _ l.i l.clocks l.hints s8.loop-i-test.true (sym p.stopped_is ∙ c.if-pass_record.false)) ∙ l.invariant.3),
+      omega arith,
     )
 
 pub shape_of-clocks : goal.shape_of-clocks
@@ -55,4 +58,6 @@ pub shape_of-hints : goal.shape_of-hints
 shape_of-hints c = c.loop-i.invariant.2
 
 pub returns : goal.returns
-returns c = sym c.loop-i.invariant.3 ∙ fill-over _ _ _ _ _ _ _ c.loop-i-test.false
+returns c =
+    let e : c.loop-i.i ≡ c.max.result = omega (arith, c.max.ensures, c.loop-i.invariant.4) in
+    rw (sym e) (sym c.loop-i.invariant.3 ∙ fill-over _ _ _ _ _ _ _ c.loop-i-test.false)

@@ -1,4 +1,4 @@
-use mathlib.Core.Path.{refl, sym, ◌∙◌}
+use mathlib.Core.Path.{◌≡◌, refl, sym, ◌∙◌}
 use native.Mathlib.Omega.{arith}
 use borrow.Author.Tests.{eq-eqb, ne_eqb}
 use Rattle.order.proofs.CountLaws.{first-hit, first-miss, first-over}
@@ -18,4 +18,6 @@ loop-c-preserved c =
     (omega arith, sym (first-miss _ _ _ (omega arith) (ne_eqb _ _ c.if-clocks-a.false)) ∙ at-loop.loop-c.invariant.1)
 
 pub returns : goal.returns
-returns c = sym (first-over _ _ _ (omega arith)) ∙ c.loop-c.invariant.1
+returns c =
+    let e : c.args.chains ≡ c.loop-c.c = omega arith in
+    e ∙ (sym (first-over _ _ _ (omega arith)) ∙ c.loop-c.invariant.1)

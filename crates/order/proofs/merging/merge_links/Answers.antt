@@ -1,11 +1,12 @@
-use mathlib.Core.Path.{refl, sym, ◌∙◌}
+use native.Mathlib.Omega.{arith}
+use mathlib.Core.Path.{◌≡◌, refl, sym, ◌∙◌}
 use Rattle.order.proofs.WalkLaws.{walk-skips, walk-over, walk-stop, walk-next}
 use Rattle.order.proofs.merging.merge_links.Goals as goal
 
 pub loop-i-init : goal.loop-i-init
 loop-i-init c =
     let n = c.count-n.ensures in
-    (n, refl, rw (n, c.skip_accesses-i.ensures) (walk-skips _ _ _ _ _ _))
+    (n, refl, rw (n, c.skip_accesses-first.ensures) (walk-skips _ _ _ _ _ _), omega arith)
 
 pub shape_of-clocks-then-pass_record : goal.shape_of-clocks-then-pass_record
 shape_of-clocks-then-pass_record c =
@@ -29,10 +30,13 @@ loop-i-preserved c =
       l.invariant.0,
       s3.pass_record.auto.clocks ∙ l.invariant.1,
       rw p.clocks_are (sym (walk-next _ _ _ _ l.i l.clocks s5.loop-i-test.true (sym p.stopped_is ∙ c.if-pass_record.false)) ∙ l.invariant.2),
+      omega arith,
     )
 
 pub shape_of-clocks : goal.shape_of-clocks
 shape_of-clocks c = c.loop-i.invariant.1
 
 pub returns : goal.returns
-returns c = sym c.loop-i.invariant.2 ∙ walk-over _ _ _ _ _ _ c.loop-i-test.false
+returns c =
+    let e : c.loop-i.i ≡ c.max.result = omega (arith, c.max.ensures, c.loop-i.invariant.3) in
+    rw (sym e) (sym c.loop-i.invariant.2 ∙ walk-over _ _ _ _ _ _ c.loop-i-test.false)

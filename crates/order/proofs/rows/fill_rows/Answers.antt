@@ -16,18 +16,11 @@ pass_rows-passed-requires c =
     let at-numbers- = c in
     let at-fill-ranks = at-numbers- in
     let a = at-fill-ranks in (
-      ready _ a.requires.0 _ _ a.requires.1 a.args.clocks.now a.requires.2 _ _ _ at-fill-ranks.fill_ranks.ensures at-numbers-.numbers_1024-sizes.ensures
+      ready _ a.requires.0 _ _ a.requires.1 a.args.clocks.now a.requires.2 _ _ _ at-fill-ranks.fill_ranks.ensures at-numbers-.zeros-sizes.ensures
           a.requires.3,
       a.requires.1,
       a.requires.4,
-      a.requires.5,
     )
-
-pub clear-requires : goal.clear-requires
-clear-requires c =
-    let at-pass = c in
-    let start = at-pass in
-    omega (arith, at-pass.pass_rows-passed.auto.chosen, ap length start.requires.3, zeros-length 1024)
 
 pub past_width-requires : goal.past_width-requires
 past_width-requires c =

@@ -18,7 +18,7 @@ merge_into-requires c =
 pub note-requires : goal.note-requires
 note-requires c =
     let at-bytes- = c in
-    let s = c in (s.requires.filled.acceptable, c.block_start-lo.ensures.low, omega (arith, in-trace s.requires), rw at-bytes-.bytes_1025-cells.ensures none-bytes)
+    let s = c in (s.requires.filled.acceptable, c.block_start-lo.ensures.low, omega (arith, in-trace s.requires), rw at-bytes-.zeros-cells.ensures none-bytes)
 
 pub bounds-work-u : goal.bounds-work-u
 bounds-work-u c = let s = c in omega (arith, start-bounds s.requires, s.requires.clear.work_room)
@@ -32,7 +32,7 @@ pass_down-requires c =
     let at-bytes- = at_clear in
     let s = c in
     let e = ap length (cleared-whole s.args.row.now refl at_clear.clear.ensures) ∙ zeros-length (length s.args.row.now) in
-    record { passing = start-passing s.requires at-bytes-.bytes_1025-cells.ensures at-note.note.ensures _ (at-merge-into.merge_into.ensures.size ∙ e); split = (start-split s.requires at-block-start.block_start-lo.ensures, omega (arith, start-bounds s.requires)) }
+    record { passing = start-passing s.requires at-bytes-.zeros-cells.ensures at-note.note.ensures _ (at-merge-into.merge_into.ensures.size ∙ e); split = (start-split s.requires at-block-start.block_start-lo.ensures, omega (arith, start-bounds s.requires)) }
 
 pub shape_of-work : goal.shape_of-work
 shape_of-work c =
@@ -48,4 +48,4 @@ returns c =
     let at_clear = at-merge-into in
     let at-bytes- = at_clear in
     let s = c in
-    marks-all s.requires at-bytes-.bytes_1025-cells.ensures at-note.note.ensures _ _ _ _ _ (cleared-whole s.args.row.now refl at_clear.clear.ensures) at-merge-into.merge_into.ensures at-block-start.block_start-lo.ensures at-pass-down.pass_down.ensures
+    marks-all s.requires at-bytes-.zeros-cells.ensures at-note.note.ensures _ _ _ _ _ (cleared-whole s.args.row.now refl at_clear.clear.ensures) at-merge-into.merge_into.ensures at-block-start.block_start-lo.ensures at-pass-down.pass_down.ensures

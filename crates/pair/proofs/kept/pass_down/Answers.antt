@@ -7,9 +7,6 @@ use Rattle.pair.proofs.kept.pass_down.Goals as goal
 pub loop-t-init : goal.loop-t-init
 loop-t-init c = let s = c in (passes_none s.requires.passing, s.requires.split.0, s.requires.split.1)
 
-pub overflow_sub-t : goal.overflow_sub-t
-overflow_sub-t c = omega (arith, c.loop-t-test.true)
-
 pub overflow_sub-hi : goal.overflow_sub-hi
 overflow_sub-hi c =
     let l = c.loop-t in
@@ -21,11 +18,6 @@ pass_row-requires c =
     let at-loop = at-loop-test in
     let l = at-loop.loop-t in
     (l.invariant.0.again, split-block l.invariant.0.again.filled.acceptable l.t l.hi at-loop-test.loop-t-test.true l.invariant.2 l.invariant.1 _ c.block_start-lo.ensures)
-
-pub loop-t-smaller : goal.loop-t-smaller
-loop-t-smaller c =
-    let at-loop-test = c in
-    omega (arith, at-loop-test.loop-t-test.true)
 
 pub loop-t-preserved : goal.loop-t-preserved
 loop-t-preserved c =

@@ -6,11 +6,11 @@ use Rattle.pair.proofs.KeptSteps.{bounds, passes-by, passes-below, passes-merged
 use Rattle.pair.proofs.kept.pass_row.Goals as goal
 use Rattle.pair.proofs.kept.pass_row.Goals.{then-row-c+else-not-have_conflict, else-row-c}
 
-pub offset_bounds-chosen-t : goal.offset_bounds-chosen-t
-offset_bounds-chosen-t c = let s = c in let b = bounds s.requires.0 s.requires.1 in omega (arith, b)
+pub offset_bounds-filled-t : goal.offset_bounds-filled-t
+offset_bounds-filled-t c = let s = c in let b = bounds s.requires.0 s.requires.1 in omega (arith, b)
 
-pub bounds-chosen-t : goal.bounds-chosen-t
-bounds-chosen-t c = let s = c in let b = bounds s.requires.0 s.requires.1 in omega (arith, b)
+pub bounds-filled-t : goal.bounds-filled-t
+bounds-filled-t c = let s = c in let b = bounds s.requires.0 s.requires.1 in omega (arith, b)
 
 pub overflow_cast-c : goal.overflow_cast-c
 overflow_cast-c c = let s = c in let b = bounds s.requires.0 s.requires.1 in omega (arith, b)
@@ -27,11 +27,11 @@ overflow_mul-t c = let s = c in let b = bounds s.requires.0 s.requires.1 in omeg
 pub overflow_add-t : goal.overflow_add-t
 overflow_add-t c = let s = c in let b = bounds s.requires.0 s.requires.1 in omega (arith, b)
 
-pub offset_bounds-clocks-t : goal.offset_bounds-clocks-t
-offset_bounds-clocks-t c = let s = c in let b = bounds s.requires.0 s.requires.1 in omega (arith, b)
+pub offset_bounds-filled-t-2 : goal.offset_bounds-filled-t-2
+offset_bounds-filled-t-2 c = let s = c in let b = bounds s.requires.0 s.requires.1 in omega (arith, b)
 
-pub bounds-clocks-t : goal.bounds-clocks-t
-bounds-clocks-t c = let s = c in let b = bounds s.requires.0 s.requires.1 in omega (arith, b)
+pub bounds-filled-t-2 : goal.bounds-filled-t-2
+bounds-filled-t-2 c = let s = c in let b = bounds s.requires.0 s.requires.1 in omega (arith, b)
 
 pub returns-then-not-have_conflict : goal.returns-then-not-have_conflict
 returns-then-not-have_conflict c =

@@ -1,46 +1,51 @@
-use mathlib.Core.Bool.{true}
-use mathlib.Core.Path.{◌≡◌, sym, ◌∙◌}
+use mathlib.Core.Bool.{◌&&◌}
+use mathlib.Core.Path.{◌≡◌, refl, sym, ◌∙◌}
+use Rattle.std.proofs.Common.{eqb}
+use Rattle.std.proofs.Math.Bool.{and_assoc}
 use Rattle.races.specs.Traces.{is_access}
 use Rattle.races.specs.loops.Clashes.{conflict}
 use borrow.Author.Tests.{eq-eqb, ne_eqb}
 use Rattle.pair.proofs.racing.is_conflict.Goals as goal
-
-pub returns-then-not-is_access : goal.returns-then-not-is_access
-unfolding conflict
-returns-then-not-is_access c = simp (← c.is_access.ensures, c.if-not-is_access.true)
-
-pub returns-then-not-is_access-2 : goal.returns-then-not-is_access-2
-unfolding conflict
-returns-then-not-is_access-2 c = simp (← c.is_access.ensures, c.if-not-is_access.false, ← c.is_access-2.ensures, c.if-not-is_access-2.true)
-
-pub returns-then-a-b : goal.returns-then-a-b
-unfolding conflict
-returns-then-a-b c =
-    let at-is-access = c in
-    let at-if = at-is-access in
-    let at-is-access2 = at-if in
-    simp (← at-is-access2.is_access.ensures, at-if.if-not-is_access.false, ← at-is-access.is_access-2.ensures, c.if-not-is_access-2.false, ne_eqb _ _ c.if-a-b.true)
+use Rattle.pair.proofs.racing.is_conflict.Goals.{then-is_access, else-is_access, then-is_access-2, else-is_access-2}
 
 pub returns-then-a-eq6 : goal.returns-then-a-eq6
 unfolding conflict
 returns-then-a-eq6 c =
-    let at-if = c in
-    let at-is-access = at-if in
-    let at-if2 = at-is-access in
-    let at-is-access2 = at-if2 in
-    let start = at-is-access2 in
-    let p : is_access start.args.a ≡ true = sym at-is-access2.is_access.ensures ∙ at-if2.if-not-is_access.false in
-    let q : is_access start.args.b ≡ true = sym at-is-access.is_access-2.ensures ∙ at-if.if-not-is_access-2.false in
-    rw (p, q, eq-eqb _ _ c.if-a-b.false, eq-eqb _ _ c.if-a-eq6.true)
+    let p : is_access c.args.a ≡ c.is_access.result = sym c.is_access.ensures in
+    let both : c.if-is_access.value ≡ (is_access c.args.a && is_access c.args.b) = elim c.if-is_access.branch [
+      | then-is_access w ↦ w.value-is ∙ rw (p ∙ w.if-is_access.true) w.is_access-then-is_access.ensures
+      | else-is_access w ↦ w.value-is ∙ w.if-is_access.false ∙ rw (p ∙ w.if-is_access.false) refl
+    ] in
+    let all : c.if-is_access-2.value ≡ (is_access c.args.a && is_access c.args.b && eqb c.args.a.second c.args.b.second) = elim c.if-is_access-2.branch [
+      | then-is_access-2 w ↦ w.value-is ∙ rw (sym both ∙ w.if-is_access-2.true) refl
+      | else-is_access-2 w ↦ w.value-is ∙ w.if-is_access-2.false ∙ rw (sym both ∙ w.if-is_access-2.false) refl
+    ] in
+    rw (← and_assoc, sym all ∙ c.if-a-b.true, eq-eqb _ _ c.if-a-eq6.true) refl
 
-pub returns : goal.returns
+pub returns-else-a-eq6 : goal.returns-else-a-eq6
 unfolding conflict
-returns c =
-    let at-if = c in
-    let at-is-access = at-if in
-    let at-if2 = at-is-access in
-    let at-is-access2 = at-if2 in
-    let start = at-is-access2 in
-    let p : is_access start.args.a ≡ true = sym at-is-access2.is_access.ensures ∙ at-if2.if-not-is_access.false in
-    let q : is_access start.args.b ≡ true = sym at-is-access.is_access-2.ensures ∙ at-if.if-not-is_access-2.false in
-    rw (p, q, eq-eqb _ _ c.if-a-b.false, ne_eqb _ _ c.if-a-eq6.false)
+returns-else-a-eq6 c =
+    let p : is_access c.args.a ≡ c.is_access.result = sym c.is_access.ensures in
+    let both : c.if-is_access.value ≡ (is_access c.args.a && is_access c.args.b) = elim c.if-is_access.branch [
+      | then-is_access w ↦ w.value-is ∙ rw (p ∙ w.if-is_access.true) w.is_access-then-is_access.ensures
+      | else-is_access w ↦ w.value-is ∙ w.if-is_access.false ∙ rw (p ∙ w.if-is_access.false) refl
+    ] in
+    let all : c.if-is_access-2.value ≡ (is_access c.args.a && is_access c.args.b && eqb c.args.a.second c.args.b.second) = elim c.if-is_access-2.branch [
+      | then-is_access-2 w ↦ w.value-is ∙ rw (sym both ∙ w.if-is_access-2.true) refl
+      | else-is_access-2 w ↦ w.value-is ∙ w.if-is_access-2.false ∙ rw (sym both ∙ w.if-is_access-2.false) refl
+    ] in
+    rw (← and_assoc, sym all ∙ c.if-a-b.true, ne_eqb _ _ c.if-a-eq6.false) refl
+
+pub returns-else-a-b : goal.returns-else-a-b
+unfolding conflict
+returns-else-a-b c =
+    let p : is_access c.args.a ≡ c.is_access.result = sym c.is_access.ensures in
+    let both : c.if-is_access.value ≡ (is_access c.args.a && is_access c.args.b) = elim c.if-is_access.branch [
+      | then-is_access w ↦ w.value-is ∙ rw (p ∙ w.if-is_access.true) w.is_access-then-is_access.ensures
+      | else-is_access w ↦ w.value-is ∙ w.if-is_access.false ∙ rw (p ∙ w.if-is_access.false) refl
+    ] in
+    let all : c.if-is_access-2.value ≡ (is_access c.args.a && is_access c.args.b && eqb c.args.a.second c.args.b.second) = elim c.if-is_access-2.branch [
+      | then-is_access-2 w ↦ w.value-is ∙ rw (sym both ∙ w.if-is_access-2.true) refl
+      | else-is_access-2 w ↦ w.value-is ∙ w.if-is_access-2.false ∙ rw (sym both ∙ w.if-is_access-2.false) refl
+    ] in
+    rw (← and_assoc, sym all ∙ c.if-a-b.false) c.if-a-b.false

@@ -1,3 +1,5 @@
+use Rattle.std.proofs.Common.{Err}
+use Rattle.question.specs.Question.{order_paper}
 use Rattle.question.proofs.AskLaws.{rank-told, ask-none, ask-space, ask-short, ask-done}
 use Rattle.order.proofs.SpaceLaws.{has_room}
 use Rattle.trace.specs.Reply.{gives}
@@ -17,7 +19,7 @@ returns-then-first-eq0 c =
     let b = r in
     let e = rank-told b.requires.0 b.args.t.0 r.ranks-all.ensures q.rank_of-first.ensures in
     let f = rank-told b.requires.0 b.args.u.0 r.ranks-all.ensures s.rank_of-second.ensures in
-    c.refused.ensures ∙ sym (ask-none _ _ _ _ _ _ (inl (sym e ∙ c.if-first-eq0.true)))
+    ap order_paper (ap Err c.at.ensures) ∙ sym (ask-none _ _ _ _ _ _ (inl (sym e ∙ c.if-first-eq0.true)))
 
 pub returns-then-second-eq0 : goal.returns-then-second-eq0
 returns-then-second-eq0 c =
@@ -27,7 +29,7 @@ returns-then-second-eq0 c =
     let b = r in
     let e = rank-told b.requires.0 b.args.t.0 r.ranks-all.ensures q.rank_of-first.ensures in
     let f = rank-told b.requires.0 b.args.u.0 r.ranks-all.ensures s.rank_of-second.ensures in
-    c.refused-then-second-eq0.ensures ∙ sym (ask-none _ _ _ _ _ _ (inr (sym f ∙ c.if-second-eq0.true)))
+    ap order_paper (ap Err c.at-then-second-eq0.ensures) ∙ sym (ask-none _ _ _ _ _ _ (inr (sym f ∙ c.if-second-eq0.true)))
 
 pub returns-then-not-has_space : goal.returns-then-not-has_space
 returns-then-not-has_space c =
@@ -38,7 +40,7 @@ returns-then-not-has_space c =
     let e = rank-told b.requires.0 b.args.t.0 r.ranks-all.ensures q.rank_of-first.ensures in
     let f = rank-told b.requires.0 b.args.u.0 r.ranks-all.ensures s.rank_of-second.ensures in
     let h = c in
-    c.refused-then-not-has_space.ensures ∙ sym (ask-space b.requires.0 b.args.events b.args.width b.requires.1 b.args.clocks.now b.args.t.0 b.args.u.0 _ _ e f h.if-first-eq0.false h.if-second-eq0.false (sym h.has_space.ensures ∙ c.if-not-has_space.true))
+    ap order_paper (ap Err c.at-then-not-has_space.ensures) ∙ sym (ask-space b.requires.0 b.args.events b.args.width b.requires.1 b.args.clocks.now b.args.t.0 b.args.u.0 _ _ e f h.if-first-eq0.false h.if-second-eq0.false (sym h.has_space.ensures ∙ c.if-not-has_space.true))
 
 pub pass_chains-passed-requires : goal.pass_chains-passed-requires
 pass_chains-passed-requires c =
@@ -53,7 +55,6 @@ pass_chains-passed-requires c =
       },
       start.requires.1,
       start.requires.2,
-      start.requires.3,
     )
 
 pub returns-then-passed-count : goal.returns-then-passed-count
@@ -69,7 +70,7 @@ returns-then-passed-count c =
     let f = rank-told b.requires.0 b.args.u.0 r.ranks-all.ensures s.rank_of-second.ensures in
     let h = c in
     let less : at-pass.pass_chains-passed.result.position < length (decode b.args.recs.now) = omega (arith, at_count.count.ensures, c.if-passed-count.true) in
-    c.refused-then-passed-count.ensures ∙ sym (ask-short b.requires.0 b.args.events b.args.width b.requires.1 b.args.clocks.now b.args.t.0 b.args.u.0 _ _ e f h.if-first-eq0.false h.if-second-eq0.false (sym h.has_space.ensures ∙ at-if.if-not-has_space.false) _ _ _ at-pass.pass_chains-passed.ensures less)
+    ap order_paper (ap Err c.at-then-passed-count.ensures) ∙ sym (ask-short b.requires.0 b.args.events b.args.width b.requires.1 b.args.clocks.now b.args.t.0 b.args.u.0 _ _ e f h.if-first-eq0.false h.if-second-eq0.false (sym h.has_space.ensures ∙ at-if.if-not-has_space.false) _ _ _ at-pass.pass_chains-passed.ensures less)
 
 pub overflow_cast-width : goal.overflow_cast-width
 overflow_cast-width c =

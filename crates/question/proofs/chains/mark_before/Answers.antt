@@ -25,7 +25,7 @@ pub shape_of-marks : goal.shape_of-marks
 shape_of-marks c =
     let at-put = c in
     let at_clear = at-put in
-    c.loop-j.invariant.1 ∙ (at-put.put.auto.bytes ∙ at_clear.clear.auto.bytes)
+    c.loop-j.invariant.1 ∙ (at-put.put.auto.items ∙ at_clear.clear.auto.items)
 
 pub returns : goal.returns
 unfolding marks_down_in

@@ -3,11 +3,7 @@ use Rattle.question.specs.loops.Marking.{marks_down_in}
 use Rattle.records.specs.Bytes.{decode}
 use lib.ListN.{length}
 use mathlib.Core.Path.{◌≡◌}
-use Prim.Native.Nat.{◌-◌}
 use Rattle.question.proofs.chains.mark_before.Given as goal
 
 abbrev pub invariant-loop-j : goal.invariant-loop-j
 invariant-loop-j l = (marks_down_in (said_by l.ranks (decode l.recs)) l.j l.marks ≡ marks_down_in (said_by l.ranks (decode l.recs)) l.i l.initial.marks) × (length l.marks ≡ length l.initial.marks)
-
-abbrev pub decreases-loop-j : goal.decreases-loop-j
-decreases-loop-j l = l.j

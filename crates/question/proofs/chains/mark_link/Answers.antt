@@ -1,6 +1,6 @@
-use Rattle.ranks.proofs.OrderingLaws.{nothing_said, begin-said}
+use Rattle.question.proofs.MarkListLaws.{unlinked}
 use Rattle.question.specs.loops.Marking.{mark_in}
-use mathlib.Core.Path.{refl, sym, ◌∙◌}
+use mathlib.Core.Path.{sym, ◌∙◌}
 use Rattle.question.proofs.chains.mark_link.Goals as goal
 
 pub returns-then-is_marked : goal.returns-then-is_marked
@@ -19,10 +19,5 @@ returns-else-is_marked c =
     let at-ordering-at = at-said in
     rw (sym at-said.in-Link.ensures) (simp (← c.is_marked.ensures, c.if-is_marked.false))
 
-pub returns-in-Begin : goal.returns-in-Begin
-unfolding mark_in
-returns-in-Begin c = rw (sym c.ordering_at-said.ensures ∙ (begin-said c.ordering_at-said.result (rw c.in-Begin.is refl)).1) refl
-
-pub returns-in-Nothing : goal.returns-in-Nothing
-unfolding mark_in
-returns-in-Nothing c = rw (sym c.ordering_at-said.ensures ∙ nothing_said c.ordering_at-said.result (rw c.in-Nothing.is refl)) refl
+pub returns-in_default : goal.returns-in_default
+returns-in_default c = rw (sym c.ordering_at.ensures) (sym (unlinked c.ordering_at.result c.in_default.not-Link _))

@@ -7,10 +7,7 @@ use Rattle.question.proofs.chains.marked_chain.Goals as goal
 
 pub loop-c-init : goal.loop-c-init
 unfolding marked_chain
-loop-c-init c = (omega arith, let e : c.args.chains - 0 ≡ c.args.chains = omega arith in rw e)
-
-pub overflow_cast-lasts : goal.overflow_cast-lasts
-overflow_cast-lasts c = omega (arith, c.type_inv.lasts c.loop-c.c)
+loop-c-init c = (omega arith, let e : c.args.members.now.chains - 0 ≡ c.args.members.now.chains = omega arith in rw e)
 
 pub returns-then-is_marked : goal.returns-then-is_marked
 returns-then-is_marked c =
@@ -23,4 +20,6 @@ loop-c-preserved c =
     (omega arith, sym (first-miss _ _ _ (omega arith) (sym c.is_marked.ensures ∙ c.if-is_marked.false)) ∙ at-loop.loop-c.invariant.1)
 
 pub returns : goal.returns
-returns c = sym (first-over _ _ _ (omega arith)) ∙ c.loop-c.invariant.1
+returns c =
+    let e : c.args.members.now.chains ≡ c.loop-c.c = omega arith in
+    e ∙ (sym (first-over _ _ _ (omega arith)) ∙ c.loop-c.invariant.1)

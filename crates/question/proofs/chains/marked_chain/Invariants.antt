@@ -7,7 +7,4 @@ use Prim.Native.Nat.{◌-◌, ◌≤◌}
 use Rattle.question.proofs.chains.marked_chain.Given as goal
 
 abbrev pub invariant-loop-c : goal.invariant-loop-c
-invariant-loop-c l = (l.c ≤ l.chains) × (first_from (λ k. marked l.marks (get_or l.lasts k 0)) l.c (l.chains - l.c) ≡ marked_chain l.marks l.lasts l.chains)
-
-abbrev pub decreases-loop-c : goal.decreases-loop-c
-decreases-loop-c l = l.chains - l.c
+invariant-loop-c l = (l.c ≤ l.members.chains) × (first_from (λ k. marked l.marks (get_or l.members.lasts k 0)) l.c (l.members.chains - l.c) ≡ marked_chain l.marks l.members.lasts l.members.chains)

@@ -6,6 +6,6 @@ pub returns-then-u-asked : goal.returns-then-u-asked
 unfolding own_chain
 returns-then-u-asked c = rw (eq-eqb _ _ c.if-u-asked.true)
 
-pub returns : goal.returns
+pub returns-else-u-asked : goal.returns-else-u-asked
 unfolding own_chain
-returns c = rw (ne_eqb _ _ c.if-u-asked.false)
+returns-else-u-asked c = rw (ne_eqb _ _ c.if-u-asked.false)

@@ -7,7 +7,4 @@ use Prim.Native.Nat.{◌-◌, ◌≤◌}
 use Rattle.question.proofs.from_table.chain_before.Given as goal
 
 abbrev pub invariant-loop-c : goal.invariant-loop-c
-invariant-loop-c l = (l.c ≤ l.chains) × (first_from (λ k. bit_of l.table (get_or l.lasts k 0) l.u) l.c (l.chains - l.c) ≡ bit_chain (bit_of l.table) l.lasts l.chains l.u)
-
-abbrev pub decreases-loop-c : goal.decreases-loop-c
-decreases-loop-c l = l.chains - l.c
+invariant-loop-c l = (l.c ≤ l.members.chains) × (first_from (λ k. bit_of l.table (get_or l.members.lasts k 0) l.u) l.c (l.members.chains - l.c) ≡ bit_chain (bit_of l.table) l.members.lasts l.members.chains l.u)

@@ -1,41 +1,26 @@
-use Prim.Native.Nat.{◌-◌, ◌<◌}
-use mathlib.Core.Path.{sym, ap, ◌∙◌}
+use Prim.Native.Nat.{◌<◌}
 use native.Mathlib.Omega.{arith}
-use lib.ListN.{length}
-use Rattle.slices.proofs.Cleared.{zeros-length}
 use Rattle.question.proofs.TableChainLaws.{going_start, going-room, going_next, going-stop, going_end}
 use Rattle.question.proofs.from_table.enter_rows.Goals as goal
 
 pub loop-u-init : goal.loop-u-init
-loop-u-init c =
-    let size = ap length c.numbers_1024-lasts.ensures ∙ zeros-length 1024 in
-    (going_start _ _ _ _ _ c.requires _ size, size)
+loop-u-init c l t = rw c.requires.1 (going_start _ _ _ _ _ c.requires.0 l t)
 
-pub slice_bounds-enter_row-end : goal.slice_bounds-enter_row-end
-slice_bounds-enter_row-end c = sym c.loop-u.invariant.1
+pub enter_row-requires : goal.enter_row-requires
+enter_row-requires c =
+    let r = c.requires.0 in
+    let (low, few) = going-room _ _ _ _ _ _ _ _ (c.loop-u.invariant r.links r.tells) (omega arith) in
+    (r.narrow, low, few)
 
-pub enter_row-next-requires : goal.enter_row-next-requires
-enter_row-next-requires c =
-    let at-loop = c in
-    let start = at-loop in
-    let (low, few, size) = going-room _ _ _ _ _ _ _ _ _ _ _ (at-loop.loop-u.invariant.0 start.requires.links start.requires.tells) (omega arith) in
-    (start.requires.narrow, low, few, size)
-
-pub returns-then-width-next : goal.returns-then-width-next
-returns-then-width-next c l t =
-    let at-enter-row = c in
-    let at-loop = at-enter-row in
-    let less : at-loop.loop-u.u < at-loop.args.events = omega arith in
-    going-stop _ _ _ _ _ _ _ _ _ _ _ (at-loop.loop-u.invariant.0 l t) less _ _ _ _ at-enter-row.enter_row-next.ensures c.if-width-next.true
+pub returns-then-asked-members : goal.returns-then-asked-members
+returns-then-asked-members c l t =
+    let less : c.loop-u.u < c.args.events = omega arith in
+    going-stop _ _ _ _ _ _ _ _ (c.loop-u.invariant l t) less _ c.enter_row.ensures c.if-asked-members.true
 
 pub loop-u-preserved : goal.loop-u-preserved
-loop-u-preserved c =
-    let at-enter-row = c in
-    let at-loop = at-enter-row in
-    let less : at-loop.loop-u.u < at-loop.args.events = omega arith in (
-      λ l t. going_next _ _ _ _ _ _ _ _ _ _ _ (at-loop.loop-u.invariant.0 l t) less _ _ _ _ at-enter-row.enter_row-next.ensures c.if-width-next.false,
-      at-enter-row.enter_row-next.auto.lasts ∙ at-loop.loop-u.invariant.1,
-    )
+loop-u-preserved c l t =
+    let less : c.loop-u.u < c.args.events = omega arith in
+    going_next _ _ _ _ _ _ _ _ (c.loop-u.invariant l t) less _ c.enter_row.ensures c.if-asked-members.false
 
 pub returns : goal.returns
-returns c l t = going_end _ _ _ _ _ _ _ _ _ _ _ (c.loop-u.invariant.0 l t) (omega arith)
+returns c l t = going_end _ _ _ _ _ _ _ _ (c.loop-u.invariant l t) (omega arith)

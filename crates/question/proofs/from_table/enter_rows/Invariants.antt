@@ -1,6 +1,3 @@
-use Prim.Native.Nat.{◌-◌}
-use mathlib.Core.Path.{◌≡◌}
-use lib.ListN.{length}
 use Rattle.bits.specs.Table.{bit_of}
 use Rattle.order.specs.Links.{Links}
 use Rattle.order.specs.loops.FromTable.{Tells}
@@ -9,8 +6,4 @@ use Rattle.question.proofs.from_table.enter_rows.Given as goal
 
 abbrev pub invariant-loop-u : goal.invariant-loop-u
 invariant-loop-u l =
-    ((ls : Links) → Tells (bit_of l.table) l.events ls → Going (bit_of l.table) l.events l.x l.y l.width ls l.lasts l.taken.chains l.taken.first l.taken.second l.u)
-    × (length l.lasts ≡ 1024)
-
-abbrev pub decreases-loop-u : goal.decreases-loop-u
-decreases-loop-u l = l.events - l.u
+    (ls : Links) → Tells (bit_of l.table) l.events ls → Going (bit_of l.table) l.events l.asked.first l.asked.second l.asked.width ls l.members l.u

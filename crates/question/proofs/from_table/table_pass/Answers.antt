@@ -5,7 +5,7 @@ use Rattle.question.proofs.from_table.table_pass.Goals as goal
 pub enter_rows-entered-requires : goal.enter_rows-entered-requires
 enter_rows-entered-requires c =
     let pre = c.requires in
-    ready-rows _ _ _ _ pre.0 pre.1 _ (table-tells pre.0.acceptable pre.2)
+    (ready-rows _ _ _ _ pre.0 pre.1 _ (table-tells pre.0.acceptable pre.2), c.none-members.ensures)
 
 pub returns : goal.returns
 returns c =

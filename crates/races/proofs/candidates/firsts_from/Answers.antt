@@ -1,14 +1,10 @@
 use Rattle.races.specs.loops.Candidates.{firsts_from}
 use Rattle.races.proofs.candidates.firsts_from.Goals as goal
 
-pub returns-then-not-short : goal.returns-then-not-short
+pub returns-then-short : goal.returns-then-short
 unfolding firsts_from
-returns-then-not-short c = simp (c.if-not-short.true)
+returns-then-short c = simp (c.if-short.true, c.saturating_sub.ensures)
 
-pub returns-then-last-eq0 : goal.returns-then-last-eq0
+pub returns-else-short : goal.returns-else-short
 unfolding firsts_from
-returns-then-last-eq0 c = simp (c.if-not-short.false, c.if-last-eq0.true)
-
-pub returns : goal.returns
-unfolding firsts_from
-returns c = simp (c.if-not-short.false)
+returns-else-short c = simp c.if-short.false

@@ -6,6 +6,6 @@ pub returns-then-kind-eq5 : goal.returns-then-kind-eq5
 unfolding firsts_to
 returns-then-kind-eq5 c = simp c.if-kind-eq5.true
 
-pub returns : goal.returns
+pub returns-else-kind-eq5 : goal.returns-else-kind-eq5
 unfolding firsts_to
-returns c = simp (ne_eqb _ _ c.if-kind-eq5.false)
+returns-else-kind-eq5 c = simp (ne_eqb _ _ c.if-kind-eq5.false)

@@ -1,11 +1,8 @@
-use Prim.Native.Nat.{◌-◌, ◌≤◌, ◌<◌}
+use Prim.Native.Nat.{◌≤◌, ◌<◌}
 use mathlib.Core.Path.{◌≡◌}
 use lib.ListN.{length}
 use Rattle.races.specs.loops.Keeping.{Kept, MayKeep}
 use Rattle.races.proofs.keeping.keep_row.Given as goal
 
 abbrev pub invariant-loop-t : goal.invariant-loop-t
-invariant-loop-t l = MayKeep l.chosen l.events l.width l.clocks × (l.u < l.events) × (l.t ≤ l.u) × Kept l.chosen l.width l.clocks l.u l.t l.table × (length l.table ≡ length l.initial.table)
-
-abbrev pub decreases-loop-t : goal.decreases-loop-t
-decreases-loop-t l = l.u - l.t
+invariant-loop-t l = MayKeep l.layout.chosen.now l.layout.events l.layout.width l.clocks × (l.u < l.layout.events) × (l.t ≤ l.u) × Kept l.layout.chosen.now l.layout.width l.clocks l.u l.t l.table × (length l.table ≡ length l.initial.table)

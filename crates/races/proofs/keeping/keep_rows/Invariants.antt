@@ -1,4 +1,4 @@
-use Prim.Native.Nat.{◌-◌, ◌≤◌}
+use Prim.Native.Nat.{◌≤◌}
 use mathlib.Core.Path.{◌≡◌}
 use lib.ListN.{length}
 use Rattle.races.specs.loops.Keeping.{Kept, MayKeep}
@@ -6,7 +6,4 @@ use Rattle.races.proofs.keeping.keep_rows.Given as goal
 
 abbrev pub invariant-loop-u : goal.invariant-loop-u
 invariant-loop-u l =
-    MayKeep l.chosen l.events l.width l.clocks × (l.u ≤ l.events) × Kept l.chosen l.width l.clocks l.u 0 l.table × (length l.table ≡ length l.initial.table)
-
-abbrev pub decreases-loop-u : goal.decreases-loop-u
-decreases-loop-u l = l.events - l.u
+    MayKeep l.layout.chosen.now l.layout.events l.layout.width l.clocks × (l.u ≤ l.layout.events) × Kept l.layout.chosen.now l.layout.width l.clocks l.u 0 l.table × (length l.table ≡ length l.initial.table)

@@ -15,14 +15,17 @@ take_before-requires c =
     let inv = c.loop-u.invariant in
     take-room inv.0 (inv.1 inv.0) c.loop-u-test.true c.clear_row.auto.clocks
 
-pub offset_bounds-chosen-u : goal.offset_bounds-chosen-u
-offset_bounds-chosen-u c = let inv = c.loop-u.invariant in let h = inv.0.known in search rules
+pub offset_bounds-layout-u : goal.offset_bounds-layout-u
+offset_bounds-layout-u c = let inv = c.loop-u.invariant in let h = inv.0.known in search rules
 
-pub bounds-chosen-u : goal.bounds-chosen-u
-bounds-chosen-u c = let inv = c.loop-u.invariant in omega (arith, c.loop-u-test.true, inv.0.known)
+pub bounds-layout-u : goal.bounds-layout-u
+bounds-layout-u c = let inv = c.loop-u.invariant in omega (arith, c.loop-u-test.true, inv.0.known)
 
-pub overflow_cast-chosen : goal.overflow_cast-chosen
-overflow_cast-chosen c = let loop = c.loop-u in record { fits = omega (arith, (c.type_inv.chosen loop.u).fits) }
+pub overflow_cast-layout : goal.overflow_cast-layout
+overflow_cast-layout c =
+    let inv = c.loop-u.invariant in
+    let room = tick-room inv.0 (inv.1 inv.0) c.loop-u-test.true c.clear_row.ensures c.take_before.ensures _ refl (c.take_before.auto.clocks ∙ c.clear_row.auto.clocks) in
+    record { fits = omega (arith, room.1, inv.0.narrow) }
 
 pub add_to_row-requires : goal.add_to_row-requires
 add_to_row-requires c =

@@ -1,4 +1,3 @@
-use Prim.Native.Nat.{◌-◌}
 use mathlib.Core.Path.{◌≡◌}
 use lib.ListN.{length}
 use Rattle.bits.specs.Table.{bit_of}
@@ -8,8 +7,5 @@ use Rattle.races.proofs.keeping.restore_rows.Given as goal
 
 abbrev pub invariant-loop-u : goal.invariant-loop-u
 invariant-loop-u l =
-    Restorable (bit_of l.table) l.events l.width l.chosen l.initial.clocks × ((f : Restorable (bit_of l.table) l.events l.width l.chosen l.initial.clocks) → Restoring f l.u l.clocks)
+    Restorable (bit_of l.table) l.layout.events l.layout.width l.layout.chosen.now l.initial.clocks × ((f : Restorable (bit_of l.table) l.layout.events l.layout.width l.layout.chosen.now l.initial.clocks) → Restoring f l.u l.clocks)
     × (length l.clocks ≡ length l.initial.clocks)
-
-abbrev pub decreases-loop-u : goal.decreases-loop-u
-decreases-loop-u l = l.events - l.u

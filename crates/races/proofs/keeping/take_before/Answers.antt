@@ -23,7 +23,7 @@ loop-t-preserved c =
     let s = c in
     let l = c.loop-t in
     let k = s.args in
-    let turn : List ℕ → List ℕ = λ cs. rows_if (bit_of k.table.now l.t k.u) (take_own k.width k.u k.chosen.now l.t cs) cs in
+    let turn : List ℕ → List ℕ = λ cs. rows_if (bit_of k.table.now l.t k.u) (take_own k.layout.width k.u k.layout.chosen.now l.t cs) cs in
     (omega arith, c.take_own.ensures ∙ (ap turn l.invariant.1 ∙ sym (take_more _ _ _ _ _ _)))
 
 pub shape_of-clocks : goal.shape_of-clocks

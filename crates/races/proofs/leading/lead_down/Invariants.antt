@@ -8,6 +8,3 @@ abbrev pub invariant-loop-p : goal.invariant-loop-p
 invariant-loop-p l =
     (l.p ≤ l.t) × MayLead l.chosen l.width l.initial.clocks l.t × (1024 ≤ length l.kept) × (length l.clocks ≡ length l.initial.clocks)
     × (lead_down l.chosen l.width l.kept l.t l.chains l.p l.clocks ≡ lead_down l.chosen l.width l.kept l.t l.chains l.t l.initial.clocks)
-
-abbrev pub decreases-loop-p : goal.decreases-loop-p
-decreases-loop-p l = l.p

@@ -12,7 +12,7 @@ leads_in-requires c =
 pub returns-then-leads_in : goal.returns-then-leads_in
 returns-then-leads_in c =
     let then1 = c in
-    c.merge_row.ensures ∙ lead-taken _ _ _ _ _ _ _ (sym then1.leads_in.ensures ∙ then1.if-leads_in.true)
+    c.merge_in.ensures ∙ lead-taken _ _ _ _ _ _ _ (sym then1.leads_in.ensures ∙ then1.if-leads_in.true)
 
 pub returns-else-leads_in : goal.returns-else-leads_in
 returns-else-leads_in c = lead-left _ _ _ _ _ _ _ (sym c.leads_in.ensures ∙ c.if-leads_in.false)

@@ -20,7 +20,7 @@ bounds-clocks-place c = own_room _ _ c.requires
 pub keep_entries-requires : goal.keep_entries-requires
 keep_entries-requires c =
     let pre = c.requires in
-    (pre.room, pre.narrow, c.numbers_1024-kept.ensures)
+    (pre.room, pre.narrow, c.zeros-kept.ensures)
 
 pub lead_down-requires : goal.lead_down-requires
 lead_down-requires c =

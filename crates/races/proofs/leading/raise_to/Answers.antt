@@ -1,7 +1,7 @@
-use mathlib.Core.Path.{refl}
+use Rattle.std.proofs.Common.{rules}
 use Rattle.races.specs.loops.Leading.{raise_to}
 use Rattle.races.proofs.leading.raise_to.Goals as goal
 
 pub returns : goal.returns
 unfolding raise_to
-returns c = rw c.larger.ensures refl
+returns c = search rules

@@ -4,5 +4,5 @@ use Rattle.races.proofs.lists.begun_after.Goals as goal
 pub returns-then-kind-eq1 : goal.returns-then-kind-eq1
 returns-then-kind-eq1 c = simp c.if-kind-eq1.true
 
-pub returns : goal.returns
-returns c = simp (ne_eqb _ _ c.if-kind-eq1.false)
+pub returns-else-kind-eq1 : goal.returns-else-kind-eq1
+returns-else-kind-eq1 c = simp (ne_eqb _ _ c.if-kind-eq1.false)

@@ -12,6 +12,6 @@ returns-then-is_ample c =
     let a = c in
     let q = c.is_ample.ensures (subst T (sym c.if-is_ample.true) tt) in
     let n = c.count.ensures in (
-      counts-few (decode a.args.recs.now) a.args.short (length a.args.list.now) (subst (λ (x : ℕ). 1 < x) n q.0) (subst (λ (x : ℕ). Ample a.args.short x (length a.args.list.now / 5)) n q.1),
+      counts-few (decode a.args.filled.layout.recs.now) a.args.short (length a.args.list.now) (subst (λ (x : ℕ). 1 < x) n q.0) (subst (λ (x : ℕ). Ample a.args.short x (length a.args.list.now / 5)) n q.1),
       refl,
     )

@@ -23,8 +23,8 @@ overflow_mul-result c =
     let h : a.records ≤ 4096 = omega arith in
     omega (arith, mul-le-mul h h)
 
-pub returns : goal.returns
-returns c = λ x.
+pub returns-else-short : goal.returns-else-short
+returns-else-short c = λ x.
     let a = c.args in
     let l = leb→le (a.records * a.records / 2) (a.space / 5) x in
     (omega arith, record { for_short = λ e. absurd (not-both a.short e c.if-short.false); for_all = λ e. l })

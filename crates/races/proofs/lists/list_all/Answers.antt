@@ -1,5 +1,5 @@
 use Rattle.order.proofs.Counted.{counted-zero}
-use Rattle.races.proofs.EntryStores.{listing_start, listing-size, listing-room, listing-next, listing-end, no_second, second_at, own-ranks, way-room, way-writes}
+use Rattle.races.proofs.EntryStores.{listing_start, listing-size, listing-room, listing-next, listing-end, no_second, second_at, way-room, way-writes}
 use Rattle.races.proofs.CandidateLaws.{tables-none, tables-pass, kind-access, kind-no-access, access-rank, access-ranked, access-begun, begun-next, counted-le}
 use Rattle.records.specs.Bytes.{decode}
 use Rattle.records.specs.Records.{at}
@@ -10,95 +10,70 @@ use mathlib.Core.Path.{sym, ◌∙◌}
 use Rattle.races.proofs.lists.list_all.Goals as goal
 
 pub loop-b-init : goal.loop-b-init
-loop-b-init c =
+loop-b-init g c =
     let start = c in
     let a = start.args in
-    (listing_start _ _ _ _, rw (c.numbers_1025-seen.ensures, c.numbers_1025-writes.ensures) (tables-none (decode a.recs.now) a.short), sym (counted-zero (decode a.recs.now)))
+    (listing_start _ _ _ _, rw (c.zeros.ensures, c.zeros-2.ensures) (tables-none (decode a.filled.layout.recs.now) a.short), sym (counted-zero (decode a.filled.layout.recs.now)))
 
 pub begun_after-begun-requires : goal.begun_after-begun-requires
-begun_after-begun-requires c =
+begun_after-begun-requires g c =
     let l = c in
     let n = l in
     let s = n in
-    omega (arith, l.loop-b.invariant.2, counted-le (decode s.args.recs.now) l.loop-b.b, n.count-n.ensures, c.loop-b-test.true, s.requires.0.acceptable.few)
-
-pub overflow_add-b : goal.overflow_add-b
-overflow_add-b c =
-    let n = c in
-    let s = n in
-    omega (arith, c.loop-b-test.true, n.count-n.ensures, s.requires.0.acceptable.few)
-
-pub loop-b-smaller-then-kind-lt5 : goal.loop-b-smaller-then-kind-lt5
-loop-b-smaller-then-kind-lt5 c = omega (arith, c.loop-b-test.true)
+    omega (arith, l.loop-b.invariant.2, counted-le (decode s.args.filled.layout.recs.now) l.loop-b.b, n.count-n.ensures, c.loop-b-test.true, s.args.filled.filled.acceptable.few)
 
 pub loop-b-preserved-then-kind-lt5 : goal.loop-b-preserved-then-kind-lt5
-loop-b-preserved-then-kind-lt5 c =
+loop-b-preserved-then-kind-lt5 g c =
     let l = c in
     let n = l in
     let s = n in
-    let tr = decode s.args.recs.now in
+    let tr = decode s.args.filled.layout.recs.now in
     let f = kind-no-access (at tr l.loop-b.b) (omega (arith, c.base_kind_at-kind.ensures, c.if-kind-lt5.true)) in
     (listing-next l.loop-b.invariant.0 (omega (arith, n.count-n.ensures, c.loop-b-test.true)) _ _ (no_second f _ _ _ _), tables-pass tr s.args.short f l.loop-b.invariant.1, begun-next tr l.loop-b.b c.base_kind_at-kind.ensures l.loop-b.invariant.2 c.begun_after-begun.ensures)
 
 pub overflow_sub-u : goal.overflow_sub-u
-overflow_sub-u c =
+overflow_sub-u g c =
     let l = c in
     let n = l in
     let s = n in
-    let acc = s.requires.0.acceptable in
-    let h : l.loop-b.b < length (decode s.args.recs.now) = omega (arith, n.count-n.ensures, c.loop-b-test.true) in
-    let t = kind-access (at (decode s.args.recs.now) l.loop-b.b) (omega (arith, c.base_kind_at-kind.ensures, c.if-kind-lt5.false)) in
+    let acc = s.args.filled.filled.acceptable in
+    let h : l.loop-b.b < length (decode s.args.filled.layout.recs.now) = omega (arith, n.count-n.ensures, c.loop-b-test.true) in
+    let t = kind-access (at (decode s.args.filled.layout.recs.now) l.loop-b.b) (omega (arith, c.base_kind_at-kind.ensures, c.if-kind-lt5.false)) in
     omega (arith, l.loop-b.invariant.2, access-rank acc l.loop-b.b h t, access-ranked acc l.loop-b.b h)
 
-pub slice_bounds-take_access-end : goal.slice_bounds-take_access-end
-slice_bounds-take_access-end c = let l = c in sym l.loop-b.invariant.1.seen_size
-
-pub slice_bounds-take_access-end-in-loop-b : goal.slice_bounds-take_access-end-in-loop-b
-slice_bounds-take_access-end-in-loop-b c = let l = c in sym l.loop-b.invariant.1.written_size
-
 pub take_access-firsts-requires : goal.take_access-firsts-requires
-take_access-firsts-requires c =
+take_access-firsts-requires g c =
     let at-loop-test = c in
     let l = c in
     let n = l in
     let s = n in
-    let h : l.loop-b.b < length (decode s.args.recs.now) = omega (arith, n.count-n.ensures, at-loop-test.loop-b-test.true) in
-    let t = kind-access (at (decode s.args.recs.now) l.loop-b.b) (omega (arith, c.base_kind_at-kind.ensures, c.if-kind-lt5.false)) in
-    record { second = second_at (own-ranks s.requires.0) h t l.loop-b.invariant.2; tables = l.loop-b.invariant.1 }
+    let h : l.loop-b.b < length (decode s.args.filled.layout.recs.now) = omega (arith, n.count-n.ensures, at-loop-test.loop-b-test.true) in
+    let t = kind-access (at (decode s.args.filled.layout.recs.now) l.loop-b.b) (omega (arith, c.base_kind_at-kind.ensures, c.if-kind-lt5.false)) in
+    record { second = second_at (s.args.filled.filled) h t l.loop-b.invariant.2; tables = l.loop-b.invariant.1 }
 
 pub list_firsts-k-requires : goal.list_firsts-k-requires
-list_firsts-k-requires c =
+list_firsts-k-requires g c =
     let w = c in
     let i = w in
     let l = i in
     let n = l in
     let s = n in
-    let h : l.loop-b.b < length (decode s.args.recs.now) = omega (arith, n.count-n.ensures, i.loop-b-test.true) in
-    let t = kind-access (at (decode s.args.recs.now) l.loop-b.b) (omega (arith, i.base_kind_at-kind.ensures, i.if-kind-lt5.false)) in
+    let h : l.loop-b.b < length (decode s.args.filled.layout.recs.now) = omega (arith, n.count-n.ensures, i.loop-b-test.true) in
+    let t = kind-access (at (decode s.args.filled.layout.recs.now) l.loop-b.b) (omega (arith, i.base_kind_at-kind.ensures, i.if-kind-lt5.false)) in
     let r = w.take_access-firsts.ensures.ranges in
-    record { second = (second_at s.requires.0 h t l.loop-b.invariant.2, r.range); room_if = way-room r (listing-room l.loop-b.invariant.0 s.requires.0.acceptable.few h s.requires.1) }
-
-pub overflow_add-b-in-loop-b : goal.overflow_add-b-in-loop-b
-overflow_add-b-in-loop-b c =
-    let i = c in
-    let n = i in
-    let s = n in
-    omega (arith, i.loop-b-test.true, n.count-n.ensures, s.requires.0.acceptable.few)
-
-pub loop-b-smaller : goal.loop-b-smaller
-loop-b-smaller c = let t = c in omega (arith, t.loop-b-test.true)
+    record { second = (second_at s.args.filled.filled h t l.loop-b.invariant.2, r.range); room_if = way-room r (listing-room l.loop-b.invariant.0 s.args.filled.filled.acceptable.few h s.requires) }
 
 pub loop-b-preserved : goal.loop-b-preserved
-loop-b-preserved c =
+loop-b-preserved g c =
     let w = c in
     let i = w in
     let l = i in
     let n = l in
     let s = n in
-    (listing-next l.loop-b.invariant.0 (omega (arith, n.count-n.ensures, i.loop-b-test.true)) _ _ (way-writes w.take_access-firsts.ensures.ranges c.list_firsts-k.ensures), w.take_access-firsts.ensures.tables_2, l.loop-b.invariant.2 ∙ sym (access-begun (decode s.args.recs.now) l.loop-b.b (omega (arith, i.base_kind_at-kind.ensures, i.if-kind-lt5.false))))
+    (listing-next l.loop-b.invariant.0 (omega (arith, n.count-n.ensures, i.loop-b-test.true)) _ _ (way-writes w.take_access-firsts.ensures.ranges c.list_firsts-k.ensures), w.take_access-firsts.ensures.tables_2, l.loop-b.invariant.2 ∙ sym (access-begun (decode s.args.filled.layout.recs.now) l.loop-b.b (omega (arith, i.base_kind_at-kind.ensures, i.if-kind-lt5.false))))
 
 pub shape_of-list : goal.shape_of-list
-shape_of-list c = listing-size c.loop-b.invariant.0
+shape_of-list g c = listing-size c.loop-b.invariant.0
 
 pub returns : goal.returns
-returns c = let n = c in listing-end c.loop-b.invariant.0 (omega (arith, n.count-n.ensures, c.loop-b-test.false))
+returns g c = let n = c in listing-end c.loop-b.invariant.0 (omega (arith, n.count-n.ensures, c.loop-b-test.false))

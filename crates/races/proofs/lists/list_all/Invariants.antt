@@ -1,13 +1,11 @@
 use Rattle.order.proofs.Counted.{counted}
+use lib.Dec.{eqb}
+use mathlib.Core.Bool.{not}
 use Rattle.races.proofs.EntryStores.{Listing}
 use Rattle.races.specs.loops.Candidates.{Tables}
 use Rattle.records.specs.Bytes.{decode}
-use Prim.Native.Nat.{◌-◌}
 use mathlib.Core.Path.{◌≡◌}
 use Rattle.races.proofs.lists.list_all.Given as goal
 
 abbrev pub invariant-loop-b : goal.invariant-loop-b
-invariant-loop-b l = Listing l.writing (decode l.recs) l.short l.initial.list l.list l.k l.b × Tables (decode l.recs) l.short l.b l.seen l.writes × (l.begun ≡ counted (decode l.recs) l.b)
-
-abbrev pub decreases-loop-b : goal.decreases-loop-b
-decreases-loop-b l = l.n - l.b
+invariant-loop-b g l = Listing (not (eqb g.row.WRITING 0)) (decode l.filled.layout.recs.now) l.short l.initial.list l.list l.k l.b × Tables (decode l.filled.layout.recs.now) l.short l.b l.cells.seen l.cells.writes × (l.begun ≡ counted (decode l.filled.layout.recs.now) l.b)

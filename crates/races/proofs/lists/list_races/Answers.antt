@@ -1,37 +1,46 @@
 use Rattle.races.proofs.ListEnds.{for-list, not_listed, listable}
 use Rattle.races.proofs.FilledLaws.{chosen-length, ranks-length}
 use Rattle.order.specs.Paper.{fill_paper}
-use Rattle.order.proofs.Upward.{upward}
+use Rattle.std.proofs.lemmas.Result.{err_from_is_err_and}
 use mathlib.Core.Path.{sym, ap}
 use Rattle.races.proofs.lists.list_races.Goals as goal
-use mathlib.Core.Path.{refl}
 
-pub returns-in_default : goal.returns-in_default
-returns-in_default c =
-    let k = c in
-    let p = k in
-    let s = p in
-    not_listed s.args.bytes.now s.args.short s.args.width s.args.clocks.now _ s.args.work.now _ _ s.args.list.now _ _ (for-list _ p.prepare-prepared.ensures) k.clear.ensures _ _ (upward p.prepare-prepared.result.answer (rw c.in_default.is refl)) _ (simp c.refusal_of.ensures)
+pub returns-in_err-chains : goal.returns-in_err-chains
+returns-in_err-chains c =
+    let s = c.args in
+    let p = err_from_is_err_and c.from_residual.result c.from_residual.ensures.1 in
+    not_listed s.bytes.now s.short s.width s.clocks.now _ s.work.now _ _ s.list.now _ _ (for-list _ c.prepare-prepared.ensures) c.clear.ensures
+    _ _ (ap fill_paper c.in_err-chains.was) _ (rw (p.1, p.2))
 
-pub slice_bounds-list_filled-end : goal.slice_bounds-list_filled-end
-slice_bounds-list_filled-end c =
+pub slice_bounds-layout-end : goal.slice_bounds-layout-end
+slice_bounds-layout-end c =
     let r = c in
     let a = r in
     let k = a in
     let p = k in
     let s = p in
-    let l = listable s.args.bytes.now s.args.short s.args.width s.args.clocks.now _ s.args.work.now _ _ s.args.list.now _ _ (for-list _ p.prepare-prepared.ensures) k.clear.ensures _ (ap fill_paper a.in-Filled.is) _ r.records-recs.ensures in
+    let l = listable s.args.bytes.now s.args.short s.args.width s.args.clocks.now _ s.args.work.now _ _ s.args.list.now _ _ (for-list _ p.prepare-prepared.ensures) k.clear.ensures _ (ap fill_paper a.in_ok-chains.was) _ r.records-recs.ensures in
+    sym (ranks-length l.filled)
+
+pub slice_bounds-layout-end-2 : goal.slice_bounds-layout-end-2
+slice_bounds-layout-end-2 c =
+    let r = c in
+    let a = r in
+    let k = a in
+    let p = k in
+    let s = p in
+    let l = listable s.args.bytes.now s.args.short s.args.width s.args.clocks.now _ s.args.work.now _ _ s.args.list.now _ _ (for-list _ p.prepare-prepared.ensures) k.clear.ensures _ (ap fill_paper a.in_ok-chains.was) _ r.records-recs.ensures in
     sym (chosen-length l.filled)
 
-pub slice_bounds-list_filled-end-2 : goal.slice_bounds-list_filled-end-2
-slice_bounds-list_filled-end-2 c =
+pub invariant_of-layout : goal.invariant_of-layout
+invariant_of-layout c =
     let r = c in
     let a = r in
     let k = a in
     let p = k in
     let s = p in
-    let l = listable s.args.bytes.now s.args.short s.args.width s.args.clocks.now _ s.args.work.now _ _ s.args.list.now _ _ (for-list _ p.prepare-prepared.ensures) k.clear.ensures _ (ap fill_paper a.in-Filled.is) _ r.records-recs.ensures in
-    sym (ranks-length l.filled)
+    let l = listable s.args.bytes.now s.args.short s.args.width s.args.clocks.now _ s.args.work.now _ _ s.args.list.now _ _ (for-list _ p.prepare-prepared.ensures) k.clear.ensures _ (ap fill_paper a.in_ok-chains.was) _ r.records-recs.ensures in
+    record { events_are = l.events_are; sends_are = l.sends_are }
 
 pub list_filled-requires : goal.list_filled-requires
 list_filled-requires c =
@@ -40,8 +49,8 @@ list_filled-requires c =
     let k = a in
     let p = k in
     let s = p in
-    let l = listable s.args.bytes.now s.args.short s.args.width s.args.clocks.now _ s.args.work.now _ _ s.args.list.now _ _ (for-list _ p.prepare-prepared.ensures) k.clear.ensures _ (ap fill_paper a.in-Filled.is) _ r.records-recs.ensures in
-    (l.filled, l.events_are, l.chains-used, l.sends_are)
+    let l = listable s.args.bytes.now s.args.short s.args.width s.args.clocks.now _ s.args.work.now _ _ s.args.list.now _ _ (for-list _ p.prepare-prepared.ensures) k.clear.ensures _ (ap fill_paper a.in_ok-chains.was) _ r.records-recs.ensures in
+    (l.filled, l.chains-used)
 
 pub returns : goal.returns
 returns c =
@@ -51,5 +60,5 @@ returns c =
     let k = a in
     let p = k in
     let s = p in
-    let l = listable s.args.bytes.now s.args.short s.args.width s.args.clocks.now _ s.args.work.now _ _ s.args.list.now _ _ (for-list _ p.prepare-prepared.ensures) k.clear.ensures _ (ap fill_paper a.in-Filled.is) _ r.records-recs.ensures in
+    let l = listable s.args.bytes.now s.args.short s.args.width s.args.clocks.now _ s.args.work.now _ _ s.args.list.now _ _ (for-list _ p.prepare-prepared.ensures) k.clear.ensures _ (ap fill_paper a.in_ok-chains.was) _ r.records-recs.ensures in
     l.done _ _ _ f.list_filled.ensures

@@ -8,8 +8,8 @@ returns-then-kind_at-ne6 c = simp (← c.kind_at.ensures, ne_eqb _ _ c.if-kind_a
 
 pub returns-then-kind_at-eq6 : goal.returns-then-kind_at-eq6
 unfolding shape_of
-returns-then-kind_at-eq6 c = simp (← c.kind_at.ensures, eq-eqb _ _ c.if-kind_at-ne6.false, ← c.kind_at-2.ensures, eq-eqb _ _ c.if-kind_at-eq6.true)
+returns-then-kind_at-eq6 c = simp (← c.kind_at.ensures, eq-eqb _ _ c.if-kind_at-ne6.false, ← c.kind_at-else-kind_at-ne6.ensures, eq-eqb _ _ c.if-kind_at-eq6.true)
 
-pub returns : goal.returns
+pub returns-else-kind_at-eq6 : goal.returns-else-kind_at-eq6
 unfolding shape_of
-returns c = simp (← c.kind_at.ensures, eq-eqb _ _ c.if-kind_at-ne6.false, ← c.kind_at-2.ensures, ne_eqb _ _ c.if-kind_at-eq6.false)
+returns-else-kind_at-eq6 c = simp (← c.kind_at.ensures, eq-eqb _ _ c.if-kind_at-ne6.false, ← c.kind_at-else-kind_at-ne6.ensures, ne_eqb _ _ c.if-kind_at-eq6.false)

@@ -1,4 +1,5 @@
 use native.Mathlib.Omega.{arith}
+use mathlib.Core.Path.{◌≡◌}
 use Rattle.races.proofs.LeadLaws.{may-keep}
 use Rattle.races.proofs.GoLaws.{by-clocks, may-before, going_start, going_next, going_end}
 use Rattle.races.proofs.raising.lead_on.Goals as goal
@@ -7,9 +8,6 @@ pub loop-t-init : goal.loop-t-init
 loop-t-init c =
     let pre = c.requires in
     (pre.1, going_start _ _ _ pre.0)
-
-pub overflow_add-t : goal.overflow_add-t
-overflow_add-t c = let inv = c.loop-t.invariant in record { fits = omega (arith, inv.0.low, c.loop-t-test.true) }
 
 pub lead_in-requires : goal.lead_in-requires
 lead_in-requires c =
@@ -25,4 +23,6 @@ loop-t-preserved c =
     (inv.0, going_next _ _ _ inv.1 test.loop-t-test.true _ _ _ on led.auto.clocks)
 
 pub returns : goal.returns
-returns c = going_end _ _ _ c.loop-t.invariant.1 c.loop-t-test.false
+returns c =
+    let z : c.loop-t.t ≡ c.args.u = omega (arith, c.loop-t.invariant.1.to, c.loop-t-test.false) in
+    rw z at (going_end _ _ _ c.loop-t.invariant.1 c.loop-t-test.false)

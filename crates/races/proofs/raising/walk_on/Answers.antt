@@ -1,4 +1,5 @@
 use native.Mathlib.Omega.{arith}
+use mathlib.Core.Path.{◌≡◌}
 use Rattle.records.proofs.Decoded.{decoded-length}
 use Rattle.races.proofs.GoLaws.{walk_inside, by-records, going_start, going_next, going_end}
 use Rattle.races.proofs.raising.walk_on.Goals as goal
@@ -13,7 +14,7 @@ overflow_add-i c =
     let s2 = c in
     let inv = s2.loop-t.invariant in
     let start = s2 in
-    record { fits = omega (arith, inv.2, inv.1.to, inv.0.rows.low, decoded-length start.args.recs.now) }
+    record { fits = omega (arith, inv.2, inv.1.to, inv.0.rows.low, decoded-length start.args.layout.recs.now) }
 
 pub more_chains-chains-requires : goal.more_chains-chains-requires
 more_chains-chains-requires c =
@@ -30,4 +31,7 @@ loop-t-preserved c =
     (inv.0, going_next _ _ _ inv.1 s5.loop-t-test.true _ _ _ (by-records _ _ _ _ _ _ _ c.more_chains-chains.ensures _ _ _ _ walked.ensures) walked.auto.clocks, omega (arith, bound, inv.1.from))
 
 pub returns : goal.returns
-returns c = let loop = c.loop-t in let loop-test = c.loop-t-test in going_end _ _ _ loop.invariant.1 loop-test.false
+returns c =
+    let loop = c.loop-t in
+    let z : loop.t ≡ c.args.u = omega (arith, loop.invariant.1.to, c.loop-t-test.false) in
+    rw z at (going_end _ _ _ loop.invariant.1 c.loop-t-test.false)

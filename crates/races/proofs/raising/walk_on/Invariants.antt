@@ -7,8 +7,5 @@ use Rattle.races.proofs.raising.walk_on.Given as goal
 
 abbrev pub invariant-loop-t : goal.invariant-loop-t
 invariant-loop-t l =
-    MayGo (decode l.recs) l.chosen l.width l.initial.clocks l.initial.t l.initial.i l.u × Going (by_records l.chosen l.width (decode l.recs) l.ranks) (place_at l.initial.t l.initial.i l.initial.chains l.initial.clocks) l.u l.t l.i l.chains l.clocks
-    × (l.i ≤ length (decode l.recs) + (l.t - l.initial.t))
-
-abbrev pub decreases-loop-t : goal.decreases-loop-t
-decreases-loop-t l = l.u - l.t
+    MayGo (decode l.layout.recs.now) l.layout.chosen.now l.layout.width l.initial.clocks l.fn.s.row l.fn.s.position l.u × Going (by_records l.layout.chosen.now l.layout.width (decode l.layout.recs.now) l.layout.ranks.now) (place_at l.fn.s.row l.fn.s.position l.fn.s.chains l.initial.clocks) l.u l.t l.i l.chains l.clocks
+    × (l.i ≤ length (decode l.layout.recs.now) + (l.t - l.fn.s.row))

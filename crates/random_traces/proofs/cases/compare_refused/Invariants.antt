@@ -1,8 +1,5 @@
-use Rattle.std.proofs.Common.{◌-◌, ◌≤◌}
+use Rattle.std.proofs.Common.{◌≤◌}
 use Rattle.random_traces.proofs.cases.compare_refused.Given as goal
 
 abbrev pub invariant-loop-call : goal.invariant-loop-call
 invariant-loop-call l = l.initial.call ≤ l.call
-
-abbrev pub decreases-loop-call : goal.decreases-loop-call
-decreases-loop-call l = 4 - l.call

@@ -3,6 +3,3 @@ use Rattle.random_traces.proofs.slim.has_open_race.Given as goal
 
 abbrev pub invariant-loop-r : goal.invariant-loop-r
 invariant-loop-r l = l.r ≤ l.initial.r
-
-abbrev pub decreases-loop-r : goal.decreases-loop-r
-decreases-loop-r l = l.r

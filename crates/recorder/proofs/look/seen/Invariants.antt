@@ -7,6 +7,3 @@ use Rattle.recorder.proofs.look.seen.Given as goal
 
 abbrev pub invariant-loop-i : goal.invariant-loop-i
 invariant-loop-i l = has (of_kind l.kind) l.e.0 (past (decode l.recs) (length (decode l.recs))) ≡ has (of_kind l.kind) l.e.0 (past (decode l.recs) l.i)
-
-abbrev pub decreases-loop-i : goal.decreases-loop-i
-decreases-loop-i l = l.i

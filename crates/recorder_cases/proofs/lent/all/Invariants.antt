@@ -1,8 +1,5 @@
-use Rattle.std.proofs.Common.{◌-◌, ◌≡◌, length}
+use Rattle.std.proofs.Common.{◌≡◌, length}
 use Rattle.recorder_cases.proofs.lent.all.Given as goal
 
 abbrev pub invariant-loop-space : goal.invariant-loop-space
 invariant-loop-space l = length l.bytes ≡ length l.fn.bytes
-
-abbrev pub decreases-loop-space : goal.decreases-loop-space
-decreases-loop-space l = 70 - l.space

@@ -5,7 +5,7 @@ use mathlib.Core.Path.{◌≡◌, refl, ◌∙◌}
 use native.Mathlib.Omega.{arith}
 use borrow.Author.Tests.{ne_eqb}
 use borrow.Author.Rules.{rules}
-use Rattle.records.proofs.access.count_begins.Goals.{then-k-eq1, else-k-eq1}
+use Rattle.records.proofs.access.count_begins.Goals.{then-kind_at-eq1, else-kind_at-eq1}
 use Rattle.records.proofs.access.count_begins.Goals as goal
 
 pub loop-i-init : goal.loop-i-init
@@ -18,11 +18,11 @@ loop-i-preserved c =
     let start = c in
     let a = start.args in
     let l = c.loop-i in
-    let k = c.kind_at-k in
+    let k = c.kind_at in
     let more = past_more (decode a.recs.now) l.i in
-    elim c.if-k-eq1.branch [
-      | then-k-eq1 w ↦ (w.found-is ∙ simp (more, ← k.ensures, w.if-k-eq1.true, l.invariant.0), omega arith, omega arith)
-      | else-k-eq1 w ↦ (w.found-is ∙ simp (more, ← k.ensures, ne_eqb _ _ w.if-k-eq1.false, l.invariant.0), omega arith, omega arith)
+    elim c.if-kind_at-eq1.branch [
+      | then-kind_at-eq1 w ↦ (w.found-is ∙ simp (more, ← k.ensures, w.if-kind_at-eq1.true, l.invariant.0), omega arith, omega arith)
+      | else-kind_at-eq1 w ↦ (w.found-is ∙ simp (more, ← k.ensures, ne_eqb _ _ w.if-kind_at-eq1.false, l.invariant.0), omega arith, omega arith)
     ]
 
 pub returns : goal.returns

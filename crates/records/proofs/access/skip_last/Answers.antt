@@ -1,5 +1,5 @@
 use Rattle.records.proofs.Leading.{leading-hit, leading-miss, leading-over}
-use mathlib.Core.Path.{refl, sym, ◌∙◌}
+use mathlib.Core.Path.{◌≡◌, refl, sym, ◌∙◌}
 use native.Mathlib.Omega.{arith}
 use Rattle.records.proofs.access.skip_last.Goals as goal
 
@@ -13,4 +13,6 @@ pub loop-at-preserved : goal.loop-at-preserved
 loop-at-preserved c = (omega arith, sym (leading-miss _ _ _ (omega arith) (rw c.kind_at.ensures at c.if-kind_at-lt5.false)) ∙ c.loop-at.invariant.1)
 
 pub returns : goal.returns
-returns c = sym (leading-over _ _ _ (omega arith)) ∙ c.loop-at.invariant.1
+returns c =
+    let e : c.loop-at.at ≡ c.args.n = omega arith in
+    rw e at (sym (leading-over _ _ _ (omega arith)) ∙ c.loop-at.invariant.1)

@@ -6,6 +6,3 @@ use Rattle.records.proofs.access.skip_last.Given as goal
 
 abbrev pub invariant-loop-at : goal.invariant-loop-at
 invariant-loop-at l = (l.at ≤ l.n) × (l.at + leading (decode l.recs) (l.n - l.at) l.at ≡ l.i + leading (decode l.recs) (l.n - l.i) l.i)
-
-abbrev pub decreases-loop-at : goal.decreases-loop-at
-decreases-loop-at l = l.n - l.at

@@ -12,12 +12,6 @@ returns-then-bytes-lt-RECORD_BYTES c =
     let a = c.args in
     stored-none a.bytes.now a.at (encode (a.rec ∷ [])) (omega arith)
 
-pub returns-then-bytes-at : goal.returns-then-bytes-at
-unfolding encode
-returns-then-bytes-at c =
-    let a = c.args in
-    stored-none a.bytes.now a.at (encode (a.rec ∷ [])) (omega arith)
-
 pub put_two-requires : goal.put_two-requires
 put_two-requires c = simp length-set (omega arith)
 

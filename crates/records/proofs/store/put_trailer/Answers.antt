@@ -11,12 +11,6 @@ returns-then-bytes-lt-TRAILER_BYTES c =
     let a = c.args in
     stored-none a.bytes.now a.at (trailer a.distance a.begins) (omega arith)
 
-pub returns-then-bytes-at : goal.returns-then-bytes-at
-unfolding trailer
-returns-then-bytes-at c =
-    let a = c.args in
-    stored-none a.bytes.now a.at (trailer a.distance a.begins) (omega arith)
-
 pub bounds-bytes-at-2 : goal.bounds-bytes-at-2
 bounds-bytes-at-2 c = simp length-set (omega arith)
 

@@ -1,8 +1,5 @@
-use Rattle.std.proofs.Common.{◌+◌, ◌-◌, ◌≡◌, ◌≤◌, length}
+use Rattle.std.proofs.Common.{◌+◌, ◌≡◌, ◌≤◌, length}
 use Rattle.report_cases.proofs.draft.put_unordered.Given as goal
 
 abbrev pub invariant-loop-e : goal.invariant-loop-e
 invariant-loop-e l = (length l.bytes ≡ length l.initial.bytes) × (l.e ≤ 34 + l.from)
-
-abbrev pub decreases-loop-e : goal.decreases-loop-e
-decreases-loop-e l = 34 - l.e

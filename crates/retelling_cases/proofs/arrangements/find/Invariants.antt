@@ -3,6 +3,3 @@ use Rattle.retelling_cases.proofs.arrangements.find.Given as goal
 
 abbrev pub invariant-loop-x : goal.invariant-loop-x
 invariant-loop-x l = length l.table ≡ length l.initial.table
-
-abbrev pub decreases-loop-x : goal.decreases-loop-x
-decreases-loop-x l = l.n - l.x

@@ -1,8 +1,5 @@
-use Rattle.std.proofs.Common.{◌≡◌, ◌-◌, length}
+use Rattle.std.proofs.Common.{◌≡◌, length}
 use Rattle.retelling_cases.proofs.paths.find_before.Given as goal
 
 abbrev pub invariant-loop-x : goal.invariant-loop-x
 invariant-loop-x l = length l.table ≡ length l.initial.table
-
-abbrev pub decreases-loop-x : goal.decreases-loop-x
-decreases-loop-x l = 4096 - l.x

@@ -3,6 +3,3 @@ use Rattle.retelling_cases.proofs.slots.size.Given as goal
 
 abbrev pub invariant-loop-t : goal.invariant-loop-t
 invariant-loop-t l = l.t ≤ 62
-
-abbrev pub decreases-loop-t : goal.decreases-loop-t
-decreases-loop-t l = 62 - l.t

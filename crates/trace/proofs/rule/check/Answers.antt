@@ -1,15 +1,10 @@
+use mathlib.Core.Path.{refl}
 use Rattle.trace.proofs.Faults.{at-fault, no-fault}
+use Rattle.trace.proofs.Reasons.{numbered}
 use Rattle.trace.proofs.rule.check.Goals as goal
 
-pub fault-number-requires : goal.fault-number-requires
-fault-number-requires c = c.next-next.ensures
+pub returns-in-Ok : goal.returns-in-Ok
+returns-in-Ok c = no-fault c.args.op.0 (c.in-Ok.ensures) refl c.next-next.ensures
 
-pub returns-then-number-ne0 : goal.returns-then-number-ne0
-returns-then-number-ne0 c =
-    let start = c in
-    at-fault c.fault-number.result start.args.op.0 _ c.fault-number.ensures c.if-number-ne0.true
-
-pub returns : goal.returns
-returns c =
-    let start = c in
-    no-fault start.args.op.0 c.fault-number.ensures c.if-number-ne0.false c.next-next.ensures
+pub returns-in-Err : goal.returns-in-Err
+returns-in-Err c = rw c.at.ensures (at-fault _ c.args.op.0 _ (c.in-Err.ensures) (numbered _))

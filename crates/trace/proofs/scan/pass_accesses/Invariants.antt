@@ -1,10 +1,7 @@
-use Prim.Native.Nat.{◌-◌}
+use Prim.Native.Nat.{◌≤◌, max}
 use Rattle.records.specs.Bytes.{decode}
 use Rattle.trace.specs.loops.Inner.{Accesses}
 use Rattle.trace.proofs.scan.pass_accesses.Given as goal
 
 abbrev pub invariant-loop-i : goal.invariant-loop-i
-invariant-loop-i l = Accesses (decode l.recs) l.now_in l.owner l.from l.i
-
-abbrev pub decreases-loop-i : goal.decreases-loop-i
-decreases-loop-i l = l.n - l.i
+invariant-loop-i l = Accesses (decode l.recs) l.now_in l.owner l.from l.i × (l.i ≤ max l.n l.from)

@@ -1,8 +1,5 @@
-use Rattle.std.proofs.Common.{◌-◌, ◌≡◌, ◌≤◌, length}
+use Rattle.std.proofs.Common.{◌≡◌, ◌≤◌, length}
 use Rattle.trace_cases.proofs.bounds.put_events.Given as goal
 
 abbrev pub invariant-loop-e : goal.invariant-loop-e
 invariant-loop-e l = (length l.bytes ≡ length l.fn.bytes) × (l.e ≤ 1025)
-
-abbrev pub decreases-loop-e : goal.decreases-loop-e
-decreases-loop-e l = 1025 - l.e

@@ -1,7 +1,0 @@
-use mathlib.Core.Path.{refl}
-use Rattle.slices.specs.Slices.{zeros}
-use Rattle.links.proofs.no_links.Goals as goal
-
-pub returns : goal.returns
-unfolding zeros
-returns c = refl

@@ -1,7 +1,0 @@
-use Rattle.clocks.specs.Rows.{compare_in}
-use borrow.Author.Rules.{rules}
-use Rattle.races.proofs.raising.comes_before.Goals as goal
-
-pub returns : goal.returns
-unfolding compare_in
-returns c = search rules

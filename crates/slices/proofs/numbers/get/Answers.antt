@@ -1,8 +1,0 @@
-use mathlib.Core.Path.{sym}
-use lib.ListN.{get_or-eq_default}
-use Rattle.slices.proofs.numbers.get.Goals as goal
-
-pub returns : goal.returns
-returns c =
-    let a = c.args in
-    sym (get_or-eq_default a.numbers.now 0 {n = a.at} c.if-at-numbers.false)

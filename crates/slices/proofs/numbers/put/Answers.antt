@@ -1,8 +1,0 @@
-use mathlib.Core.Path.{sym}
-use lib.Seq.{set_out}
-use Rattle.slices.proofs.numbers.put.Goals as goal
-
-pub returns-else-at-numbers : goal.returns-else-at-numbers
-returns-else-at-numbers c =
-    let a = c.args in
-    sym (set_out a.numbers.now a.at a.value c.if-at-numbers.false)
