@@ -22,7 +22,8 @@ fn pass_chains(
     asked: Asked,
     table: Option<&[u64]>,
 ) -> Passed
-    requires { ReadyChains (decode recs.now) asked.width ranks.now × (events ≡ events_in (decode recs.now)) × TellsOrder (decode recs.now) (option_copied table) }
+    requires { ReadyChains (decode recs.now) asked.width ranks.now × (events ≡ events_in (decode recs.now))
+        × TellsOrder (decode recs.now) (option_copied table) }
     ensures { PassesChains (decode recs.now) asked.first asked.second asked.width result.position result.first result.second }
 {
     match table {
