@@ -53,11 +53,11 @@ module _ (l : Links) (x y w : ℕ) where
     pub first-is : s.first ≡ get_or (chains_of l u) x 0
     pub second_is : s.second ≡ get_or (chains_of l u) y 0
 
-  pub holding-start : Holding 0 no_members
+  pub holding-start : (ls : List ℕ) → length ls ≡ 1024 → Holding 0 (record { lasts = ls; chains = 0; first = 0; second = 0 })
   unfolding filled table
-  holding-start = record {
+  holding-start ls h = record {
     lasts_are = λ c k. absurd (omega (arith, used-zero le));
-    lasts_size = zeros-length 1024;
+    lasts_size = h;
     chains_are = sym (used-zero le);
     chains_fit = omega arith;
     first-is = sym (zeros-at 1024 x);
