@@ -10,7 +10,7 @@ use lib.Dec.{eqb}
 use lib.ListN.{length, get_or, set, replicate, length-set, length-append, length-replicate}
 use lib.Seq.{get_or-set_same, get_or-set_other}
 use Rattle.slices.specs.Slices.{filled}
-use Rattle.slices.proofs.Cleared.{zeros-at, zeros-length}
+use Rattle.slices.proofs.Cleared.{zeros-at}
 use Rattle.order.specs.Links.{Links, leq}
 use Rattle.order.specs.Chains.{lasts, chain, used}
 use Rattle.order.specs.Clocks.{table, chain_of}
@@ -18,7 +18,7 @@ use Rattle.order.proofs.ChainLaws.{chain-le-used, used-zero, used-suc, last-own,
 use Rattle.order.proofs.RowLaws.{table-length}
 use Rattle.order.proofs.FillTable.{chains_of, chains-more}
 use Rattle.question.specs.declared.chains.Members.{Members}
-use Rattle.question.specs.loops.ChainPass.{own_chain, enter_chain, no_members}
+use Rattle.question.specs.loops.ChainPass.{own_chain, enter_chain}
 
 pub enter-room : (x y w u : ℕ) (s : Members) (c : ℕ) → c < w
     → enter_chain x y w u s c
