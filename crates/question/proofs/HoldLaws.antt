@@ -10,7 +10,7 @@ use lib.Dec.{eqb}
 use lib.ListN.{length, get_or, set, replicate, length-set, length-append, length-replicate}
 use lib.Seq.{get_or-set_same, get_or-set_other}
 use Rattle.slices.specs.Slices.{filled}
-use Rattle.slices.proofs.Cleared.{zeros-at, zeros-length}
+use Rattle.slices.proofs.Cleared.{zeros-at}
 use Rattle.order.specs.Links.{Links, leq}
 use Rattle.order.specs.Chains.{lasts, chain, used}
 use Rattle.order.specs.Clocks.{table, chain_of}
@@ -18,7 +18,7 @@ use Rattle.order.proofs.ChainLaws.{chain-le-used, used-zero, used-suc, last-own,
 use Rattle.order.proofs.RowLaws.{table-length}
 use Rattle.order.proofs.FillTable.{chains_of, chains-more}
 use Rattle.question.specs.declared.chains.Members.{Members}
-use Rattle.question.specs.loops.ChainPass.{own_chain, enter_chain, no_members}
+use Rattle.question.specs.loops.ChainPass.{own_chain, enter_chain}
 
 pub enter-room : (x y w u : ℕ) (s : Members) (c : ℕ) → c < w
     → enter_chain x y w u s c
@@ -53,11 +53,11 @@ module _ (l : Links) (x y w : ℕ) where
     pub first-is : s.first ≡ get_or (chains_of l u) x 0
     pub second_is : s.second ≡ get_or (chains_of l u) y 0
 
-  pub holding-start : Holding 0 no_members
+  pub holding-start : (ls : List ℕ) → length ls ≡ 1024 → Holding 0 (record { lasts = ls; chains = 0; first = 0; second = 0 })
   unfolding filled table
-  holding-start = record {
+  holding-start ls h = record {
     lasts_are = λ c k. absurd (omega (arith, used-zero le));
-    lasts_size = zeros-length 1024;
+    lasts_size = h;
     chains_are = sym (used-zero le);
     chains_fit = omega arith;
     first-is = sym (zeros-at 1024 x);

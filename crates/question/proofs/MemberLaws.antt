@@ -24,7 +24,7 @@ use Rattle.ranks.specs.Ranks.{ranks_of}
 use Rattle.order.specs.Fill.{events_in, row_past_width, chain_table}
 use Rattle.order.specs.loops.PassEnds.{Short}
 use Rattle.question.specs.declared.chains.Members.{Members}
-use Rattle.question.specs.loops.ChainPass.{marked_chain, enter_chain, no_members, said_by, turn_members, RoomFor, ReadyChains, PassesChains}
+use Rattle.question.specs.loops.ChainPass.{marked_chain, enter_chain, said_by, turn_members, RoomFor, ReadyChains, PassesChains}
 use Rattle.order.proofs.CountLaws.{first_from-local}
 use Rattle.order.proofs.ChainLaws.{chain-search, needs-at, needs-none}
 use Rattle.order.proofs.ScheduleLaws.{begins-zero, begins-suc}
@@ -64,8 +64,8 @@ module _ {tr : List Record} (a : Acceptable tr) (x y w : ℕ) (narrow : w ≤ 10
   abbrev pub Keeping : ℕ → Members → Type 0
   Keeping i s = Holding (trace_links tr) x y w (begins op i) s
 
-  pub keeping_start : Keeping 0 no_members
-  keeping_start = rw (begins-zero op) (holding-start (trace_links tr) x y w)
+  pub keeping_start : (ls : List ℕ) → length ls ≡ 1024 → Keeping 0 (record { lasts = ls; chains = 0; first = 0; second = 0 })
+  keeping_start ls h = rw (begins-zero op) (holding-start (trace_links tr) x y w ls h)
 
   module _ (i : ℕ) (s : Members) (h : i < n) (k : Keeping i s) where
     -- the chain found is the chain
@@ -167,14 +167,15 @@ module _ (tr : List Record) (x y w : ℕ) (ranks : List ℕ) where
     pub ranks_are : ranks ≡ ranks_of tr
     pub keeping : Keeping acceptable x y w narrow i s
 
-  pub going_start : ReadyChains tr w ranks → has_send tr ≡ false → Going no_members 0
-  going_start r ns = record {
+  pub going_start : (ls : List ℕ) → length ls ≡ 1024 → ReadyChains tr w ranks → has_send tr ≡ false
+      → Going (record { lasts = ls; chains = 0; first = 0; second = 0 }) 0
+  going_start ls h r ns = record {
     within = omega arith;
     acceptable = r.acceptable;
     no_sends = ns;
     narrow = r.narrow;
     ranks_are = r.ranks_are;
-    keeping = keeping_start r.acceptable x y w r.narrow;
+    keeping = keeping_start r.acceptable x y w r.narrow ls h;
   }
 
   module _ {s : Members} {i : ℕ} (g : Going s i) where

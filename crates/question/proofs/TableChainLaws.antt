@@ -6,7 +6,7 @@ use mathlib.Core.List.{List}
 use mathlib.Core.Logic.{◌⊎◌, inl, inr}
 use native.Mathlib.Omega.{arith}
 use native.Mathlib.Numerals.{add-one}
-use lib.ListN.{get_or}
+use lib.ListN.{length, get_or}
 use Rattle.slices.proofs.Tests.{decide-lt}
 use Rattle.records.specs.declared.Record.{Record}
 use Rattle.order.specs.Links.{Links, leq}
@@ -19,7 +19,7 @@ use Rattle.order.proofs.ChainLaws.{chain-search, lasts-last, needs-at, needs-non
 use Rattle.order.proofs.TableLaws.{events-few}
 use Rattle.order.proofs.TablePass.{position-whole, position-short}
 use Rattle.question.specs.declared.chains.Members.{Members}
-use Rattle.question.specs.loops.ChainPass.{enter_chain, no_members, ReadyChains, PassesChains}
+use Rattle.question.specs.loops.ChainPass.{enter_chain, ReadyChains, PassesChains}
 use Rattle.question.specs.loops.TableChains.{bit_chain, ReadyRows, EntersRows}
 use Rattle.question.proofs.HoldLaws.{Holding, enter-room, enter-full, holding-start, holding-next}
 
@@ -45,12 +45,13 @@ module _ (before : ℕ → ℕ → Bool) (m x y w : ℕ) where
     pub within : u ≤ m
     pub holding : Holding l x y w u s
 
-  pub going_start : ReadyRows before m w → (l : Links) → Tells before m l → Going l no_members 0
-  going_start r l t = record { tells = t; narrow = r.narrow; few = r.few; within = omega arith; holding = holding-start l x y w }
+  pub going_start : ReadyRows before m w → (ls : List ℕ) → length ls ≡ 1024 → (l : Links) → Tells before m l
+      → Going l (record { lasts = ls; chains = 0; first = 0; second = 0 }) 0
+  going_start r ls h l t = record { tells = t; narrow = r.narrow; few = r.few; within = omega arith; holding = holding-start l x y w ls h }
 
   module _ (l : Links) (s : Members) (u : ℕ) (g : Going l s u) where
-    pub going-room : u < m → (u < 1024) × (s.chains ≤ 1024)
-    going-room h = (omega (arith, g.few), omega (arith, g.holding.chains_fit, g.narrow))
+    pub going-room : u < m → (u < 1024) × (s.chains ≤ 1024) × (length s.lasts ≡ 1024)
+    going-room h = (omega (arith, g.few), omega (arith, g.holding.chains_fit, g.narrow), g.holding.lasts_size)
 
     module _ (h : u < m) (s' : Members) (e : s' ≡ enter_chain x y w u s (bit_chain before s.lasts s.chains u)) where
       after : s' ≡ enter_chain x y w u s (chain (leq l) u)

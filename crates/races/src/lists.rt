@@ -1,5 +1,5 @@
 // Both lists: for each second access, the first accesses that race with it, counted, then written, then marked.
-ghost use Rattle.std.specs.Prelude.{◌≡◌, cond, ◌+◌, ◌*◌, ◌/◌, ◌≤◌, ◌<◌, T, eqb, length};
+ghost use Rattle.std.specs.Prelude.{◌≡◌, false, cond, ◌+◌, ◌*◌, ◌/◌, ◌≤◌, ◌<◌, T, eqb, length};
 ghost use Rattle.std.proofs.lemmas.List.Edits.{sets};
 ghost use Rattle.records.specs.Bytes.{decode};
 ghost use Rattle.records.specs.Records.{at};
@@ -76,6 +76,52 @@ fn list_race<const WRITING: bool>(
 }
 
 // The races on the way to b, of row u, from entry k on, written or only counted.
+fn list_range<const WRITING: bool>(
+    filled: Filled<'_>,
+    firsts: Firsts,
+    b: usize,
+    u: usize,
+    list: &mut [u16],
+    k: usize,
+) -> usize
+    requires second { Second (decode filled.layout.recs.now) filled.layout.ranks.now filled.layout.chosen.now filled.layout.width filled.clocks.now b u
+        × Range (decode filled.layout.recs.now) b firsts.from firsts.to }
+    requires room_if { RoomIf WRITING (decode filled.layout.recs.now) b firsts.from k list.old }
+    ensures { Writes WRITING (decode filled.entry.layout.recs.now) b firsts.from k list.old list.new result }
+{
+    let own = filled.own_of(u);
+    let c = access::cell_at(filled.layout.recs, b);
+    let least = search::least_kind(access::kind_at(filled.layout.recs, b));
+    let mut e = k;
+    let mut a = search::next_access(filled.layout.recs, firsts.from, firsts.to, c, least);
+    // By `while`: from each access the search goes on to the next.
+    while a < firsts.to {
+        e = list_race::<WRITING>(filled, a, b, own, list, e);
+        a = search::next_access(filled.layout.recs, a + 1, firsts.to, c, least);
+    }
+    e
+}
+
+// The same, only counted. Not inlined: in the loop over all records the numbers of this one don't fit into registers, and counting a long list takes up to
+// 1.6 times as long; written, a list takes less without the call.
+#[inline(never)]
+fn count_range(
+    filled: Filled<'_>,
+    firsts: Firsts,
+    b: usize,
+    u: usize,
+    list: &mut [u16],
+    k: usize,
+) -> usize
+    requires second { Second (decode filled.layout.recs.now) filled.layout.ranks.now filled.layout.chosen.now filled.layout.width filled.clocks.now b u
+        × Range (decode filled.layout.recs.now) b firsts.from firsts.to }
+    requires room_if { RoomIf false (decode filled.layout.recs.now) b firsts.from k list.old }
+    ensures { Writes false (decode filled.entry.layout.recs.now) b firsts.from k list.old list.new result }
+{
+    list_range::<false>(filled, firsts, b, u, list, k)
+}
+
+// The same, where there may be none to look at.
 fn list_firsts<const WRITING: bool>(
     filled: Filled<'_>,
     firsts: Firsts,
@@ -92,17 +138,11 @@ fn list_firsts<const WRITING: bool>(
     if firsts.to <= firsts.from {
         return k;
     }
-    let own = filled.own_of(u);
-    let c = access::cell_at(filled.layout.recs, b);
-    let least = search::least_kind(access::kind_at(filled.layout.recs, b));
-    let mut e = k;
-    let mut a = search::next_access(filled.layout.recs, firsts.from, firsts.to, c, least);
-    // By `while`: from each access the search goes on to the next.
-    while a < firsts.to {
-        e = list_race::<WRITING>(filled, a, b, own, list, e);
-        a = search::next_access(filled.layout.recs, a + 1, firsts.to, c, least);
+    if WRITING {
+        list_range::<true>(filled, firsts, b, u, list, k)
+    } else {
+        count_range(filled, firsts, b, u, list, k)
     }
-    e
 }
 
 // How many event actions have begun after a record of that kind.

@@ -1,16 +1,35 @@
-// Bytes stored without the recorder.
+// Bytes stored without the recorder, and without the writer that it stores by: what it wrote is held against these.
 use records::Record;
-use trials::draft::{put_record, put_trailer};
+
+fn set(bytes: &mut [u8], at: usize, v: usize) {
+    if at < bytes.len() {
+        bytes[at] = (v % 256) as u8;
+    }
+}
 
 // The record that would have number n + 1.
 pub(crate) fn put(bytes: &mut [u8], n: u16, rec: Record) {
-    put_record(bytes, 5 * usize::from(n), rec.kind, rec.first, rec.second);
+    let at = 5 * usize::from(n);
+    let first = usize::from(rec.first);
+    let second = usize::from(rec.second);
+    set(bytes, at, usize::from(rec.kind));
+    set(bytes, at + 1, first);
+    set(bytes, at + 2, first / 256);
+    set(bytes, at + 3, second);
+    set(bytes, at + 4, second / 256);
 }
 
 // A trailer after n records.
 pub(crate) fn close(bytes: &mut [u8], n: u16) {
     let at = 5 * usize::from(n);
-    put_trailer(bytes, at, at, 0);
+    set(bytes, at, at);
+    set(bytes, at + 1, at / 256);
+    set(bytes, at + 2, at / 65536);
+    set(bytes, at + 3, 0);
+    set(bytes, at + 4, 0);
+    set(bytes, at + 5, 0);
+    set(bytes, at + 6, 1);
+    set(bytes, at + 7, 167);
 }
 
 // The first n bytes; all, where there are fewer.

@@ -1,4 +1,5 @@
 use Rattle.question.proofs.MemberLaws.{going_start, going-room, going_next, going-stop, going_end}
+use Rattle.slices.specs.Slices.{zeros}
 use Rattle.slices.proofs.Cleared.{zeros-length}
 use Rattle.records.specs.Bytes.{decode}
 use lib.ListN.{length}
@@ -8,7 +9,7 @@ use Prim.Native.Nat.{◌≤◌, ◌<◌}
 use Rattle.question.proofs.chains.chain_pass.Goals as goal
 
 pub loop-i-init : goal.loop-i-init
-loop-i-init c = (rw c.none-members.ensures (going_start _ _ _ _ _ c.requires.0 c.requires.1), ap length c.zeros-marks.ensures ∙ zeros-length 1024)
+loop-i-init c = (rw c.none-members.ensures (going_start _ _ _ _ _ (zeros 1024) (zeros-length 1024) c.requires.0 c.requires.1), ap length c.zeros-marks.ensures ∙ zeros-length 1024)
 
 pub slice_bounds-turn-end : goal.slice_bounds-turn-end
 slice_bounds-turn-end c = sym c.loop-i.invariant.1

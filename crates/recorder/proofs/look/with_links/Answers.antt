@@ -5,7 +5,7 @@ use lib.Dec.{eqb}
 use Rattle.std.proofs.lemmas.Result.{err_from_is_err_and}
 use Rattle.records.specs.Bytes.{decode}
 use Rattle.links.specs.Begin.{begin_blocked}
-use Rattle.trace.specs.Reply.{then}
+use Rattle.trace.specs.Reply.{gives, then}
 use Rattle.recorder.proofs.LinksLast.{free_stays, behind-refused}
 use Rattle.recorder.proofs.look.with_links.Goals as goal
 use Rattle.recorder.proofs.look.with_links.Goals.{else-rec-eq1-via-then-rec-eq1+else-begin_blocked, else-rec-eq1-via-else-rec-eq1}
@@ -31,4 +31,4 @@ returns c =
       | else-rec-eq1-via-then-rec-eq1+else-begin_blocked w ↦ simp (eq-eqb _ _ w.if-rec-eq1.true) (sym w.begin_blocked.ensures ∙ w.if-begin_blocked.false)
       | else-rec-eq1-via-else-rec-eq1 w ↦ simp (ne_eqb _ _ w.if-rec-eq1.false)
     ] in
-    rw c.in_ok-next.was (free_stays a.op.0 _ _ v)
+    rw c.in_ok-next.was (free_stays a.op.0 _ (gives _) v)
